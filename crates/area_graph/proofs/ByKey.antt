@@ -10,11 +10,10 @@ use Rattle.lsa_codec.specs.declared.key.Key.{Key}
 use Rattle.lsa_codec.specs.Accepted.{IsAccepted}
 use Rattle.lsa_codec.specs.Fields.{kind_of, link_state_id_of, advertising_router_of}
 use Rattle.lsa_codec.specs.Key.{key_of, router_key}
-use Rattle.lsdb.specs.declared.keyed_slots.KeyAt.{KeyAt}
 use Rattle.lsdb.specs.declared.slot.SlotId.{SlotId}
 use Rattle.std.specs.Iterator.{YieldsFirst}
 use Rattle.std.specs.Option.{is_some}
-use Rattle.lsdb.specs.KeyRanges.{AreKeysBetween}
+use Rattle.lsdb.specs.KeyRanges.{AreKeysBetween, KeyAt}
 use Rattle.lsdb.specs.Lists.{IsDatabase, IsSection, Lists}
 use Rattle.lsdb.specs.Slots.{Slot, Slots, SectionSlots, full, item_at, lists_of, lsas_in, lsas_or_none, slot_in, slots_in, slots_or_none, slot_at}
 use Rattle.lsdb.proofs.KeyLemmas.{between_fields}

@@ -83,7 +83,7 @@ pub fn lsa_of_vertex<A: Allocator + Copy>(
     }
     let slot = SlotId {
         section,
-        index: noted.index,
+        index: noted.index as usize,
     };
     live_at(database, slot, vertex)
 }

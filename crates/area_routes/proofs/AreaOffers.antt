@@ -29,8 +29,8 @@ use Rattle.next_hops.specs.FirstHops.{hops_at, hops_of}
 use Rattle.area_routes.specs.declared.stub_links.StubLink.{StubLink}
 use Rattle.area_routes.specs.AreaResults.{AreOf, area_result}
 use Rattle.area_routes.specs.Entries.{area_entries}
-use Rattle.area_routes.specs.Best.{ways_of}
-use Rattle.area_routes.specs.Candidate.{Candidate}
+use Rattle.best_ways.specs.Best.{ways_of}
+use Rattle.best_ways.specs.Candidate.{Candidate}
 use Rattle.area_routes.specs.Networks.{network_offers}
 use Rattle.area_routes.specs.Offers.{best_offers, offer_candidate, offer_of}
 use Rattle.area_routes.specs.Reached.{ReachedValue, reached_from}
@@ -38,9 +38,8 @@ use Rattle.area_routes.specs.StubLinks.{AreStubLinksOf, stub_link, stub_links_fr
 use Rattle.area_routes.specs.Stubs.{stub_offers}
 use Rattle.area_routes.specs.Values.{AreaResultValue, OfferValue}
 use Rattle.area_routes.specs.steps.StubCandidates.{offer_over, offers_over}
-use Rattle.area_routes.proofs.Bounds.{All-filter_map}
 use Rattle.area_routes.proofs.Reaching.{distances_by_lsa, hops_by_lsa}
-use Rattle.area_routes.proofs.Reordered.{same_tests}
+use Rattle.best_ways.proofs.WayLemmas.{All-filter_map, same_tests}
 use Rattle.area_routes.proofs.StubOffers.{offers_from}
 
 -- ---- each link is one of a vertex of the area

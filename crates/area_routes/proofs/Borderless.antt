@@ -4,10 +4,11 @@ use Rattle.std.specs.List.{cons_option, filter_map}
 use Rattle.std.specs.Option.{option_and_then, option_map}
 use Rattle.lsa_codec.specs.declared.address.RouterId.{RouterId}
 use Rattle.lsa_codec.specs.Order.{router_cmp}
-use Rattle.area_routes.specs.Best.{ways_of}
+use Rattle.best_ways.specs.Best.{ways_of}
 use Rattle.area_routes.specs.Inter.{asbr_candidate, asbr_entry, announced_asbr, border_of, by_border, candidate_to, inter_entries, inter_routes, network_candidate, announced_network, originator_of, usable_metric}
-use Rattle.area_routes.specs.Routes.{routes_of}
-use Rattle.area_routes.specs.Values.{AreaResultValue, RouteValue}
+use Rattle.best_ways.specs.Routes.{routes_of}
+use Rattle.area_routes.specs.Values.{AreaResultValue}
+use Rattle.best_ways.specs.Values.{RouteValue}
 use Rattle.area_routes.specs.steps.EntryIndex.{IsBorderless}
 
 then_none : {X Y : Type 0} (f : X → Option Y) → ((x : X) → f x ≡ None) → (o : Option X) → option_and_then f o ≡ None

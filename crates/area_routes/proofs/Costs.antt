@@ -11,13 +11,14 @@ use Rattle.lsa_codec.specs.Prefix.{Net}
 use Rattle.lsa_codec.specs.Views.{metric_of, ls_infinity}
 use Rattle.area_graph.specs.Area.{is_live}
 use Rattle.area_routes.specs.declared.entry.EntryKind.TheVariants.{Border}
-use Rattle.area_routes.specs.Best.{ways_of}
-use Rattle.area_routes.specs.Candidate.{Candidate}
+use Rattle.best_ways.specs.Best.{ways_of}
+use Rattle.best_ways.specs.Candidate.{Candidate}
 use Rattle.area_routes.specs.Inter.{asbr_candidate, asbr_entry, announced_asbr, border_of, by_border, candidate_to, is_summary, is_usable}
 use Rattle.area_routes.specs.Inter.{network_candidate, announced_network, originator_of, same_kind, same_router}
 use Rattle.lsa_codec.specs.Order.{router_cmp}
-use Rattle.area_routes.specs.Values.{AreaResultValue, ResultBelow, EntriesBelow, EntryValue, RouteValue}
-use Rattle.area_routes.proofs.Bounds.{All-filter_map, found_has, ways_have}
+use Rattle.area_routes.specs.Values.{AreaResultValue, ResultBelow, EntriesBelow, EntryValue}
+use Rattle.best_ways.specs.Values.{RouteValue}
+use Rattle.best_ways.proofs.WayLemmas.{All-filter_map, found_has, ways_have}
 
 -- a usable summary's metric is below LSInfinity
 usable_below : (router : RouterId) (lsa : List ℕ) → is_usable router lsa ≡ true → metric_of lsa < ls_infinity

@@ -27,17 +27,18 @@ use Rattle.next_hops.specs.declared.hop.Hop.{Hop}
 use Rattle.next_hops.specs.FirstHops.{hops_of}
 use Rattle.area_routes.specs.declared.entry.EntryKind.{EntryKind}
 use Rattle.area_routes.specs.declared.entry.EntryKind.TheVariants.{Border, AsbrIntra, AsbrInter}
-use Rattle.area_routes.specs.AreaResults.{area_result}
-use Rattle.area_routes.specs.Attached.{attached_areas, is_attached}
-use Rattle.area_routes.specs.Best.{ways_of}
+use Rattle.area_routes.specs.AreaResults.{area_result, result_in, results_of}
+use Rattle.area_routes.specs.Attached.{attached_areas, id_of, is_attached}
+use Rattle.best_ways.specs.Best.{ways_of}
 use Rattle.area_routes.specs.Entries.{bit_b, bit_e, entries_of, entry_by, reached_entry, flags_of, has_bit}
-use Rattle.area_routes.specs.EntriesOnce.{IsSameWay, StandOnce, results_of}
+use Rattle.area_routes.specs.EntriesOnce.{IsSameWay, StandOnce}
 use Rattle.area_routes.specs.Inter.{asbr_candidate, asbr_entry, entries_by, entries_of_all, examined, inter_of}
 use Rattle.lsa_codec.specs.Order.{router_cmp}
 use Rattle.area_routes.specs.Reached.{ReachedValue, reached_by, reached_from}
 use Rattle.area_routes.specs.Stubs.{is_lsa_of}
-use Rattle.area_routes.specs.Values.{AreaResultValue, EntryValue, RouteValue, WayValue}
-use Rattle.area_routes.proofs.Merging.{sorted_ways}
+use Rattle.area_routes.specs.Values.{AreaResultValue, EntryValue}
+use Rattle.best_ways.specs.Values.{RouteValue, WayValue}
+use Rattle.best_ways.proofs.WayLemmas.{sorted_ways}
 use Rattle.lsa_codec.proofs.OrderLemmas.{router_exact, router_total}
 use Rattle.area_routes.proofs.Pairs.{AllPairs-from, Pairs, Pairs-append, Pairs-filter, Pairs-filter_map, Pairs-flat_map, Pairs-from, Pairs-map, Pairs-unmap}
 
@@ -162,15 +163,11 @@ flat_map_map f g [] = refl
 flat_map_map f g (x ∷ xs) = ap (λ l. f (g x) ++ l) (flat_map_map f g xs)
 
 module _ (db : Lists) (router : RouterId) where
-  abbrev id_of : AreaHead → AreaId
-  id_of area = record { 0 = area.id }
-
   abbrev entries_in : AreaHead → List EntryValue
-  entries_in area = (area_result (id_of area) (lsas_of (Area (id_of area)) db) router).entries
+  entries_in area = (result_in db router area).entries
 
   all_entries : entries_of_all (results_of db router) ≡ flat_map entries_in (attached_areas db router)
-  all_entries = flat_map_map (λ (r : AreaResultValue). r.entries)
-      (λ (area : AreaHead). area_result (id_of area) (lsas_of (Area (id_of area)) db) router) (attached_areas db router)
+  all_entries = flat_map_map (λ (r : AreaResultValue). r.entries) (result_in db router) (attached_areas db router)
 
   areas_rise : IsDatabase db → Pairs (λ (a b : AreaHead). a.id < b.id) (areas_of db)
   areas_rise is =

@@ -6,7 +6,8 @@ use Rattle.lsa_codec.specs.declared.address.RouterId.{RouterId}
 use Rattle.lsdb.specs.declared.section.Section.TheVariants.{Area}
 use Rattle.lsdb.specs.Lists.{Lists, lsas_of}
 use Rattle.area_routes.specs.Inter.{entries_by, entries_of_all, examined, inter_entries, inter_of, inter_routes, routes_by}
-use Rattle.area_routes.specs.Values.{AreaResultValue, EntriesBelow, EntryValue, RouteValue}
+use Rattle.area_routes.specs.Values.{AreaResultValue, EntriesBelow, EntryValue}
+use Rattle.best_ways.specs.Values.{RouteValue}
 
 module _ (lists : Lists) (router : RouterId) (results : List AreaResultValue) (intra : List RouteValue)
     (routes : List RouteValue) (routers : List EntryValue) where

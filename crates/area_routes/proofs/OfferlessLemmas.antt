@@ -6,7 +6,8 @@ use Rattle.lsa_codec.specs.declared.address.RouterId.{RouterId}
 use Rattle.lsdb.specs.Lists.{Lists}
 use Rattle.area_routes.specs.Inter.{backbone, entries_by, entries_of_all, examined, inter_of, routes_by}
 use Rattle.area_routes.specs.Intra.{without_offers}
-use Rattle.area_routes.specs.Values.{AreaResultValue, EntryValue, RouteValue}
+use Rattle.area_routes.specs.Values.{AreaResultValue, EntryValue}
+use Rattle.best_ways.specs.Values.{RouteValue}
 
 backbone_without : (rs : List AreaResultValue) → backbone (map without_offers rs) ≡ option_map without_offers (backbone rs)
 backbone_without [] = refl

@@ -15,15 +15,16 @@ use Rattle.lsa_codec.specs.Prefix.{Net}
 use Rattle.lsa_codec.proofs.OrderLemmas.{prefix_exact, prefix_total}
 use Rattle.next_hops.specs.Hop.{IsSortedHops}
 use Rattle.next_hops.proofs.HopLemmas.{rising-sorted}
-use Rattle.area_routes.specs.declared.rank.PathType.TheVariants.{Intra}
-use Rattle.area_routes.specs.Best.{way_of, way_to, ways_of}
-use Rattle.area_routes.specs.Candidate.{Candidate}
+use Rattle.best_ways.specs.declared.rank.PathType.TheVariants.{Intra}
+use Rattle.best_ways.specs.Best.{way_of, way_to, ways_of}
+use Rattle.best_ways.specs.Candidate.{Candidate}
 use Rattle.area_routes.specs.Intra.{intra_candidate, intra_candidates, intra_of, intra_route}
 use Rattle.area_routes.specs.Offers.{AreSortedOffers}
-use Rattle.area_routes.specs.Routes.{AreSortedRoutes, nets, route_of, routes_of}
-use Rattle.area_routes.specs.Values.{AreaResultValue, EntriesBelow, EntryValue, OfferValue, OffersBelow, RouteValue, RoutesBelow, WayValue}
+use Rattle.best_ways.specs.Routes.{AreSortedRoutes, nets, route_of, routes_of}
+use Rattle.area_routes.specs.Values.{AreaResultValue, EntriesBelow, EntryValue, OfferValue, OffersBelow}
+use Rattle.best_ways.specs.Values.{RouteValue, RoutesBelow, WayValue}
 use Rattle.area_routes.specs.steps.OneArea.{IsIntraRoute, IsResultBy, offered}
-use Rattle.area_routes.proofs.Merging.{HasWays, all_ways, way_push}
+use Rattle.best_ways.proofs.WayLemmas.{HasWays, all_ways, way_push}
 
 -- the prefixes of offers
 abbrev offered_nets : List OfferValue → List Net

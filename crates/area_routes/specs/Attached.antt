@@ -17,6 +17,10 @@ has_live_router_lsa router lsas = option_map_or is_live (find (has_key (router_k
 abbrev pub is_attached : Lists → AreaId → RouterId → Bool
 is_attached db area router = has_live_router_lsa router (lsas_of (Area area) db)
 
+-- the ID of an area
+abbrev pub id_of : AreaHead → AreaId
+id_of area = record { 0 = area.id }
+
 -- the areas that the router is attached to, in rising order of their IDs
 abbrev pub attached_areas : Lists → RouterId → List AreaHead
-attached_areas db router = filter (λ area. is_attached db (record { 0 = area.id }) router) (areas_of db)
+attached_areas db router = filter (λ area. is_attached db (id_of area) router) (areas_of db)

@@ -12,14 +12,15 @@ use Rattle.lsa_codec.specs.Views.{metric_of, net_of_summary, ls_infinity}
 use Rattle.lsdb.specs.declared.section.Section.TheVariants.{Area}
 use Rattle.lsdb.specs.Lists.{Lists, lsas_of}
 use Rattle.area_graph.specs.Area.{is_live}
-use Rattle.area_routes.specs.declared.rank.PathType.TheVariants.{Inter}
+use Rattle.best_ways.specs.declared.rank.PathType.TheVariants.{Inter}
 use Rattle.area_routes.specs.declared.entry.EntryKind.{EntryKind}
 use Rattle.area_routes.specs.declared.entry.EntryKind.TheVariants.{Border, AsbrIntra, AsbrInter}
-use Rattle.area_routes.specs.Values.{AreaResultValue, EntryValue, InterValue, RouteValue, WayValue}
-use Rattle.area_routes.specs.Best.{ways_of}
-use Rattle.area_routes.specs.Candidate.{Candidate}
+use Rattle.area_routes.specs.Values.{AreaResultValue, EntryValue, InterValue}
+use Rattle.best_ways.specs.Values.{RouteValue, WayValue}
+use Rattle.best_ways.specs.Best.{ways_of}
+use Rattle.best_ways.specs.Candidate.{Candidate}
 use Rattle.lsa_codec.specs.Order.{router_cmp}
-use Rattle.area_routes.specs.Routes.{has_route, routes_of}
+use Rattle.best_ways.specs.Routes.{has_route, routes_of}
 
 -- ---- the area whose summary-LSAs are examined
 

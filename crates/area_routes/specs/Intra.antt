@@ -3,10 +3,11 @@ use Rattle.std.specs.Prelude.{List, [], ◌∷◌, Some, map}
 use Rattle.std.specs.List.{flat_map}
 use Rattle.lsa_codec.specs.declared.address.AreaId.{AreaId}
 use Rattle.lsa_codec.specs.Prefix.{Net}
-use Rattle.area_routes.specs.declared.rank.PathType.TheVariants.{Intra}
-use Rattle.area_routes.specs.Values.{AreaResultValue, OfferValue, RouteValue}
-use Rattle.area_routes.specs.Candidate.{Candidate}
-use Rattle.area_routes.specs.Routes.{routes_of}
+use Rattle.best_ways.specs.declared.rank.PathType.TheVariants.{Intra}
+use Rattle.area_routes.specs.Values.{AreaResultValue, OfferValue}
+use Rattle.best_ways.specs.Values.{RouteValue}
+use Rattle.best_ways.specs.Candidate.{Candidate}
+use Rattle.best_ways.specs.Routes.{routes_of}
 
 -- the way to a prefix that an area offers
 abbrev pub intra_candidate : AreaId → OfferValue → Candidate Net

@@ -1,9 +1,4 @@
-pub mod Order
 pub mod Values
-pub mod Candidate
-pub mod Best
-pub mod InWords
-pub mod Routes
 pub mod Intra
 pub mod Inter
 pub mod Reached
@@ -14,7 +9,7 @@ pub mod Stubs
 pub mod StubLinks
 pub mod Offers
 pub mod Entries
-pub mod AreaResults
 pub mod Attached
+pub mod AreaResults
 pub mod EntriesOnce
 pub mod steps

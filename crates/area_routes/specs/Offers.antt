@@ -3,10 +3,11 @@ use Rattle.std.specs.Prelude.{List, None, map}
 use Rattle.std.specs.List.Sorted.{IsStrictlySortedBy}
 use Rattle.lsa_codec.specs.Prefix.{Net}
 use Rattle.lsa_codec.specs.Order.{prefix_cmp}
-use Rattle.area_routes.specs.declared.rank.PathType.TheVariants.{Intra}
-use Rattle.area_routes.specs.Best.{ways_of}
-use Rattle.area_routes.specs.Candidate.{Candidate}
-use Rattle.area_routes.specs.Values.{OfferValue, WayValue}
+use Rattle.best_ways.specs.declared.rank.PathType.TheVariants.{Intra}
+use Rattle.best_ways.specs.Best.{ways_of}
+use Rattle.best_ways.specs.Candidate.{Candidate}
+use Rattle.area_routes.specs.Values.{OfferValue}
+use Rattle.best_ways.specs.Values.{WayValue}
 
 -- a way to a prefix, as a candidate for it
 abbrev pub offer_candidate : OfferValue → Candidate Net

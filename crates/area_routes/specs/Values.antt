@@ -1,21 +1,11 @@
--- Routes, router entries and results of areas, as contracts see them (RFC 2328, 11 and 16.1).
+-- Router entries and results of areas, as contracts see them (RFC 2328, 11 and 16.1).
 use Rattle.std.specs.Prelude.{ℕ, ◌<◌, List, All}
 use Rattle.lsa_codec.specs.declared.address.AreaId.{AreaId}
 use Rattle.lsa_codec.specs.declared.address.RouterId.{RouterId}
 use Rattle.lsa_codec.specs.Prefix.{Net}
 use Rattle.next_hops.specs.declared.hop.Hop.{Hop}
-use Rattle.area_routes.specs.declared.rank.PathType.{PathType}
-use Rattle.area_routes.specs.declared.rank.Rank.{Rank}
+use Rattle.best_ways.specs.Values.{RouteValue}
 use Rattle.area_routes.specs.declared.entry.EntryKind.{EntryKind}
-
--- a route to a network: the areas that its paths lead through, their cost and their next hops
-pub record RouteValue : Type 0 where
-  pub net : Net
-  pub kind : PathType
-  pub areas : List AreaId
-  pub cost : ℕ
-  pub cost2 : ℕ
-  pub hops : List Hop
 
 -- a way to a router through an area
 pub record EntryValue : Type 0 where
@@ -43,16 +33,7 @@ pub record InterValue : Type 0 where
   pub routes : List RouteValue
   pub routers : List EntryValue
 
--- what the best of the paths to one destination have in common
-pub record WayValue : Type 0 where
-  pub rank : Rank
-  pub areas : List AreaId
-  pub hops : List Hop
-
 -- all costs are below a bound
-abbrev pub RoutesBelow : ℕ → List RouteValue → Type 0
-RoutesBelow bound routes = All (λ r. r.cost < bound) routes
-
 abbrev pub EntriesBelow : ℕ → List EntryValue → Type 0
 EntriesBelow bound entries = All (λ e. e.cost < bound) entries
 

@@ -1,11 +1,7 @@
--- Definitions that only the contracts of private functions cite: the steps in which the results of areas and the best
--- ways are built.
+-- Definitions that only the contracts of private functions cite: the steps in which the results of areas are built.
 pub mod ReachedVertices
 pub mod Growing
 pub mod Standings
-pub mod Merge
-pub mod BestRoutes
 pub mod EntryIndex
-pub mod KeptAreas
 pub mod StubCandidates
 pub mod OneArea

@@ -6,7 +6,6 @@ ghost use Rattle.area_routes.specs.Values.{ResultBelow, EntriesBelow};
 
 use crate::area_result::AreaResult;
 use crate::entry::RouterEntry;
-use crate::entry_list::RouterEntries;
 use std::alloc::{AllocError, Allocator};
 
 impl<A: Allocator + Copy> RouterEntry<A> {
@@ -57,17 +56,4 @@ pub(crate) fn all_entries<A: Allocator + Copy>(
         add_entries(alloc, &mut all, area)?;
     }
     Ok(all)
-}
-
-impl<A: Allocator + Copy> RouterEntries<A> {
-    /// The router entries of the results of areas, area by area.
-    ///
-    /// # Errors
-    ///
-    /// Memory ran out.
-    pub fn of_all(alloc: A, results: &[AreaResult<A>]) -> Result<RouterEntries<A>, AllocError>
-        ensures { IfOk result (λ all. all ≡ entries_of_all results.now) }
-    {
-        Ok(RouterEntries::from_vec(all_entries(alloc, results)?))
-    }
 }

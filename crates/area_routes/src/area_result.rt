@@ -7,7 +7,7 @@ ghost use Rattle.area_routes.specs.Offers.{AreSortedOffers};
 ghost use Rattle.area_routes.specs.Values.{ResultBelow};
 
 use crate::entry::RouterEntry;
-use crate::route::Route;
+use best_ways::Route;
 use lsa_codec::AreaId;
 use std::alloc::{Allocator, Global};
 use std::marker::Model;

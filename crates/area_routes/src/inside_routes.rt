@@ -1,9 +1,9 @@
 //! Routes inside the AS.
 
 ghost use Rattle.std.specs.Prelude.{◌≡◌, [], ◌^◌};
-ghost use Rattle.area_routes.specs.Values.{RoutesBelow};
+ghost use Rattle.best_ways.specs.Values.{RoutesBelow};
 
-use crate::route_list::Routes;
+use best_ways::Routes;
 use std::alloc::{Allocator, Global};
 use std::marker::Model;
 
@@ -19,7 +19,7 @@ pub struct InsideRoutes<A: Allocator = Global> {
 
 impl<A: Allocator> Model for InsideRoutes<A> {
     ghost use Rattle.std.specs.Prelude.{List, ◌^◌};
-    ghost use Rattle.area_routes.specs.Values.{RouteValue, RoutesBelow};
+    ghost use Rattle.best_ways.specs.Values.{RouteValue, RoutesBelow};
 
     ghost Value = { List RouteValue };
 

@@ -5,23 +5,21 @@ ghost use Rattle.std.specs.List.{cons_option};
 ghost use Rattle.lsa_codec.specs.Prefix.{Net};
 ghost use Rattle.lsa_codec.specs.declared.address.RouterId.{RouterId as AnyRouter};
 ghost use Rattle.lsdb.specs.Slots.{lists_of};
-ghost use Rattle.area_routes.specs.Best.{Gathers};
-ghost use Rattle.area_routes.specs.Candidate.{Candidate};
+ghost use Rattle.best_ways.specs.Best.{Gathers};
+ghost use Rattle.best_ways.specs.Candidate.{Candidate};
 ghost use Rattle.area_routes.specs.Inter.{asbr_candidate, asbr_entry, candidate_to, inter_entries, inter_of, inter_routes, network_candidate};
 ghost use Rattle.area_routes.specs.Values.{ResultBelow, EntriesBelow};
 
 use crate::all_entries::all_entries;
 use crate::area_result::AreaResult;
-use crate::best::BestWays;
 use crate::entry::{EntryKind, RouterEntry};
 use crate::entry_list::RouterEntries;
 use crate::examined::examined;
 use crate::indexed_area::IndexedArea;
 use crate::inside_routes::InsideRoutes;
 use crate::inter_result::InterResult;
-use crate::rank::{PathType, Rank};
 use crate::summary::{announced_asbr, announced_network, usable_metric};
-use crate::way::Way;
+use best_ways::{BestWays, PathType, Rank, Way};
 use lsa_codec::{AreaId, Lsa, Prefix, RouterId};
 use lsdb::{Database, Lsas, Section};
 use std::alloc::{AllocError, Allocator};
@@ -183,7 +181,7 @@ fn entry<A: Allocator + Copy>(asbr: RouterId, way: Way<A>, area: AreaId) -> Rout
         router: asbr,
         area,
         kind: EntryKind::AsbrInter,
-        cost: way.rank.cost,
+        cost: way.rank().cost,
         hops: way.hops,
     }
 }

@@ -2,18 +2,16 @@
 
 ghost use Rattle.std.specs.Prelude.{◌≡◌, [], ◌∷◌, ◌++◌, ◌^◌, List, OnOk, IfOk, map};
 ghost use Rattle.lsa_codec.specs.Prefix.{Net};
-ghost use Rattle.area_routes.specs.Best.{Gathers};
-ghost use Rattle.area_routes.specs.Candidate.{Candidate};
+ghost use Rattle.best_ways.specs.Best.{Gathers};
+ghost use Rattle.best_ways.specs.Candidate.{Candidate};
 ghost use Rattle.area_routes.specs.Intra.{intra_candidate, intra_candidates, intra_of, without_offers};
-ghost use Rattle.area_routes.specs.Values.{ResultBelow, RoutesBelow};
+ghost use Rattle.area_routes.specs.Values.{ResultBelow};
+ghost use Rattle.best_ways.specs.Values.{RoutesBelow};
 ghost use Rattle.area_routes.specs.steps.OneArea.{offered};
 
 use crate::area_result::AreaResult;
-use crate::best::BestWays;
 use crate::inside_routes::InsideRoutes;
-use crate::rank::{PathType, Rank};
-use crate::route::Route;
-use crate::route_list::Routes;
+use best_ways::{BestWays, PathType, Rank, Route, Routes};
 use lsa_codec::{AreaId, Prefix};
 use std::alloc::{AllocError, Allocator};
 

@@ -1,25 +1,16 @@
 //! Intra-area routes, inter-area routes and router entries of a router (RFC 2328, 16.1 and 16.2).
 //!
 //! An [`AreaResult`] has what one area offers: ways to prefixes, and the routers that are area
-//! border routers or AS boundary routers. [`BestWays`] picks the best ways to each destination
-//! from any number of candidates, and joins those that are equally good.
+//! border routers or AS boundary routers. The best ways of all areas become routes, as the crate
+//! `best_ways` picks them.
 #![tactic(auto)]
 
-// What routes are.
+// What areas give, and the routes inside the AS.
 mod area_result;
-mod areas;
 mod entry;
 mod entry_list;
 mod inside_routes;
 mod inter_result;
-mod rank;
-mod route;
-mod route_list;
-
-// The best of many candidates.
-mod best;
-mod contender;
-mod way;
 
 // The result of an area.
 mod area_ways;
@@ -34,7 +25,6 @@ mod stub_links;
 mod stubs;
 
 // Routes within areas.
-mod best_routes;
 mod intra_area;
 
 // Routes between areas.
@@ -49,9 +39,10 @@ mod summary;
 mod laws;
 
 pub use area_result::AreaResult;
-pub use areas::AreaList;
 pub use attached::is_attached;
-pub use best::BestWays;
+pub use best_ways::{
+    AreaList, BestWays, PathType, Rank, Route, Routes, Way, rank_order, ways_are_best,
+};
 pub use choice::network_choice;
 pub use entry::{EntryKind, RouterEntry};
 pub use entry_list::RouterEntries;
@@ -60,12 +51,5 @@ pub use inside_routes::InsideRoutes;
 pub use inter_area::inter;
 pub use inter_result::InterResult;
 pub use intra_area::{intra, take_intra};
-pub use laws::{
-    attached_routers_are_vertices, entries_stand_once, rank_order, reached_over_all_paths,
-    ways_are_best,
-};
-pub use rank::{PathType, Rank};
-pub use route::Route;
-pub use route_list::Routes;
+pub use laws::{attached_routers_are_vertices, entries_stand_once, reached_over_all_paths};
 pub use stub_links::{StubLink, StubLinks};
-pub use way::Way;

@@ -89,23 +89,6 @@ fn table_now<A: Allocator + Copy>(
     }
 }
 
-/// The routing table of a router now, if it is attached to an area. It may be the same one that the
-/// planner keeps of the loaded database.
-fn cached_table_now<A: Allocator + Copy>(
-    planner: &mut Planner<A>,
-    router: RouterId,
-) -> Result<Option<Rc<Table<A>, A>>, AllocError>
-    ensures table { IfOk result (λ table. option_map (λ shared. shared.value) table
-        ≡ table_in (state planner.old.session) router) }
-    ensures kept { planner.new.session ≡ planner.old.session }
-{
-    match planner.cached_table(router) {
-        Ok(table) => Ok(Some(table)),
-        Err(TableFault::NoRouter) => Ok(None),
-        Err(TableFault::OutOfMemory) => Err(AllocError),
-    }
-}
-
 /// The routing table of a router in the loaded database, if it is attached to an area there. The
 /// planner keeps it too.
 fn table_before<A: Allocator + Copy>(
@@ -126,7 +109,8 @@ fn table_before<A: Allocator + Copy>(
 /// The refusal where a router is attached to no area.
 const NO_ROUTER: Refusal = Refusal::Table(TableFault::NoRouter);
 
-/// The reply to `table`.
+/// The reply to `table`. The planner keeps the table too, or it is one that it keeps of the loaded
+/// database.
 fn table<A: Allocator + Copy>(
     planner: &mut Planner<A>,
     router: RouterId,
@@ -135,10 +119,11 @@ fn table<A: Allocator + Copy>(
         (λ reply. said_by reply ≡ table_reply (table_in (state planner.old.session) router)) }
     ensures kept { planner.new.session ≡ planner.old.session }
 {
-    Ok(match cached_table_now(planner, router)? {
-        Some(table) => Reply::Table(table),
-        None => Reply::Refused(NO_ROUTER),
-    })
+    match planner.cached_table(router) {
+        Ok(table) => Ok(Reply::Table(table)),
+        Err(TableFault::NoRouter) => Ok(Reply::Refused(NO_ROUTER)),
+        Err(TableFault::OutOfMemory) => Err(AllocError),
+    }
 }
 
 /// The reply to `tables`.

@@ -12,8 +12,8 @@ use Rattle.capture_report.specs.steps.Inputs.{IsReadEnd}
 use Rattle.capture_report.proofs.Parts.{zip_push}
 use Rattle.network_files.specs.declared.parsed_file.ParsedFile.{ParsedFile}
 use Rattle.network_files.specs.ParsedFiles.{IsFileOf}
-use Rattle.streams.specs.declared.watch.Watched.{Watched}
-use Rattle.streams.specs.Watched.{has_failed, inner_of}
+use Rattle.host_io.specs.declared.watch.Watched.{Watched}
+use Rattle.host_io.specs.Watched.{has_failed, inner_of}
 
 -- ---- pairs
 

@@ -9,9 +9,9 @@ use Rattle.network_files.specs.declared.parsed_file.ParsedFile.{ParsedFile}
 use Rattle.network_files.specs.Dumps.{IsDump, IsJoinFault}
 use Rattle.network_files.specs.ParsedFiles.{IsFileOf, IsRefusalOf}
 use Rattle.lsdb_merge.specs.declared.fault.JoinFault.TheVariants as joins
-use Rattle.streams.specs.declared.watch.Watched.{Watched}
-use Rattle.streams.specs.Watched.{inner_of}
-use Rattle.streams.specs.WholeText.{IsLonger}
+use Rattle.host_io.specs.declared.watch.Watched.{Watched}
+use Rattle.host_io.specs.Watched.{inner_of}
+use Rattle.host_io.specs.WholeText.{IsLonger}
 
 -- the bytes of each file, where they are known
 abbrev pub known : {R : Type 0} → (R → Option (List ℕ)) → List (Watched R) → List (Option (List ℕ))

@@ -3,10 +3,10 @@
 ghost use Rattle.std.specs.Prelude.{◌≡◌};
 ghost use Rattle.capture_report.specs.declared.fault.RunFault.TheVariants.{OutOfMemory, Write};
 
+use host_io::WriteFault;
 use lsdb_merge::JoinFault;
 use network_files::FileFault;
 use std::alloc::{AllocError, AllocFailed};
-use streams::WriteFault;
 
 /// Why a run ended early. Files are counted from 0. Those before the file of the fault were read
 /// without one.

@@ -1,17 +1,17 @@
 //! The files of a run.
 
 ghost use Rattle.std.specs.Prelude.{◌≡◌, ◌≢◌, ◌↔◌, ℕ, All, IfErr, IfOk, IfSome, OnOk, false, true};
-ghost use Rattle.streams.specs.Watched.{inner_of, has_failed};
-ghost use Rattle.streams.specs.WholeText.{ConsumesAtMost};
+ghost use Rattle.host_io.specs.Watched.{inner_of, has_failed};
+ghost use Rattle.host_io.specs.WholeText.{ConsumesAtMost};
 ghost use Rattle.network_files.specs.ParsedFiles.{IsFileOf};
 ghost use Rattle.capture_report.specs.Runs.{AreParsed, IsFileEnd, known};
 ghost use Rattle.capture_report.specs.steps.Inputs.{IsReadEnd};
 
 use crate::fault::RunFault;
+use host_io::{ReadFault, Watched, read_whole};
 use network_files::{FileFault, ParsedFile, read_file};
 use std::alloc::Allocator;
 use std::io::Read;
-use streams::{ReadFault, Watched, read_whole};
 
 /// The greatest length of a file, in bytes.
 pub const LONGEST_FILE: usize = 536_870_912;

@@ -44,4 +44,4 @@ pub use headers::header_findings;
 pub use input::LONGEST_FILE;
 pub use kinds::area_findings;
 pub use line::file_line;
-pub use running::run;
+pub use running::{NetworkDump, run};

@@ -2,30 +2,43 @@
 
 ghost use Rattle.std.specs.Prelude.{◌≡◌, ◌≢◌, ◌↔◌, ℕ, List, All, IfErr, IfOk, false, true};
 ghost use Rattle.std.specs.Io.KnownBytes.{Appends};
-ghost use Rattle.streams.specs.Watched.{inner_of, has_failed};
-ghost use Rattle.network_files.specs.Dumps.{IsDump};
+ghost use Rattle.host_io.specs.Watched.{inner_of, has_failed};
+ghost use Rattle.lsdb.specs.Slots.{lists_of};
+ghost use Rattle.network_files.specs.Dumps.{IsDump, IsJoinedFrom};
 ghost use Rattle.capture_report.specs.Runs.{AreParsed, IsDumpEnd, MayEndRun, known};
 
 use crate::fault::RunFault;
 use crate::input::read_files;
+use host_io::{Watched, write_and_flush};
 use lsa_instances::FlushedLsas;
+use lsdb::Database;
 use lsdb_merge::JoinFault;
-use network_files::{ParsedFile, dump_of_files};
-use std::alloc::Allocator;
+use network_files::{JoinedFiles, ParsedFile, join_files};
+use std::alloc::{Allocator, Global};
 use std::io::{Read, Write};
-use streams::{Watched, write_and_flush};
 
-/// The dump that all files together make.
-fn dump_of<A: Allocator + Copy>(
+/// What a run made of its files.
+#[derive(Drop)]
+pub struct NetworkDump<A: Allocator = Global> {
+    /// What each file contains, in the order of the files.
+    pub files: Vec<ParsedFile<A>, A>,
+    /// The database that all of them make, whose dump was written.
+    pub database: Database<A>,
+}
+
+/// The database that all files together make, and its dump.
+fn joined<A: Allocator + Copy>(
     alloc: A,
     flushed: FlushedLsas,
     parsed: &[ParsedFile<A>],
-) -> Result<Vec<u8, A>, RunFault>
-    ensures dump { IfOk result (λ dump. IsDump flushed parsed.now dump.items) }
+) -> Result<JoinedFiles<A>, RunFault>
+    ensures database { IfOk result
+        (λ made. IsJoinedFrom flushed parsed.now (lists_of made.database)) }
+    ensures dump { IfOk result (λ made. IsDump flushed parsed.now made.dump.items) }
     ensures fault { IfErr result (IsDumpEnd flushed parsed.now) }
 {
-    match dump_of_files(alloc, flushed, parsed) {
-        Ok(dump) => Ok(dump),
+    match join_files(alloc, flushed, parsed) {
+        Ok(made) => Ok(made),
         Err(JoinFault::OutOfMemory) => Err(RunFault::OutOfMemory),
         Err(fault) => Err(RunFault::Join(fault)),
     }
@@ -33,7 +46,7 @@ fn dump_of<A: Allocator + Copy>(
 
 /// Reads the files, one after another, joins what they contain, and writes the dump of the database
 /// to `out`; flushed LSAs are left out, or kept at MaxAge, as `flushed` says. The answer is what
-/// each file contains.
+/// each file contains, and the database.
 ///
 /// # Errors
 ///
@@ -45,13 +58,16 @@ pub fn run<A: Allocator + Copy, R: Read, W: Write>(
     flushed: FlushedLsas,
     files: &mut [Watched<R>],
     out: &mut Watched<W>,
-) -> Result<Vec<ParsedFile<A>, A>, RunFault>
+) -> Result<NetworkDump<A>, RunFault>
     requires files_open { All (λ file. has_failed file ≡ false) files.old }
     requires out_open { has_failed out.old ≡ false }
 
     // What is written, where the bytes of the files are known.
-    ensures parsed { IfOk result (λ parsed. AreParsed (known R.remaining files.old) parsed.items) }
-    ensures dump { IfOk result (λ parsed. (dump : List ℕ) × (IsDump flushed parsed.items dump
+    ensures parsed { IfOk result
+        (λ made. AreParsed (known R.remaining files.old) made.files.items) }
+    ensures database { IfOk result
+        (λ made. IsJoinedFrom flushed made.files.items (lists_of made.database)) }
+    ensures dump { IfOk result (λ made. (dump : List ℕ) × (IsDump flushed made.files.items dump
         × Appends (W.contents (inner_of out.old)) (W.contents (inner_of out.new)) dump)) }
 
     // When each fault comes.
@@ -64,7 +80,10 @@ pub fn run<A: Allocator + Copy, R: Read, W: Write>(
     ensures untouched { IfErr result (λ fault. fault ≢ RunFault.Write → out.new ≡ out.old) }
 {
     let parsed = read_files(alloc, files)?;
-    let dump = dump_of(alloc, flushed, &parsed)?;
-    write_and_flush(out, &dump)?;
-    Ok(parsed)
+    let made = joined(alloc, flushed, &parsed)?;
+    write_and_flush(out, &made.dump)?;
+    Ok(NetworkDump {
+        files: parsed,
+        database: made.database,
+    })
 }

@@ -7,8 +7,7 @@ use Rattle.std.proofs.lemmas.List.{take_more}
 use Rattle.std.proofs.lemmas.List.Elements.{All-append, All-contains, All-cons, All-nil}
 use Rattle.lsa_codec.specs.declared.key.Key.{Key}
 use Rattle.lsa_codec.specs.Key.{key_of}
-use Rattle.lsdb.specs.declared.keyed_slots.KeyAt.{KeyAt}
-use Rattle.lsdb.specs.KeyRanges.{AreKeysBetween}
+use Rattle.lsdb.specs.KeyRanges.{AreKeysBetween, KeyAt}
 use Rattle.lsdb.specs.Slots.{Slot, Slots, SectionSlots, item_at, slot_at, slot_in, full, lsas_in, slots_in, slots_or_none, IsFirstSlot}
 use Rattle.edit_history.specs.declared.lookup.Wanted.{Wanted}
 use Rattle.edit_history.specs.steps.Plans.{is_wanted, passes, slot_of}

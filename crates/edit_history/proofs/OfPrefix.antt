@@ -7,9 +7,8 @@ use Rattle.std.proofs.lemmas.List.{get_or-take, get_or_default, length-take, map
 use Rattle.std.proofs.lemmas.List.Elements.{All-append, All-cons, All-nil}
 use Rattle.lsa_codec.specs.declared.address.RouterId.{RouterId}
 use Rattle.lsa_codec.specs.Prefix.{Net}
-use Rattle.lsdb.specs.declared.prefix_slots.SlotOfPrefix.{SlotOfPrefix}
 use Rattle.lsdb.specs.Slots.{Slots, item_at, lsas_in, slots_in, IsFirstSlot}
-use Rattle.lsdb.specs.PrefixSlots.{prefix_of, prefix_slot, AreSlotsOfPrefix}
+use Rattle.lsdb.specs.PrefixSlots.{SlotOfPrefix, prefix_of, prefix_slot, AreSlotsOfPrefix}
 use Rattle.edit_history.specs.declared.lookup.Wanted.{Wanted}
 use Rattle.edit_history.specs.Effect.{is_originated_for, is_prefix}
 use Rattle.edit_history.specs.steps.Plans.{is_wanted, passes, slot_of}

@@ -7,10 +7,9 @@ use Rattle.std.proofs.lemmas.List.{append-nil, map-id}
 use Rattle.std.proofs.lemmas.List.Elements.{All-contains, All-cons, All-head, All-tail}
 use Rattle.lsa_codec.specs.declared.address.RouterId.{RouterId}
 use Rattle.lsa_codec.specs.Fields.{advertising_router_of}
-use Rattle.lsdb.specs.declared.router_slots.SlotOfRouter.{SlotOfRouter}
 use Rattle.lsdb.specs.declared.section.Section.{Section}
 use Rattle.lsdb.specs.Slots.{Slot, Slots, SectionSlots, item_at, slot_in, slots_in, slots_or_none, slot_at}
-use Rattle.lsdb.specs.RouterSlots.{router_slot, AreSlotsOfRouter}
+use Rattle.lsdb.specs.RouterSlots.{SlotOfRouter, router_slot, AreSlotsOfRouter}
 use Rattle.lsdb.proofs.ListLemmas.{pairs_head, pairs_tail}
 use Rattle.edit_history.specs.Rules.{stays, removed}
 use Rattle.edit_history.specs.Effect.{router_fate}

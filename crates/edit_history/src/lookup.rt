@@ -14,7 +14,7 @@ ghost use Rattle.edit_history.specs.steps.Searching.{AreOriginatedFor, HaveKeysB
 
 use crate::fault::EditFault;
 use lsa_codec::{Addr, AreaId, EXTERNAL_LSA, Key, Lsa, NETWORK_LSA, Prefix, RouterId, SUMMARY_LSA};
-use lsdb::{Database, KeyAt, Section, SlotId, prefix_of};
+use lsdb::{Database, Section, SlotId, SlotOf, prefix_of};
 use std::alloc::Allocator;
 
 /// An LSA that is looked up by more than its key.
@@ -244,14 +244,14 @@ fn is_wanted_at<A: Allocator + Copy>(database: &Database<A>, slot: SlotId, wante
 fn is_wanted_by_key<A: Allocator + Copy>(
     database: &Database<A>,
     section: usize,
-    noted: &KeyAt,
+    noted: &SlotOf<Key>,
     wanted: &Wanted,
 ) -> bool
     ensures { result ≡ is_wanted_by_key wanted.now database.now section noted.now }
 {
     let slot = SlotId {
         section,
-        index: noted.index,
+        index: noted.index as usize,
     };
     wanted.may_have(noted.key) && is_wanted_at(database, slot, wanted)
 }
@@ -281,7 +281,7 @@ fn first_by_keys<A: Allocator + Copy>(
     let mut first = None;
     for noted in database.keys_between(section, least, greatest) {
         if is_wanted_by_key(database, section, &noted, wanted) {
-            first = Some(lesser(first, noted.index));
+            first = Some(lesser(first, noted.index as usize));
         }
     }
     let Some(index) = first else {

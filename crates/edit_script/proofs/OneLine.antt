@@ -1,9 +1,9 @@
 -- The line of an edit has no line feed.
-use Rattle.std.proofs.Common.{◌≡◌, ◌≢◌, ℕ, ◌^◌, ◌<◌, ◌≤◌, Bool, true, false, eqb, List, [], ◌∷◌, refl, sym, ◌∙◌, subst, arith}
-use Rattle.std.specs.Prelude.{All, codes, decimal, not, ◌&&◌}
+use Rattle.std.proofs.Common.{◌≡◌, ◌≢◌, ℕ, ◌^◌, ◌<◌, Bool, true, false, eqb, List, [], ◌∷◌, refl, sym, ◌∙◌, arith}
+use Rattle.std.specs.Prelude.{All, codes, decimal}
 use Rattle.std.specs.List.{AllByRecursion, join_with_byte}
-use Rattle.std.proofs.lemmas.Bool.{and_parts, not-true, ne_eqb, eq-eqb}
-use Rattle.std.proofs.lemmas.List.Elements.{All-nil, All-cons, All-append, All-from_recursion}
+use Rattle.std.proofs.lemmas.Bool.{ne_eqb, eq-eqb}
+use Rattle.std.proofs.lemmas.List.Elements.{All-nil, All-cons, All-append}
 use Rattle.lsa_codec.specs.Prefix.{Net}
 use Rattle.lsa_codec.specs.Spelling.{address_text, prefix_text}
 use Rattle.edit_script.specs.declared.edit.Edit.{Edit}
@@ -13,8 +13,10 @@ use Rattle.edit_script.specs.declared.edit.MetricType.{MetricType}
 use Rattle.edit_script.specs.declared.edit.MetricType.TheVariants.{Type1, Type2}
 use Rattle.edit_script.specs.Words.{Word}
 use Rattle.edit_script.specs.Spelling.{spelling, type_text, edit_words, IsEditInRange, IsPrefix}
-use Rattle.edit_script.proofs.Split.{Lacks}
-use Rattle.edit_script.proofs.Numbers.{SparesDigits, Lacks-decimal, Lacks-address, prefix_joined}
+use Rattle.text_words.proofs.PartLemmas.{Lacks, Lacks-literal, has_none}
+use Rattle.text_words.proofs.NumberLemmas.{SparesDigits, Lacks-decimal}
+use Rattle.text_words.proofs.AddressLemmas.{Lacks-address}
+use Rattle.edit_script.proofs.Prefixes.{Lacks-prefix}
 
 abbrev is_feed : ℕ → Bool
 is_feed byte = eqb byte 10
@@ -22,19 +24,8 @@ is_feed byte = eqb byte 10
 feed_spares : SparesDigits is_feed
 feed_spares = record { spares = λ b low high. ne_eqb b 10 (λ e. omega arith) }
 
--- a test that computes on a word that is written out
-abbrev has_no_feed : Word → Bool
-has_no_feed [] = true
-has_no_feed (byte ∷ bytes) = not (is_feed byte) && has_no_feed bytes
-
-lacks_feeds : (word : Word) → has_no_feed word ≡ true → AllByRecursion (λ byte. is_feed byte ≡ false) word
-lacks_feeds [] h = tt
-lacks_feeds (byte ∷ bytes) h =
-    let both = and_parts (not (is_feed byte)) (has_no_feed bytes) h in
-    (not-true (is_feed byte) both.0, lacks_feeds bytes both.1)
-
-literal : (word : Word) → has_no_feed word ≡ true → Lacks is_feed word
-literal word h = All-from_recursion (λ byte. is_feed byte ≡ false) word (lacks_feeds word h)
+literal : (word : Word) → has_none is_feed word ≡ true → Lacks is_feed word
+literal word h = Lacks-literal is_feed word h
 
 number : (n : ℕ) → n < 2 ^ 64 → Lacks is_feed (decimal n)
 number n h = Lacks-decimal is_feed feed_spares n h
@@ -43,12 +34,7 @@ address : (n : ℕ) → Lacks is_feed (address_text n)
 address n = Lacks-address is_feed feed_spares refl n
 
 prefix : (net : Net) → IsPrefix net → Lacks is_feed (prefix_text net)
-prefix net h =
-    let P : ℕ → Type 0 = λ b. is_feed b ≡ false in
-    let short : net.len ≤ 32 = h.prefix.short in
-    subst (Lacks is_feed) (sym (prefix_joined net))
-    (All-append P (address_text net.addr.0) (47 ∷ decimal net.len) (address net.addr.0)
-    (All-cons P 47 (decimal net.len) refl (number net.len (omega arith))))
+prefix net h = Lacks-prefix is_feed feed_spares refl refl net h
 
 type : (t : MetricType) → Lacks is_feed (type_text t)
 type Type1 = literal (codes "1") refl

@@ -1,7 +1,6 @@
 -- The line of an edit is read back.
-use Rattle.std.proofs.Common.{◌≡◌, ℕ, List, ◌<◌, Bool, true, false, [], ◌∷◌, length, Ok, refl, ap, ◌∙◌, arith, inl, inr}
-use Rattle.std.specs.Prelude.{codes, not, ◌&&◌}
-use Rattle.std.proofs.lemmas.Bool.{and_parts, not-true}
+use Rattle.std.proofs.Common.{◌≡◌, ℕ, List, ◌<◌, ◌∷◌, Ok, refl, ap, ◌∙◌, arith, inl, inr}
+use Rattle.std.specs.Prelude.{codes}
 use Rattle.std.proofs.lemmas.List.Elements.{All-from_recursion}
 use Rattle.std.specs.List.{AllByRecursion}
 use Rattle.edit_script.specs.declared.edit.Edit.{Edit}
@@ -11,93 +10,74 @@ use Rattle.edit_script.specs.declared.edit.MetricType.{MetricType}
 use Rattle.edit_script.specs.declared.edit.MetricType.TheVariants.{Type1, Type2}
 use Rattle.edit_script.specs.declared.command.Command.{Command}
 use Rattle.edit_script.specs.declared.command.Command.TheVariants as command
-use Rattle.edit_script.specs.Words.{Word, is_blank, words}
+use Rattle.text_words.specs.declared.blanks.Blanks.TheVariants.{InLine}
+use Rattle.text_words.specs.Words.{IsWord}
+use Rattle.text_words.proofs.NumberLemmas.{number_again}
+use Rattle.text_words.proofs.AddressLemmas.{address_again}
+use Rattle.text_words.proofs.WordLemmas.{words_joined, literal_word, decimal_word, address_word}
+use Rattle.edit_script.specs.Words.{Word, words}
 use Rattle.edit_script.specs.Reading.{metric_type, edit_of, cost_of, drop_link_of, fail_link_of, fail_net_of, fail_router_of, add_stub_of, summary_of}
 use Rattle.edit_script.specs.Reading.{add_summary_of, add_external_of, drop_external_of, command_of, undo_of, redo_of, table_of, tables_of, compare_of}
 use Rattle.edit_script.specs.Reading.{info_of, refresh_of}
 use Rattle.edit_script.specs.Line.{meaning, meaning_of_words, after_branch}
 use Rattle.edit_script.specs.Spelling.{spelling, type_text, edit_words, command_words, branch_word, Says, IsEditInRange, IsInRange}
-use Rattle.edit_script.proofs.Split.{IsWord, words_joined}
-use Rattle.edit_script.proofs.Numbers.{number_again, address_again, prefix_again, IsWord-decimal, IsWord-address, IsWord-prefix}
+use Rattle.edit_script.proofs.Prefixes.{prefix_again, prefix_word}
 
--- a test that computes on a word that is written out
-abbrev has_no_blank : Word → Bool
-has_no_blank [] = true
-has_no_blank (byte ∷ bytes) = not (is_blank byte) && has_no_blank bytes
+type_word : (type : MetricType) → IsWord InLine (type_text type)
+type_word Type1 = literal_word InLine (codes "1") refl (omega arith)
+type_word Type2 = literal_word InLine (codes "2") refl (omega arith)
 
-lacks_blanks : (word : Word) → has_no_blank word ≡ true → AllByRecursion (λ byte. is_blank byte ≡ false) word
-lacks_blanks [] h = tt
-lacks_blanks (byte ∷ bytes) h =
-    let both = and_parts (not (is_blank byte)) (has_no_blank bytes) h in
-    (not-true (is_blank byte) both.0, lacks_blanks bytes both.1)
-
-literal : (word : Word) → has_no_blank word ≡ true → 0 < length word → IsWord word
-literal word h some = record { lacks = All-from_recursion (λ byte. is_blank byte ≡ false) word (lacks_blanks word h); some = some }
-
-type_word : (type : MetricType) → IsWord (type_text type)
-type_word Type1 = literal (codes "1") refl (omega arith)
-type_word Type2 = literal (codes "2") refl (omega arith)
-
-are_words : (edit : Edit) → IsEditInRange edit → AllByRecursion IsWord (edit_words edit)
+are_words : (edit : Edit) → IsEditInRange edit → AllByRecursion (IsWord InLine) (edit_words edit)
 are_words (Cost area router link metric) h = (
-  literal (codes "cost") refl (omega arith),
+  literal_word InLine (codes "cost") refl (omega arith),
   (
-    IsWord-address area.0,
-    (IsWord-address router.0, (IsWord-decimal link (omega arith), (IsWord-decimal metric (omega arith), tt))),
+    address_word InLine area.0,
+    (address_word InLine router.0, (decimal_word InLine link (omega arith), (decimal_word InLine metric (omega arith), tt))),
   ),
 )
 are_words (DropLink area router link) h =
-    (literal (codes "drop-link") refl (omega arith), (IsWord-address area.0, (IsWord-address router.0, (IsWord-decimal link (omega arith), tt))))
+    (literal_word InLine (codes "drop-link") refl (omega arith), (address_word InLine area.0, (address_word InLine router.0, (decimal_word InLine link (omega arith), tt))))
 are_words (FailLink area router neighbor) h =
-    (literal (codes "fail-link") refl (omega arith), (IsWord-address area.0, (IsWord-address router.0, (IsWord-address neighbor.0, tt))))
+    (literal_word InLine (codes "fail-link") refl (omega arith), (address_word InLine area.0, (address_word InLine router.0, (address_word InLine neighbor.0, tt))))
 are_words (FailNet area network) h =
-    (literal (codes "fail-net") refl (omega arith), (IsWord-address area.0, (IsWord-address network.0, tt)))
+    (literal_word InLine (codes "fail-net") refl (omega arith), (address_word InLine area.0, (address_word InLine network.0, tt)))
 are_words (FailRouter router) h =
-    (literal (codes "fail-router") refl (omega arith), (IsWord-address router.0, tt))
+    (literal_word InLine (codes "fail-router") refl (omega arith), (address_word InLine router.0, tt))
 are_words (AddStub area router prefix metric) h = (
-  literal (codes "add-stub") refl (omega arith),
+  literal_word InLine (codes "add-stub") refl (omega arith),
   (
-    IsWord-address area.0,
-    (IsWord-address router.0, (IsWord-prefix prefix h.2, (IsWord-decimal metric (omega arith), tt))),
+    address_word InLine area.0,
+    (address_word InLine router.0, (prefix_word prefix h.2, (decimal_word InLine metric (omega arith), tt))),
   ),
 )
 are_words (Summary area router prefix metric) h = (
-  literal (codes "summary") refl (omega arith),
+  literal_word InLine (codes "summary") refl (omega arith),
   (
-    IsWord-address area.0,
-    (IsWord-address router.0, (IsWord-prefix prefix h.2, (IsWord-decimal metric (omega arith), tt))),
+    address_word InLine area.0,
+    (address_word InLine router.0, (prefix_word prefix h.2, (decimal_word InLine metric (omega arith), tt))),
   ),
 )
 are_words (AddSummary area router prefix metric) h = (
-  literal (codes "add-summary") refl (omega arith),
-  (IsWord-address area.0, (IsWord-address router.0, (IsWord-prefix prefix h.2, (IsWord-decimal metric (omega arith), tt)))),
+  literal_word InLine (codes "add-summary") refl (omega arith),
+  (address_word InLine area.0, (address_word InLine router.0, (prefix_word prefix h.2, (decimal_word InLine metric (omega arith), tt)))),
 )
 are_words (AddExternal router prefix type metric forward tag) h = (
-  literal (codes "add-external") refl (omega arith),
+  literal_word InLine (codes "add-external") refl (omega arith),
   (
-    IsWord-address router.0,
+    address_word InLine router.0,
     (
-      IsWord-prefix prefix h.1,
-      (type_word type, (IsWord-decimal metric (omega arith), (IsWord-address forward.0, (IsWord-decimal tag (omega arith), tt)))),
+      prefix_word prefix h.1,
+      (type_word type, (decimal_word InLine metric (omega arith), (address_word InLine forward.0, (decimal_word InLine tag (omega arith), tt)))),
     ),
   ),
 )
 are_words (DropExternal router prefix) h =
-    (literal (codes "drop-external") refl (omega arith), (IsWord-address router.0, (IsWord-prefix prefix h.1, tt)))
-are_words Refresh h = (literal (codes "refresh") refl (omega arith), tt)
+    (literal_word InLine (codes "drop-external") refl (omega arith), (address_word InLine router.0, (prefix_word prefix h.1, tt)))
+are_words Refresh h = (literal_word InLine (codes "refresh") refl (omega arith), tt)
 
+-- the words of the line of an edit are the words of the edit
 words_again : (edit : Edit) → IsEditInRange edit → words (spelling edit) ≡ edit_words edit
-words_again (Cost area router link metric) h = words_joined _ _ (are_words (Cost area router link metric) h)
-words_again (DropLink area router link) h = words_joined _ _ (are_words (DropLink area router link) h)
-words_again (FailLink area router neighbor) h = words_joined _ _ (are_words (FailLink area router neighbor) h)
-words_again (FailNet area network) h = words_joined _ _ (are_words (FailNet area network) h)
-words_again (FailRouter router) h = words_joined _ _ (are_words (FailRouter router) h)
-words_again (AddStub area router prefix metric) h = words_joined _ _ (are_words (AddStub area router prefix metric) h)
-words_again (Summary area router prefix metric) h = words_joined _ _ (are_words (Summary area router prefix metric) h)
-words_again (AddSummary area router prefix metric) h = words_joined _ _ (are_words (AddSummary area router prefix metric) h)
-words_again (AddExternal router prefix type metric forward tag) h = words_joined _ _ (are_words (AddExternal router prefix type metric forward tag) h)
-words_again (DropExternal router prefix) h = words_joined _ _ (are_words (DropExternal router prefix) h)
-words_again Refresh h = words_joined _ _ (are_words Refresh h)
+words_again edit h = words_joined InLine 32 (edit_words edit) refl (All-from_recursion (IsWord InLine) (edit_words edit) (are_words edit h))
 
 type_again : (type : MetricType) → metric_type (type_text type) ≡ Ok type
 type_again Type1 = refl

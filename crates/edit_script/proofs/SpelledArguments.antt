@@ -1,35 +1,29 @@
 -- Arguments of a command that were read: each is the text of its value, which is in range.
-use Rattle.std.proofs.Common.{◌≡◌, ℕ, suc, zero, ◌^◌, ◌<◌, ◌≤◌, Bool, true, false, cond, eqb, ltb, leb, List, [], ◌∷◌, length, get_or, Option, Some}
+use Rattle.std.proofs.Common.{◌≡◌, ℕ, ◌^◌, ◌<◌, ◌≤◌, cond, eqb, leb, List, [], ◌∷◌, Option, Some}
 use Rattle.std.proofs.Common.{None, Result, Ok, Err, refl, sym, ap, ◌∙◌, subst, arith, inl, inr}
-use Rattle.std.specs.Prelude.{decimal, not, ◌&&◌, ◌||◌, codes, ok_or, bytes_eq, map}
+use Rattle.std.specs.Prelude.{decimal, ◌&&◌, codes, ok_or, bytes_eq}
 use Rattle.std.specs.List.{slice_split, join_with_byte}
-use Rattle.std.specs.Str.{all_ascii_digits}
-use Rattle.std.specs.Int.{w32, from_be_bytes}
-use Rattle.std.proofs.lemmas.Fmt.{decimal-digits_value}
-use Rattle.std.proofs.lemmas.Nat.{be_bytes_4}
 use Rattle.std.proofs.lemmas.List.Splits.{join_with_byte-slice_split}
 use Rattle.std.proofs.lemmas.Slice.Eq.{bytes_eq-Decides}
-use Rattle.std.proofs.lemmas.Bool.{cases_Bool, and_parts, cond-true, cond-false, leb-true, ltb-true, eqb-true, eq-eqb}
-use Rattle.lsa_codec.specs.Prefix.{Net, net_of, is_masked}
+use Rattle.std.proofs.lemmas.Bool.{cases_Bool, and_parts, cond-true, cond-false, leb-true}
+use Rattle.lsa_codec.specs.Prefix.{Net, IsNet, net_of, is_masked}
 use Rattle.lsa_codec.specs.Spelling.{address_text, prefix_text}
+use Rattle.text_words.specs.Numbers.{number_up_to}
+use Rattle.text_words.specs.Addresses.{address_of}
+use Rattle.text_words.proofs.OptionLemmas.{then_some}
+use Rattle.text_words.proofs.NumberLemmas.{number_spelled}
+use Rattle.text_words.proofs.AddressLemmas.{address_spelled}
 use Rattle.edit_script.specs.declared.edit.MetricType.{MetricType}
 use Rattle.edit_script.specs.declared.edit.MetricType.TheVariants.{Type1, Type2}
 use Rattle.edit_script.specs.declared.fault.ScriptFault.{ScriptFault}
 use Rattle.edit_script.specs.declared.fault.ScriptFault.TheVariants.{BadNumber, BadAddress, BadPrefix}
 use Rattle.edit_script.specs.Words.{Word}
-use Rattle.edit_script.specs.Arguments as arguments
-use Rattle.edit_script.specs.Arguments.{digits_after, is_number, number_up_to, two_parts, four_parts, address_of, address_of_parts, prefix_of, prefix_of_parts}
+use Rattle.edit_script.specs.Arguments.{two_parts, prefix_of, prefix_of_parts}
 use Rattle.edit_script.specs.Reading.{◌>>=◌, one_of, two_of, three_of, four_of, six_of, number, address, prefix, metric_type, none_of}
-use Rattle.edit_script.specs.Spelling.{type_text}
-use Rattle.edit_script.proofs.Numbers.{own, AreBytes, prefix_joined}
-use Rattle.lsa_codec.specs.Prefix.{IsNet}
-use Rattle.edit_script.specs.Spelling.{IsPrefix}
+use Rattle.edit_script.specs.Spelling.{type_text, IsPrefix}
+use Rattle.edit_script.proofs.Prefixes.{prefix_joined}
 
 -- ---- what a result of several steps shows of each step
-
-pub then_some : {A B : Type 0} (o : Option A) (f : A → Option B) (y : B) → arguments.◌>>=◌ o f ≡ Some y → (x : A) × ((o ≡ Some x) × (f x ≡ Some y))
-then_some (Some x) f y h = (x, (refl, h))
-then_some None f y h = absurd cc
 
 pub then_ok : {A B : Type 0} (r : Result A ScriptFault) (f : A → Result B ScriptFault) (y : B) → (r >>= f) ≡ Ok y
     → (x : A) × ((r ≡ Ok x) × (f x ≡ Ok y))
@@ -56,81 +50,6 @@ four_same a b c d e f g h first second third fourth = rw (first, second, third, 
 pub six_same : (a b c d e f g h i j k l : Word) → a ≡ g → b ≡ h → c ≡ i → d ≡ j → e ≡ k → f ≡ l
     → a ∷ b ∷ c ∷ d ∷ e ∷ f ∷ [] ≡ g ∷ h ∷ i ∷ j ∷ k ∷ l ∷ []
 six_same a b c d e f g h i j k l first second third fourth fifth sixth = rw (first, second, third, fourth, fifth, sixth) refl
-
--- ---- numbers
-
-abbrev some : ℕ → Option ℕ
-some m = Some m
-
-abbrev none : Option ℕ
-none = None
-
-alone : (first long : Bool) → (not first || long) ≡ true → first ≡ true → long ≡ true
-alone true long h e = h
-alone false long h e = absurd cc
-
-pub number_spelled : (max : ℕ) (word : Word) (n : ℕ) → max < 2 ^ 64 → number_up_to max word ≡ Some n → (word ≡ decimal n) × (n ≤ max)
-unfolding number_up_to
-number_spelled max word n small h =
-    elim (cases_Bool (is_number word && leb (digits_after 0 word) max)) [
-      | inl holds ↦
-          let both = and_parts (is_number word) (leb (digits_after 0 word) max) holds in
-          let le : digits_after 0 word ≤ max = leb-true (digits_after 0 word) max both.1 in
-          let found : some (digits_after 0 word) ≡ some n = sym (cond-true _ (some (digits_after 0 word)) none holds) ∙ h in
-          let same : digits_after 0 word ≡ n = cc in
-          let parts = and_parts (ltb 0 (length word) && all_ascii_digits word) (not (eqb (get_or word 0 0) 48) || eqb (length word) 1) both.0 in
-          let front = and_parts (ltb 0 (length word)) (all_ascii_digits word) parts.0 in
-          let lead : get_or word 0 0 ≡ 48 → length word ≡ 1 = λ e. eqb-true (length word) 1
-          (alone (eqb (get_or word 0 0) 48) (eqb (length word) 1) parts.1 (eq-eqb (get_or word 0 0) 48 e)) in
-          (sym (decimal-digits_value own word front.1 (ltb-true 0 (length word) front.0) lead (omega arith)) ∙ ap decimal same, omega arith)
-      | inr fails ↦ absurd (let found : none ≡ some n = sym (cond-false _ (some (digits_after 0 word)) none fails) ∙ h in cc)
-    ]
-
--- ---- addresses
-
-four_parts_are : (parts : List Word) (p : Word × Word × Word × Word) → four_parts parts ≡ Some p → parts ≡ p.0 ∷ p.1 ∷ p.2 ∷ p.3 ∷ []
-four_parts_are [] p h = absurd cc
-four_parts_are (a ∷ []) p h = absurd cc
-four_parts_are (a ∷ b ∷ []) p h = absurd cc
-four_parts_are (a ∷ b ∷ c ∷ []) p h = absurd cc
-four_parts_are (a ∷ b ∷ c ∷ d ∷ []) p h = let same : (a, b, c, d) ≡ p = cc in ap (λ (q : Word × Word × Word × Word). q.0 ∷ q.1 ∷ q.2 ∷ q.3 ∷ []) same
-four_parts_are (a ∷ b ∷ c ∷ d ∷ e ∷ parts) p h = absurd cc
-
-are_bytes : (a b c d : ℕ) → AreBytes a b c d → (i : ℕ) → get_or (a ∷ b ∷ c ∷ d ∷ []) i 0 < 256
-are_bytes a b c d h zero = omega (arith, h.first)
-are_bytes a b c d h (suc zero) = omega (arith, h.second)
-are_bytes a b c d h (suc (suc zero)) = omega (arith, h.third)
-are_bytes a b c d h (suc (suc (suc zero))) = omega (arith, h.fourth)
-are_bytes a b c d h (suc (suc (suc (suc i)))) = omega arith
-
-text_of_bytes : (a b c d n : ℕ) → AreBytes a b c d → from_be_bytes w32 (a ∷ b ∷ c ∷ d ∷ []) ≡ n
-    → join_with_byte 46 (decimal a ∷ decimal b ∷ decimal c ∷ decimal d ∷ []) ≡ address_text n
-text_of_bytes a b c d n h e =
-    ap (λ (bytes : List ℕ). join_with_byte 46 (map decimal bytes)) (sym (be_bytes_4 (a ∷ b ∷ c ∷ d ∷ []) n refl (are_bytes a b c d h) (sym e)))
-
-number_of_bytes : (a b c d : ℕ) → AreBytes a b c d → from_be_bytes w32 (a ∷ b ∷ c ∷ d ∷ []) < 2 ^ 32
-number_of_bytes a b c d h = omega (arith, h.first, h.second, h.third, h.fourth)
-
-pub address_spelled : (word : Word) (n : ℕ) → address_of word ≡ Some n → (word ≡ address_text n) × (n < 2 ^ 32)
-unfolding address_of_parts
-address_spelled word n h =
-    let parts = then_some (four_parts (slice_split (λ b. eqb b 46) word)) _ n h in
-    let p = parts.0 in
-    let first = then_some (number_up_to 255 p.0) _ n parts.1.1 in
-    let second = then_some (number_up_to 255 p.1) _ n first.1.1 in
-    let third = then_some (number_up_to 255 p.2) _ n second.1.1 in
-    let fourth = then_some (number_up_to 255 p.3) _ n third.1.1 in
-    let a = number_spelled 255 p.0 first.0 (omega arith) first.1.0 in
-    let b = number_spelled 255 p.1 second.0 (omega arith) second.1.0 in
-    let c = number_spelled 255 p.2 third.0 (omega arith) third.1.0 in
-    let d = number_spelled 255 p.3 fourth.0 (omega arith) fourth.1.0 in
-    let split : slice_split (λ b. eqb b 46) word ≡ decimal first.0 ∷ decimal second.0 ∷ decimal third.0 ∷ decimal fourth.0 ∷ [] =
-    four_parts_are _ p parts.1.0 ∙ four_same _ _ _ _ _ _ _ _ a.0 b.0 c.0 d.0 in
-    let value : from_be_bytes w32 (first.0 ∷ second.0 ∷ third.0 ∷ fourth.0 ∷ []) ≡ n = let found = fourth.1.1 in cc in
-    let bytes : AreBytes first.0 second.0 third.0 fourth.0 = record { first = a.1; second = b.1; third = c.1; fourth = d.1 } in (
-      sym (join_with_byte-slice_split 46 word) ∙ ap (join_with_byte 46) split ∙ text_of_bytes first.0 second.0 third.0 fourth.0 n bytes value,
-      subst (λ (m : ℕ). m < 2 ^ 32) value (number_of_bytes first.0 second.0 third.0 fourth.0 bytes),
-    )
 
 -- ---- prefixes
 

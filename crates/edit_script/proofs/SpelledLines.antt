@@ -9,13 +9,14 @@ use Rattle.edit_script.specs.declared.command.Command.TheVariants as command
 use Rattle.edit_script.specs.declared.fault.ScriptFault.{ScriptFault}
 use Rattle.edit_script.specs.declared.fault.ScriptFault.TheVariants.{BadBranch}
 use Rattle.edit_script.specs.Words.{Word}
-use Rattle.edit_script.specs.Arguments.{number_up_to}
+use Rattle.text_words.specs.Numbers.{number_up_to}
 use Rattle.edit_script.specs.Reading.{◌>>=◌, one_of, number, address, edit_of, none_of, undo_of, redo_of, table_of, tables_of, compare_of, info_of}
 use Rattle.edit_script.specs.Reading.{edit_command, command_of}
 use Rattle.edit_script.specs.Line.{branch_of, in_branch, after_branch, meaning_of_words}
 use Rattle.edit_script.specs.Spelling.{command_words, branch_word, Says}
 use Rattle.edit_script.specs.Spelling.{IsInRange}
-use Rattle.edit_script.proofs.SpelledArguments.{then_ok, same_ok, of_ok, number_spelled, number_read, address_read, none_are, one_is}
+use Rattle.text_words.proofs.NumberLemmas.{number_spelled}
+use Rattle.edit_script.proofs.SpelledArguments.{then_ok, same_ok, of_ok, number_read, address_read, none_are, one_is}
 use Rattle.edit_script.proofs.SpelledEdits.{IsEdit, cost_read, drop_link_read, fail_link_read, fail_net_read, fail_router_read, add_stub_read}
 use Rattle.edit_script.proofs.SpelledEdits.{summary_read, add_summary_read, add_external_read, drop_external_read, refresh_read}
 

@@ -4,7 +4,7 @@ use Rattle.edit_script.specs.declared.command.Command.{Command}
 use Rattle.edit_script.specs.declared.fault.ScriptFault.{ScriptFault}
 use Rattle.edit_script.specs.declared.fault.ScriptFault.TheVariants.{Empty, MissingWord, BadBranch}
 use Rattle.edit_script.specs.Words.{Word, words}
-use Rattle.edit_script.specs.Arguments.{number_up_to}
+use Rattle.text_words.specs.Numbers.{number_up_to}
 use Rattle.edit_script.specs.Reading.{◌>>=◌, command_of}
 
 -- the branch that a word names: a number 0 to 7 after its `@`

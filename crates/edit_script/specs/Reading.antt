@@ -11,7 +11,9 @@ use Rattle.edit_script.specs.declared.command.Command.TheVariants as command
 use Rattle.edit_script.specs.declared.fault.ScriptFault.{ScriptFault}
 use Rattle.edit_script.specs.declared.fault.ScriptFault.TheVariants.{UnknownWord, MissingWord, ExtraWord, BadNumber, BadAddress, BadPrefix}
 use Rattle.edit_script.specs.Words.{Word}
-use Rattle.edit_script.specs.Arguments.{number_up_to, address_of, prefix_of}
+use Rattle.text_words.specs.Numbers.{number_up_to}
+use Rattle.text_words.specs.Addresses.{address_of}
+use Rattle.edit_script.specs.Arguments.{prefix_of}
 
 infixl 10 ◌>>=◌
 abbrev pub ◌>>=◌ : {A B : Type 0} → Result A ScriptFault → (A → Result B ScriptFault) → Result B ScriptFault

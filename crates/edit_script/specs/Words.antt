@@ -1,17 +1,9 @@
 -- The words of a line.
-use Rattle.std.specs.Prelude.{ℕ, ◌==◌, ◌||◌, Bool, List, length, nat_lt, filter}
-use Rattle.std.specs.List.{slice_split}
+use Rattle.std.specs.Prelude.{ℕ, List}
+use Rattle.text_words.specs.declared.blanks.Blanks.TheVariants.{InLine}
+use Rattle.text_words.specs.Words as any
+pub use Rattle.text_words.specs.Words.{Word}
 
-abbrev pub Word : Type 0
-Word = List ℕ
-
--- a space, a tab or a carriage return
-abbrev pub is_blank : ℕ → Bool
-is_blank byte = byte == 0x20 || byte == 0x09 || byte == 0x0d
-
-abbrev pub is_nonempty : Word → Bool
-is_nonempty word = nat_lt 0 (length word)
-
--- the words of a line, from left to right: its maximal runs of bytes that are not blanks
+-- the words of a line, from left to right: its maximal runs of bytes other than spaces, tabs and carriage returns
 abbrev pub words : List ℕ → List Word
-words line = filter is_nonempty (slice_split is_blank line)
+words line = any.words InLine line

@@ -4,11 +4,11 @@ ghost use Rattle.std.specs.Prelude.{◌≡◌, ◌<◌, IfOk};
 ghost use Rattle.edit_script.specs.Words.{words};
 ghost use Rattle.edit_script.specs.Line.{branch_of, after_branch, meaning};
 
-use crate::arguments::number_up_to;
 use crate::command::Command;
 use crate::commands::command;
 use crate::fault::ScriptFault;
 use crate::words::next_word;
+use text_words::number_up_to;
 
 /// The branch that a word names, a number 0 to 7 after its `@`; else S8.
 fn branch(word: &[u8]) -> Result<u8, ScriptFault>

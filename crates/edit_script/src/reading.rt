@@ -6,11 +6,12 @@ ghost use Rattle.edit_script.specs.Words.{words};
 ghost use Rattle.edit_script.specs.declared.fault.ScriptFault.TheVariants.{MissingWord};
 ghost use Rattle.edit_script.specs.Reading.{Gives, greatest_number16, number, address, prefix, metric_type, none_of, one_of, two_of, three_of, four_of, six_of};
 
-use crate::arguments::{address_of, number_up_to, prefix_of};
+use crate::arguments::prefix_of;
 use crate::edit::MetricType;
 use crate::fault::ScriptFault;
 use crate::words::next_word;
 use lsa_codec::{LS_INFINITY, Metric, Prefix};
+use text_words::{address_of, number_up_to};
 
 /// The greatest number of 16 bits, for the number of a link and its metric (RFC 2328, A.4.2).
 const GREATEST_NUMBER16: u32 = 65_535;

@@ -9,7 +9,7 @@ use Rattle.std.specs.declared.cmp.Ordering.{Ordering}
 use Rattle.std.proofs.lemmas.List.{append-nil, take_more}
 use Rattle.std.proofs.lemmas.List.Elements.{All-filter, All-head, All-tail, filter-append}
 use Rattle.area_graph.specs.Least.{later, least, lesser}
-use Rattle.area_routes.proofs.LeastLemmas.{least_push}
+use Rattle.best_ways.proofs.LeastLemmas.{least_push}
 
 module _ {K : Type 0} (R : K → K → Ordering) (P : K → Type 0) where
   -- the least of a list has what all have

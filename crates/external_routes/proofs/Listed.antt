@@ -10,11 +10,12 @@ use Rattle.lsa_codec.specs.Prefix.{Net}
 use Rattle.lsa_codec.specs.Views.{forward_of, is_type2_of, metric_of, net_of_lsa, ls_infinity}
 use Rattle.lsa_codec.proofs.OrderLemmas.{prefix_exact, prefix_total}
 use Rattle.area_graph.specs.Area.{is_live}
-use Rattle.area_routes.specs.Candidate.{Candidate}
+use Rattle.best_ways.specs.Candidate.{Candidate}
 use Rattle.area_routes.specs.Inter.{originator_of, same_router}
-use Rattle.area_routes.specs.Routes.{has_route, route_of, routes_of}
-use Rattle.area_routes.specs.Values.{EntryValue, RouteValue}
-use Rattle.area_routes.proofs.WayLemmas.{same_tests}
+use Rattle.best_ways.specs.Routes.{has_route, route_of, routes_of}
+use Rattle.area_routes.specs.Values.{EntryValue}
+use Rattle.best_ways.specs.Values.{RouteValue}
+use Rattle.best_ways.proofs.WayLemmas.{same_tests}
 use Rattle.external_routes.specs.declared.external_lsas.ExternalLsa.{ExternalLsa}
 use Rattle.external_routes.specs.Choose.{preferred}
 use Rattle.external_routes.specs.External.{external_candidate, path_over}

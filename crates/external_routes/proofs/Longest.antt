@@ -15,8 +15,8 @@ use Rattle.lsa_codec.specs.declared.address.Addr.{Addr}
 use Rattle.lsa_codec.specs.Prefix.{Net, mask_of_len, masked}
 use Rattle.area_graph.specs.Least.{least, lesser}
 use Rattle.lsa_codec.specs.Order.{prefix_cmp}
-use Rattle.area_routes.specs.Routes.{route_to}
-use Rattle.area_routes.specs.Values.{RouteValue}
+use Rattle.best_ways.specs.Routes.{route_to}
+use Rattle.best_ways.specs.Values.{RouteValue}
 use Rattle.lsa_codec.proofs.OrderLemmas.{prefix_exact, prefix_total}
 use Rattle.external_routes.specs.Choose.{covers, forward_match, longer}
 use Rattle.external_routes.specs.steps.Lookup.{MarksLengths}

@@ -4,7 +4,7 @@ use Rattle.std.proofs.Math.ListN.{length-set}
 use Rattle.std.proofs.lemmas.Bool.{cases_eq}
 use Rattle.std.proofs.lemmas.List.{get_or-set_other, get_or-set_same, take_all, take_more}
 use Rattle.std.proofs.lemmas.List.Elements.{All-push}
-use Rattle.area_routes.specs.Values.{RouteValue}
+use Rattle.best_ways.specs.Values.{RouteValue}
 use Rattle.external_routes.specs.steps.Lookup.{IsMarked, MarksLengths}
 
 still : (marks : List Bool) (n m : ℕ) → n < length marks → get_or marks m false ≡ true → get_or (set marks n true) m false ≡ true

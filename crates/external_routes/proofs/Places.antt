@@ -12,9 +12,9 @@ use Rattle.std.proofs.lemmas.List.{get_or_default}
 use Rattle.lsa_codec.proofs.OrderLemmas.{prefix_total}
 use Rattle.lsa_codec.specs.Order.{prefix_cmp}
 use Rattle.lsa_codec.specs.Prefix.{Net}
-use Rattle.area_routes.specs.Routes.{AreSortedRoutes, has_route, nets}
-use Rattle.area_routes.specs.Values.{RouteValue}
-use Rattle.area_routes.proofs.SearchLemmas.{found_at, not_found}
+use Rattle.best_ways.specs.Routes.{AreSortedRoutes, has_route, nets}
+use Rattle.best_ways.specs.Values.{RouteValue}
+use Rattle.best_ways.proofs.SearchLemmas.{found_at, not_found}
 use Rattle.external_routes.specs.steps.Lookup.{is_ahead, is_after}
 use Rattle.external_routes.proofs.Items.{item_found}
 use lib.Dec.{ltb}

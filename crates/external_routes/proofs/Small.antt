@@ -11,13 +11,14 @@ use Rattle.lsa_codec.specs.Prefix.{Net}
 use Rattle.lsa_codec.specs.declared.address.RouterId.{RouterId}
 use Rattle.lsa_codec.specs.Views.{forward_of, is_type2_of, metric_of, net_of_lsa, ls_infinity}
 use Rattle.area_graph.specs.Area.{is_live}
-use Rattle.area_routes.specs.declared.rank.PathType.TheVariants.{Ext1, Ext2}
-use Rattle.area_routes.specs.declared.rank.Rank.{Rank}
-use Rattle.area_routes.specs.Candidate.{Candidate}
+use Rattle.best_ways.specs.declared.rank.PathType.TheVariants.{Ext1, Ext2}
+use Rattle.best_ways.specs.declared.rank.Rank.{Rank}
+use Rattle.best_ways.specs.Candidate.{Candidate}
 use Rattle.area_routes.specs.Inter.{originator_of, same_router}
-use Rattle.area_routes.specs.Routes.{has_route}
-use Rattle.area_routes.specs.Values.{EntriesBelow, EntryValue, RouteValue, RoutesBelow}
-use Rattle.area_routes.proofs.WayLemmas.{All-filter_map}
+use Rattle.best_ways.specs.Routes.{has_route}
+use Rattle.area_routes.specs.Values.{EntriesBelow, EntryValue}
+use Rattle.best_ways.specs.Values.{RouteValue, RoutesBelow}
+use Rattle.best_ways.proofs.WayLemmas.{All-filter_map}
 use Rattle.external_routes.specs.declared.external_lsas.ExternalLsa.{ExternalLsa}
 use Rattle.external_routes.specs.Choose.{covers, entry_class, forward_match, is_asbr, longer, preference, preferred, route_class}
 use Rattle.external_routes.specs.ExternalLsas.{AreExternalLsasOf, external_lsa, is_in_use}

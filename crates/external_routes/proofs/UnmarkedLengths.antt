@@ -7,8 +7,8 @@ use Rattle.std.specs.Cmp.{Equal-is}
 use Rattle.lsa_codec.specs.Order.{prefix_cmp}
 use Rattle.lsa_codec.specs.Prefix.{Net}
 use Rattle.lsa_codec.proofs.OrderLemmas.{prefix_exact}
-use Rattle.area_routes.specs.Routes.{has_route}
-use Rattle.area_routes.specs.Values.{RouteValue}
+use Rattle.best_ways.specs.Routes.{has_route}
+use Rattle.best_ways.specs.Values.{RouteValue}
 use Rattle.external_routes.specs.steps.Lookup.{MarksLengths}
 use Rattle.external_routes.proofs.Longest.{find_none}
 

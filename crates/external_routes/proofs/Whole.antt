@@ -5,10 +5,11 @@ use Rattle.lsa_codec.specs.declared.address.RouterId.{RouterId}
 use Rattle.lsdb.specs.declared.section.Section.TheVariants.{AsWide}
 use Rattle.lsdb.specs.Lists.{Lists, lsas_of}
 use Rattle.lsa_codec.specs.Prefix.{Net}
-use Rattle.area_routes.specs.Best.{Gathers}
-use Rattle.area_routes.specs.Candidate.{Candidate}
-use Rattle.area_routes.specs.Routes.{routes_of}
-use Rattle.area_routes.specs.Values.{EntryValue, RouteValue}
+use Rattle.best_ways.specs.Best.{Gathers}
+use Rattle.best_ways.specs.Candidate.{Candidate}
+use Rattle.best_ways.specs.Routes.{routes_of}
+use Rattle.area_routes.specs.Values.{EntryValue}
+use Rattle.best_ways.specs.Values.{RouteValue}
 use Rattle.external_routes.specs.declared.external_lsas.ExternalLsa.{ExternalLsa}
 use Rattle.external_routes.specs.Flooding.{is_attached_outside_stubs}
 use Rattle.external_routes.specs.External.{external_candidate, externals_of}

@@ -8,9 +8,10 @@ use Rattle.lsa_codec.specs.declared.address.Addr.{Addr}
 use Rattle.lsa_codec.specs.declared.address.RouterId.{RouterId}
 use Rattle.lsa_codec.specs.Prefix.{Net, mask_of_len}
 use Rattle.area_graph.specs.Least.{least}
-use Rattle.area_routes.specs.declared.rank.PathType.{PathType}
-use Rattle.area_routes.specs.declared.rank.PathType.TheVariants.{Intra, Inter, Ext1, Ext2}
-use Rattle.area_routes.specs.Values.{EntryValue, RouteValue}
+use Rattle.best_ways.specs.declared.rank.PathType.{PathType}
+use Rattle.best_ways.specs.declared.rank.PathType.TheVariants.{Intra, Inter, Ext1, Ext2}
+use Rattle.area_routes.specs.Values.{EntryValue}
+use Rattle.best_ways.specs.Values.{RouteValue}
 use Rattle.area_routes.specs.declared.entry.EntryKind.{EntryKind}
 use Rattle.area_routes.specs.declared.entry.EntryKind.TheVariants.{Border, AsbrIntra, AsbrInter}
 use Rattle.area_routes.specs.Inter.{same_router}

@@ -13,12 +13,13 @@ use Rattle.lsdb.specs.Lists.{Lists, lsas_of}
 use Rattle.area_graph.specs.Area.{is_live}
 use Rattle.next_hops.specs.declared.hop.Hop.{Hop}
 use Rattle.next_hops.specs.Hop.{extended}
-use Rattle.area_routes.specs.declared.rank.PathType.TheVariants.{Ext1, Ext2}
-use Rattle.area_routes.specs.declared.rank.Rank.{Rank}
-use Rattle.area_routes.specs.Values.{EntryValue, RouteValue}
-use Rattle.area_routes.specs.Candidate.{Candidate}
+use Rattle.best_ways.specs.declared.rank.PathType.TheVariants.{Ext1, Ext2}
+use Rattle.best_ways.specs.declared.rank.Rank.{Rank}
+use Rattle.area_routes.specs.Values.{EntryValue}
+use Rattle.best_ways.specs.Values.{RouteValue}
+use Rattle.best_ways.specs.Candidate.{Candidate}
 use Rattle.area_routes.specs.Inter.{originator_of, same_router}
-use Rattle.area_routes.specs.Routes.{has_route, routes_of}
+use Rattle.best_ways.specs.Routes.{has_route, routes_of}
 use Rattle.external_routes.specs.Flooding.{is_attached_outside_stubs}
 use Rattle.external_routes.specs.Choose.{entry_class, forward_match, preferred, route_class}
 

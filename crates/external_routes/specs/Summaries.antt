@@ -13,8 +13,9 @@ use Rattle.lsdb.specs.Lists.{AreaHead, Lists, areas_of}
 use Rattle.area_graph.specs.Area.{is_live}
 use Rattle.area_routes.specs.Attached.{attached_areas, is_attached}
 use Rattle.area_routes.specs.Inter.{is_summary, named_router, originator_of}
-use Rattle.area_routes.specs.Routes.{route_to}
-use Rattle.area_routes.specs.Values.{EntryValue, RouteValue}
+use Rattle.best_ways.specs.Routes.{route_to}
+use Rattle.area_routes.specs.Values.{EntryValue}
+use Rattle.best_ways.specs.Values.{RouteValue}
 use Rattle.external_routes.specs.Choose.{is_asbr_intra, is_intra, preferred}
 
 -- ---- the LSAs

@@ -3,8 +3,8 @@
 ghost use Rattle.std.specs.Prelude.{◌≡◌, ◌<◌, ◌^◌, ◌++◌, ◌∷◌, [], true, false, List, OnOk, MatchOption};
 ghost use Rattle.std.specs.List.{cons_option};
 ghost use Rattle.lsa_codec.specs.Prefix.{Net};
-ghost use Rattle.area_routes.specs.Best.{Gathers};
-ghost use Rattle.area_routes.specs.Candidate.{Candidate};
+ghost use Rattle.best_ways.specs.Best.{Gathers};
+ghost use Rattle.best_ways.specs.Candidate.{Candidate};
 ghost use Rattle.external_routes.specs.steps.Paths.{candidate_of, by_entry, by_route, rank_over, over};
 
 use crate::choose::{entry_class, route_class};

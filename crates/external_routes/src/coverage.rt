@@ -2,44 +2,15 @@
 
 ghost use Rattle.std.specs.Prelude.{◌≡◌};
 ghost use Rattle.lsdb.specs.Slots.{lists_of};
-ghost use Rattle.external_routes.specs.Summaries.{borders, is_attached_elsewhere, is_calculated};
-ghost use Rattle.external_routes.specs.Summaries.{is_covered, is_default, is_stub_area};
+ghost use Rattle.external_routes.specs.Summaries.{borders, is_calculated};
+ghost use Rattle.external_routes.specs.Summaries.{is_covered, is_default};
 ghost use Rattle.external_routes.specs.Summaries.{is_stub_default};
 
+use crate::areas::{is_attached_elsewhere, is_stub_area};
 use area_routes::is_attached;
 use lsa_codec::{AreaId, Lsa, Prefix, RouterId};
 use lsdb::Database;
 use std::alloc::Allocator;
-
-/// Whether an area of the database is a stub area (RFC 2328, 3.6).
-pub(crate) fn is_stub_area<A: Allocator + Copy>(database: &Database<A>, area: AreaId) -> bool
-    ensures { result ≡ is_stub_area (lists_of database.now) area }
-{
-    for i in 0..database.area_count() {
-        let (other, is_stub) = database.area(i);
-        if is_stub && other == area {
-            return true;
-        }
-    }
-    false
-}
-
-/// Whether a router is attached to an area other than this one.
-fn is_attached_elsewhere<A: Allocator + Copy>(
-    database: &Database<A>,
-    area: AreaId,
-    router: RouterId,
-) -> bool
-    ensures { result ≡ is_attached_elsewhere (lists_of database.now) area router }
-{
-    for i in 0..database.area_count() {
-        let (other, _is_stub) = database.area(i);
-        if other != area && is_attached(database, other, router) {
-            return true;
-        }
-    }
-    false
-}
 
 /// Whether a router belongs to this area and to another one, as an area border router does.
 fn borders<A: Allocator + Copy>(database: &Database<A>, area: AreaId, router: RouterId) -> bool

@@ -7,8 +7,8 @@ ghost use Rattle.external_routes.specs.Summaries.{announced_cost, asbr_of_summar
 ghost use Rattle.external_routes.specs.Summaries.{cost_of_net, due, is_among, is_announced_entry};
 ghost use Rattle.external_routes.specs.Summaries.{is_announced_route, metric_for};
 
+use crate::areas::is_stub_area;
 use crate::choose::preferred;
-use crate::coverage::is_stub_area;
 use area_routes::{EntryKind, InsideRoutes, PathType, Route, RouterEntries, RouterEntry};
 use lsa_codec::{ASBR_SUMMARY_LSA, AreaId, LS_INFINITY, Lsa, Prefix, RouterId};
 use lsdb::Database;

@@ -3,7 +3,7 @@
 ghost use Rattle.std.specs.Prelude.{◌≡◌, ◌≤◌, length};
 ghost use Rattle.std.specs.Option.{option_copied};
 ghost use Rattle.lsa_codec.specs.Prefix.{masked};
-ghost use Rattle.area_routes.specs.Routes.{route_to};
+ghost use Rattle.best_ways.specs.Routes.{route_to};
 ghost use Rattle.external_routes.specs.Choose.{forward_match};
 ghost use Rattle.external_routes.specs.steps.Lookup.{MarksLengths};
 

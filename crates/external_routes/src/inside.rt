@@ -2,7 +2,7 @@
 
 ghost use Rattle.std.specs.Prelude.{◌≡◌, ◌<◌, ◌^◌, IfSome, IfOk, Some};
 ghost use Rattle.std.specs.Option.{option_copied};
-ghost use Rattle.area_routes.specs.Routes.{has_route};
+ghost use Rattle.best_ways.specs.Routes.{has_route};
 ghost use Rattle.external_routes.specs.Choose.{forward_match, preferred};
 ghost use Rattle.external_routes.specs.steps.Lookup.{WaysBelow};
 

@@ -5,8 +5,8 @@
 //! AS, which the crate `area_routes` has found.
 #![tactic(auto)]
 
-// Whether AS-external-LSAs are flooded to a router.
-mod flooding;
+// Which areas a router is attached to.
+mod areas;
 
 // Ways inside the AS: which is preferred, and how they are looked up.
 mod asbr_map;

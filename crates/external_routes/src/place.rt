@@ -1,7 +1,7 @@
 //! Places of prefixes among routes in order of prefix.
 
 ghost use Rattle.std.specs.Prelude.{◌≡◌, false, true};
-ghost use Rattle.area_routes.specs.Routes.{AreSortedRoutes, has_route};
+ghost use Rattle.best_ways.specs.Routes.{AreSortedRoutes, has_route};
 ghost use Rattle.external_routes.specs.steps.Lookup.{is_ahead, is_after};
 
 use area_routes::{Route, Routes};

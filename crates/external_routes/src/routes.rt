@@ -5,15 +5,15 @@ ghost use Rattle.std.specs.List.{filter_map};
 ghost use Rattle.lsdb.specs.declared.section.Section.TheVariants.{AsWide};
 ghost use Rattle.lsdb.specs.Lists.{lsas_of};
 ghost use Rattle.lsdb.specs.Slots.{lists_of};
-ghost use Rattle.area_routes.specs.Best.{Gathers};
-ghost use Rattle.area_routes.specs.Values.{RoutesBelow};
+ghost use Rattle.best_ways.specs.Best.{Gathers};
+ghost use Rattle.best_ways.specs.Values.{RoutesBelow};
 ghost use Rattle.external_routes.specs.External.{externals_of};
 ghost use Rattle.external_routes.specs.ExternalLsas.{AreExternalLsasOf};
 ghost use Rattle.external_routes.specs.steps.Paths.{candidate_of};
 
+use crate::areas::is_attached_outside_stubs;
 use crate::candidates::add_external_candidate;
 use crate::external_lsas::{ExternalLsa, ExternalLsas};
-use crate::flooding::is_attached_outside_stubs;
 use crate::inside::Inside;
 use area_routes::{BestWays, InsideRoutes, RouterEntries, Routes};
 use lsa_codec::{Prefix, RouterId};

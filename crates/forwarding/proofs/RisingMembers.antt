@@ -15,7 +15,7 @@ use Rattle.lsa_codec.proofs.OrderLemmas.{router_exact}
 use Rattle.area_graph.specs.Rising.{rising}
 use Rattle.area_graph.proofs.MemberLemmas.{In, Contains-from_In, In-cases, In-from_Contains, In-left, In-right}
 use Rattle.area_graph.proofs.RisingLemmas.{Contains-rising, rising-is, rising-pairs}
-use Rattle.area_routes.proofs.RisingLemmas.{any_insert, any_rising, rising_is, sorted_insert, sorted_rising}
+use Rattle.best_ways.proofs.RisingLemmas.{any_insert, any_rising, rising_is, sorted_insert, sorted_rising}
 
 swapped : (a b : Bool) → (a || b) ≡ (b || (a || false))
 swapped true true = refl

@@ -7,7 +7,7 @@ use Rattle.lsa_codec.specs.Order.{router_cmp}
 use Rattle.lsa_codec.specs.declared.address.RouterId.{RouterId}
 use Rattle.lsa_codec.proofs.OrderLemmas.{router_total}
 use Rattle.lsdb.specs.Lists.{Lists}
-use Rattle.area_routes.proofs.RisingLemmas.{sorted_rising}
+use Rattle.best_ways.proofs.RisingLemmas.{sorted_rising}
 use Rattle.routing_table.specs.AreaLsas.{area_lsas}
 use Rattle.routing_table.specs.Routers.{attached_routers, live_router}
 use Rattle.forwarding.specs.Matches.{RouterValue, router_in}

@@ -10,10 +10,10 @@ use Rattle.lsa_codec.specs.declared.address.RouterId.{RouterId}
 use Rattle.lsdb.specs.Lists.{Lists}
 use Rattle.next_hops.specs.declared.hop.Hop.{Hop}
 use Rattle.next_hops.specs.declared.hop.Hop.TheVariants.{Connected, Link, Attached, Gateway}
-use Rattle.area_routes.specs.Routes.{route_to}
-use Rattle.area_routes.specs.Values.{RouteValue}
-use Rattle.area_routes.specs.declared.rank.PathType.{PathType}
-use Rattle.area_routes.specs.declared.rank.PathType.TheVariants.{Intra, Inter, Ext1, Ext2}
+use Rattle.best_ways.specs.Routes.{route_to}
+use Rattle.best_ways.specs.Values.{RouteValue}
+use Rattle.best_ways.specs.declared.rank.PathType.{PathType}
+use Rattle.best_ways.specs.declared.rank.PathType.TheVariants.{Intra, Inter, Ext1, Ext2}
 use Rattle.routing_table.specs.Tables.{table_in}
 use Rattle.forwarding.specs.OwnExternals.{own_externals}
 use Rattle.forwarding.specs.Ways.{ways_of}

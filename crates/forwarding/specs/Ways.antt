@@ -5,9 +5,9 @@ use Rattle.lsa_codec.specs.declared.address.RouterId.{RouterId}
 use Rattle.lsdb.specs.Lists.{Lists}
 use Rattle.next_hops.specs.declared.hop.Hop.{Hop}
 use Rattle.next_hops.specs.declared.hop.Hop.TheVariants.{Connected, Link, Attached, Gateway}
-use Rattle.area_routes.specs.Values.{RouteValue}
-use Rattle.area_routes.specs.declared.rank.PathType.{PathType}
-use Rattle.area_routes.specs.declared.rank.PathType.TheVariants.{Intra, Inter, Ext1, Ext2}
+use Rattle.best_ways.specs.Values.{RouteValue}
+use Rattle.best_ways.specs.declared.rank.PathType.{PathType}
+use Rattle.best_ways.specs.declared.rank.PathType.TheVariants.{Intra, Inter, Ext1, Ext2}
 use Rattle.forwarding.specs.declared.way.Way.{Way}
 use Rattle.forwarding.specs.declared.way.Way.TheVariants.{Via, Direct, Exit}
 use Rattle.forwarding.specs.Owners.{far_ends, owners}

@@ -3,7 +3,8 @@ use Rattle.std.specs.Prelude.{ℕ, List, Option}
 use Rattle.json.specs.Json.{Json, Members}
 use Rattle.json.specs.Find.{get, as_str, as_number, as_object}
 use Rattle.frr_text.specs.Rules.{◌>>=◌}
-use Rattle.frr_text.specs.Numbers.{number_up_to, hex_up_to, address_of}
+use Rattle.text_words.specs.Numbers.{number_up_to, hex_up_to}
+use Rattle.text_words.specs.Addresses.{address_of}
 
 -- the text of the member of this name
 unfoldable pub text_at : List ℕ → Json → Option (List ℕ)

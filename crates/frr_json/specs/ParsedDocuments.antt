@@ -10,7 +10,7 @@ use Rattle.frr_text.specs.declared.ls_type.LsType.{LsType}
 use Rattle.frr_text.specs.declared.ls_type.LsType.TheVariants as types
 use Rattle.frr_text.specs.declared.parsed_part.ParsedPart.{ParsedPart}
 use Rattle.frr_text.specs.declared.parsed_part.ParsedPart.TheVariants as contents
-use Rattle.frr_text.specs.Numbers.{address_of}
+use Rattle.text_words.specs.Addresses.{address_of}
 use Rattle.frr_text.specs.ParsedParts.{rebuilt}
 use Rattle.frr_text.specs.Words.{Word}
 use Rattle.frr_json.specs.Members.{members_at}

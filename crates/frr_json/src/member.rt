@@ -5,9 +5,9 @@ ghost use Rattle.json.specs.Find.{as_array, as_object};
 ghost use Rattle.json.specs.Value.{value_view, items_view, members_view};
 ghost use Rattle.frr_json.specs.Members.{text_at, number_at, hex_at, address_at, members_at};
 
-use frr_text::{address_of, hex_up_to, number_up_to};
 use json::Value;
 use std::alloc::Allocator;
+use text_words::{address_of, hex_up_to, number_up_to};
 
 /// The items of an array.
 pub(crate) fn items_of<'v, 'a, A: Allocator>(json: &'v Value<'a, A>) -> Option<&'v [Value<'a, A>]>

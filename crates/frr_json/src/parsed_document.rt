@@ -10,10 +10,11 @@ use crate::body::body_in;
 use crate::header::header_in;
 use crate::member::{items_of, members_at};
 use frr_text::fields::{Header, LsType};
-use frr_text::{ParsedPart, TextFinding, address_of, rebuilt};
+use frr_text::{ParsedPart, TextFinding, rebuilt};
 use json::Value;
 use lsa_codec::AreaId;
 use std::alloc::{AllocError, Allocator};
+use text_words::address_of;
 
 /// The name of the database of the LSAs of this type.
 fn database_name(ls_type: LsType) -> &'static str

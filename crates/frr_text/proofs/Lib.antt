@@ -1,6 +1,3 @@
-pub mod Split
-pub mod Digits
-pub mod Hex
 pub mod Reading
 pub mod ParsedParts
 pub mod PrintedNumbers

@@ -1,5 +1,5 @@
 -- What is printed after a header is read again.
-use Rattle.std.proofs.Common.{◌≡◌, ℕ, suc, ◌+◌, ◌*◌, ◌-◌, ◌/◌, ◌^◌, ◌<◌, ◌≤◌, Bool, true, false, List, [], ◌∷◌, ◌++◌, length, append_assoc, Option, Some, None, refl, ap, ◌∙◌, arith, inl, inr}
+use Rattle.std.proofs.Common.{◌≡◌, ℕ, ◌+◌, ◌*◌, ◌-◌, ◌/◌, ◌^◌, ◌<◌, ◌≤◌, Bool, true, false, List, [], ◌∷◌, ◌++◌, length, append_assoc, Option, Some, None, refl, ap, ◌∙◌, arith, inl, inr}
 use Rattle.std.specs.Prelude.{decimal, option_map}
 use Rattle.std.specs.Int.{w16, w32, to_be_bytes}
 use Rattle.std.specs.List.{flat_map, All, AllByRecursion}
@@ -15,23 +15,23 @@ use Rattle.frr_text.specs.declared.router.LinkType.TheVariants as links
 use Rattle.frr_text.specs.declared.summary.Summary.{Summary}
 use Rattle.frr_text.specs.Words.{Word, words}
 use Rattle.frr_text.specs.Rules.{Rule, or_else, first_of_all, times}
-use Rattle.frr_text.specs.Numbers.{number_up_to, mask_length, address_of}
-use Rattle.frr_text.specs.Labels.{text_of, after_words, after_label}
+use Rattle.text_words.specs.Numbers.{number_up_to}
+use Rattle.text_words.specs.Addresses.{address_of}
+use Rattle.frr_text.specs.Numbers.{mask_length}
+use Rattle.text_words.specs.Words.{after_words}
+use Rattle.frr_text.specs.Labels.{text_of, after_label}
 use Rattle.frr_text.specs.Bodies.{link_label, link_id_label, data_label, link_as, link_in, link_bytes, router_in, attached_in, network_in, summary_in, summary_bytes, type1_or, type2_or, metric_type_in, external_in, external_bytes, body_as, body_in}
 use Rattle.frr_text.specs.Printing.{printed_mask, label_words, said}
 use Rattle.frr_text.specs.PrintingBodies.{link_words, LinkFits, router_words, attached_words, network_words, summary_words, SummaryFits, metric_type_label, external_words, ExternalFits}
 use Rattle.frr_text.specs.PrintingBodies.{Body, of_router, of_network, of_summary, of_external, body_words, body_bytes, BodyFits}
-use Rattle.frr_text.proofs.PrintedNumbers.{number_again, mask_again, address_again}
+use Rattle.std.proofs.lemmas.List.Elements.{All-head, All-tail}
+use Rattle.text_words.proofs.NumberLemmas.{number_again}
+use Rattle.text_words.proofs.AddressLemmas.{address_again}
+use Rattle.frr_text.proofs.PrintedNumbers.{mask_again}
 use Rattle.frr_text.proofs.PrintedLabels.{label_again, value_again}
 use Rattle.frr_text.proofs.PrintedFields.{after_four, after_five}
 
 -- ---- what is read several times
-
-pub All-head : {X : Type 0} (P : X → Type 0) (x : X) (xs : List X) → All P (x ∷ xs) → P x
-All-head P x xs h = h 0 x (omega arith)
-
-pub All-tail : {X : Type 0} (P : X → Type 0) (x : X) (xs : List X) → All P (x ∷ xs) → All P xs
-All-tail P x xs h = λ k d lt. h (suc k) d (omega arith)
 
 -- each is read from what is printed of it
 abbrev IsReadFrom : {X : Type 0} → Rule X → (X → List Word) → X → Type 0

@@ -12,11 +12,16 @@ use Rattle.frr_text.specs.declared.ls_type.LsType.{LsType}
 use Rattle.frr_text.specs.declared.ls_type.LsType.TheVariants as types
 use Rattle.frr_text.specs.Words.{Word, words}
 use Rattle.frr_text.specs.Rules.{◌>>=◌, or_else, first_of_all}
-use Rattle.frr_text.specs.Numbers.{number_up_to, hex_up_to, marked_up_to, address_of}
-use Rattle.frr_text.specs.Labels.{text_of, after_words, after_label, word_after, value_after}
+use Rattle.text_words.specs.Numbers.{number_up_to, hex_up_to}
+use Rattle.text_words.specs.Addresses.{address_of}
+use Rattle.frr_text.specs.Numbers.{marked_up_to}
+use Rattle.text_words.specs.Words.{after_words}
+use Rattle.frr_text.specs.Labels.{text_of, after_label, word_after, value_after}
 use Rattle.frr_text.specs.Fields.{age_and_options_in, past, past_names, flags_or, flags_in, type_label, id_label, name_as, name_in, origination_in, checksum_and_length_in, header_in}
 use Rattle.frr_text.specs.Printing.{printed_hex, printed_byte, label_words, said, Beside, age_and_options_words, names_of_bits, flags_words, name_words, origination_words, checksum_and_length_words, header_words, HeaderFits}
-use Rattle.frr_text.proofs.PrintedNumbers.{number_again, hex_again, marked_again, byte_again, address_again}
+use Rattle.text_words.proofs.NumberLemmas.{number_again}
+use Rattle.text_words.proofs.AddressLemmas.{address_again}
+use Rattle.frr_text.proofs.PrintedNumbers.{hex_again, marked_again, byte_again}
 use Rattle.frr_text.proofs.PrintedLabels.{label_again, word_again, value_again}
 
 -- ---- texts one after another
@@ -220,8 +225,7 @@ types_again types.AsbrSummary id rest h =
     (other_type types.Router (name_before types.AsbrSummary id rest) (summary_no_router (after_types types.AsbrSummary id rest)))
     ∙ passed types.Network _ (name_before types.AsbrSummary id rest)
     (other_type types.Network (name_before types.AsbrSummary id rest) (summary_no_network (after_types types.AsbrSummary id rest)))
-    ∙ passed types.Summary _ (name_before types.AsbrSummary id rest) (asbr_no_summary id rest h)
-    ∙ found types.AsbrSummary _ id rest h
+    ∙ passed types.Summary _ (name_before types.AsbrSummary id rest) (asbr_no_summary id rest h) ∙ found types.AsbrSummary _ id rest h
 types_again types.External id rest h =
     passed types.Router _ (name_before types.External id rest)
     (other_type types.Router (name_before types.External id rest) (external_no_router (after_types types.External id rest)))

@@ -1,14 +1,9 @@
 -- A heading that is printed is read again.
-use Rattle.std.proofs.Common.{◌≡◌, ℕ, ◌/◌, ◌%◌, ◌^◌, ◌<◌, ◌≤◌, true, false, eqb, cond, List, [], ◌∷◌, ◌++◌}
+use Rattle.std.proofs.Common.{◌≡◌, ℕ, ◌^◌, ◌<◌, false, eqb, cond, List, [], ◌∷◌, ◌++◌}
 use Rattle.std.proofs.Common.{append_assoc, Option, Some, None, refl, sym, ap, ◌∙◌, arith}
-use Rattle.std.specs.Prelude.{decimal, codes, option_map, All}
+use Rattle.std.specs.Prelude.{codes, option_map, All}
 use Rattle.std.specs.Option.{is_some}
-use Rattle.std.specs.Str.{all_ascii_digits}
-use Rattle.std.specs.Char.{is_ascii_digit}
-use Rattle.std.proofs.lemmas.Fmt.{digits_decimal}
-use Rattle.std.proofs.lemmas.Bool.Decides.{nat_tests}
-use Rattle.std.proofs.lemmas.Bool.{and_parts, ne_eqb}
-use Rattle.std.proofs.lemmas.List.Elements.{All-nil, All-cons, All-append}
+use Rattle.std.proofs.lemmas.Bool.{ne_eqb}
 use Rattle.std.proofs.lemmas.List.Splits.{slice_split_none, slice_split_at}
 use Rattle.lsa_codec.specs.declared.address.AreaId.{AreaId}
 use Rattle.lsa_codec.specs.Spelling.{address_text}
@@ -19,13 +14,15 @@ use Rattle.frr_text.specs.declared.label.Label.TheVariants as label
 use Rattle.frr_text.specs.declared.parsed_part.ParsedPart.{ParsedPart}
 use Rattle.frr_text.specs.declared.parsed_part.ParsedPart.TheVariants as contents
 use Rattle.frr_text.specs.Words.{Word, words}
-use Rattle.frr_text.specs.Numbers.{address_of}
-use Rattle.frr_text.specs.Labels.{text_of, after_words, after_label}
+use Rattle.text_words.specs.Addresses.{address_of}
+use Rattle.text_words.specs.Words.{after_words}
+use Rattle.frr_text.specs.Labels.{text_of, after_label}
 use Rattle.frr_text.specs.Headings.{first_part, area_of, kind_in, heading_at, area_named, area_at}
 use Rattle.frr_text.specs.ParsedParts.{kind_from, kinds_at, lsas_at, parsed_in}
 use Rattle.frr_text.specs.Printing.{label_words, said}
 use Rattle.frr_text.specs.PrintingTexts.{area_words, heading_words}
-use Rattle.frr_text.proofs.PrintedNumbers.{own, address_again}
+use Rattle.text_words.proofs.NumberLemmas.{SparesDigits}
+use Rattle.text_words.proofs.AddressLemmas.{Lacks-address, address_again}
 use Rattle.frr_text.proofs.PrintedLabels.{label_again, word_again}
 use Rattle.frr_text.proofs.PrintedQuiet.{Plain, plain_start, start_address, start_append, age_first, step, no_lsas}
 use Rattle.frr_text.proofs.PrintedTexts.{of_word, of_label, spoken}
@@ -35,23 +32,11 @@ use Rattle.frr_text.proofs.PrintedTexts.{of_word, of_label, spoken}
 abbrev NotClosing : ℕ → Type 0
 NotClosing byte = eqb byte 41 ≡ false
 
-digits_lack : (ds : List ℕ) → all_ascii_digits ds ≡ true → All NotClosing ds
-digits_lack [] h = All-nil NotClosing
-digits_lack (d ∷ ds) h =
-    let both = and_parts (is_ascii_digit d) (all_ascii_digits ds) h in
-    let low : 48 ≤ d = grind (arith, nat_tests) in
-    All-cons NotClosing d ds (ne_eqb d 41 (λ e. omega arith)) (digits_lack ds both.1)
+closing_spares : SparesDigits (λ b. eqb b 41)
+closing_spares = record { spares = λ b low high. ne_eqb b 41 (λ e. omega arith) }
 
 address_lacks : (n : ℕ) → All NotClosing (address_text n)
-address_lacks n =
-    let small : (m : ℕ) → All NotClosing (decimal (m % 256)) = λ m. digits_lack (decimal (m % 256)) (digits_decimal own (m % 256) (omega arith)) in
-    All-append NotClosing (decimal (n / 16777216 % 256))
-    (46 ∷ (decimal (n / 65536 % 256) ++ 46 ∷ (decimal (n / 256 % 256) ++ 46 ∷ decimal (n % 256)))) (small (n / 16777216))
-    (All-cons NotClosing 46 (decimal (n / 65536 % 256) ++ 46 ∷ (decimal (n / 256 % 256) ++ 46 ∷ decimal (n % 256))) refl
-    (All-append NotClosing (decimal (n / 65536 % 256)) (46 ∷ (decimal (n / 256 % 256) ++ 46 ∷ decimal (n % 256))) (small (n / 65536))
-    (All-cons NotClosing 46 (decimal (n / 256 % 256) ++ 46 ∷ decimal (n % 256)) refl
-    (All-append NotClosing (decimal (n / 256 % 256)) (46 ∷ decimal (n % 256)) (small (n / 256))
-    (All-cons NotClosing 46 (decimal (n % 256)) refl (small n))))))
+address_lacks n = Lacks-address (λ b. eqb b 41) closing_spares refl n
 
 abbrev area_from : List Word → Option AreaId
 area_from parts = option_map (λ address. record { 0 = address }) (address_of (first_part parts))

@@ -5,7 +5,8 @@ use Rattle.std.proofs.lemmas.Bool.{and_from, eq-eqb, cond-true}
 use Rattle.frr_text.specs.declared.label.Label.{Label}
 use Rattle.frr_text.specs.Words.{Word, words}
 use Rattle.frr_text.specs.Rules.{◌>>=◌}
-use Rattle.frr_text.specs.Labels.{text_of, after_words, after_label, first_word, word_after, value_after}
+use Rattle.text_words.specs.Words.{after_words}
+use Rattle.frr_text.specs.Labels.{text_of, after_label, first_word, word_after, value_after}
 use Rattle.frr_text.specs.Printing.{label_words, said}
 
 same_word : (word : Word) → bytes_eq word word ≡ true

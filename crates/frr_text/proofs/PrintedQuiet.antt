@@ -15,12 +15,13 @@ use Rattle.frr_text.specs.declared.label.Label.TheVariants as label
 use Rattle.frr_text.specs.declared.parsed_part.ParsedPart.{ParsedPart}
 use Rattle.frr_text.specs.Words.{Word, words}
 use Rattle.frr_text.specs.Rules.{◌>>=◌}
-use Rattle.frr_text.specs.Labels.{text_of, after_words, after_label, first_word, word_after}
+use Rattle.text_words.specs.Words.{after_words}
+use Rattle.frr_text.specs.Labels.{text_of, after_label, first_word, word_after}
 use Rattle.frr_text.specs.Headings.{area_named, heading_at, area_at}
 use Rattle.frr_text.specs.ParsedParts.{kinds_at, lsa_from, lsas_at, parsed_in}
 use Rattle.frr_text.specs.Printing.{printed_digit, printed_hex}
 use Rattle.frr_text.specs.PrintingTexts.{IsPlain}
-use Rattle.frr_text.proofs.PrintedNumbers.{own}
+use Rattle.text_words.proofs.NumberLemmas.{own}
 
 -- ---- at one word
 

@@ -28,7 +28,7 @@ use Rattle.frr_text.specs.ParsedParts.{key_of, in_scope, lsas_at, parsed_in}
 use Rattle.frr_text.specs.Printing.{printed_hex, printed_byte, printed_mask, label_words, said, Beside, names_of_bits, flags_words, name_words, origination_words, checksum_and_length_words, header_words, HeaderFits}
 use Rattle.frr_text.specs.PrintingBodies.{link_words, LinkFits, attached_words, metric_type_label, Body, of_router, of_network, of_summary, of_external, body_words, lsa_words, body_bytes, BodyFits}
 use Rattle.frr_text.specs.PrintingTexts.{IsPlain, ArePlain}
-use Rattle.frr_text.proofs.PrintedBodies.{All-head, All-tail}
+use Rattle.std.proofs.lemmas.List.Elements.{All-head, All-tail}
 use Rattle.frr_text.proofs.PrintedLsas.{after_age, begins, accepted_again}
 use Rattle.frr_text.proofs.PrintedQuiet.{area_none, no_heading, is_quiet, Quiet, of_test, none_said, both, Plain, plain, plain_word, plain_start, start_at, start_decimal, start_address, start_hex}
 

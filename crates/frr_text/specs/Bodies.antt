@@ -16,7 +16,9 @@ use Rattle.frr_text.specs.declared.router.LinkType.TheVariants as links
 use Rattle.frr_text.specs.declared.summary.Summary.{Summary}
 use Rattle.frr_text.specs.Words.{Word}
 use Rattle.frr_text.specs.Rules.{◌>>=◌, Rule, first_of_all, times}
-use Rattle.frr_text.specs.Numbers.{number_up_to, mask_length, address_of}
+use Rattle.text_words.specs.Numbers.{number_up_to}
+use Rattle.text_words.specs.Addresses.{address_of}
+use Rattle.frr_text.specs.Numbers.{mask_length}
 use Rattle.frr_text.specs.Labels.{after_label, value_after}
 
 -- ---- router-LSAs (A.4.2)

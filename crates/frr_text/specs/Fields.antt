@@ -12,7 +12,9 @@ use Rattle.frr_text.specs.declared.ls_type.LsType.{LsType}
 use Rattle.frr_text.specs.declared.ls_type.LsType.TheVariants as types
 use Rattle.frr_text.specs.Words.{Word}
 use Rattle.frr_text.specs.Rules.{◌>>=◌, Rule, first_of_all}
-use Rattle.frr_text.specs.Numbers.{number_up_to, hex_up_to, marked_up_to, address_of}
+use Rattle.text_words.specs.Numbers.{number_up_to, hex_up_to}
+use Rattle.text_words.specs.Addresses.{address_of}
+use Rattle.frr_text.specs.Numbers.{marked_up_to}
 use Rattle.frr_text.specs.Labels.{after_label, word_after, value_after}
 
 -- LS age and options. After the number of the options stand a colon, their letters, and the LS flags, which are the

@@ -9,7 +9,7 @@ use Rattle.lsa_instances.specs.declared.area.AreaReport.{AreaReport}
 use Rattle.frr_text.specs.declared.label.Label.TheVariants as label
 use Rattle.frr_text.specs.Words.{Word}
 use Rattle.frr_text.specs.Rules.{◌>>=◌}
-use Rattle.frr_text.specs.Numbers.{address_of}
+use Rattle.text_words.specs.Addresses.{address_of}
 use Rattle.frr_text.specs.Labels.{after_label, word_after}
 
 abbrev pub first_part : List Word → Word

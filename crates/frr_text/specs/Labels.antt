@@ -1,7 +1,8 @@
 -- Labels, as FRR prints them, and the values that follow them.
-use Rattle.std.specs.Prelude.{ℕ, ◌∷◌, [], List, codes, bytes_eq, Option, Some, None, if◌then◌else◌}
+use Rattle.std.specs.Prelude.{ℕ, ◌∷◌, [], List, codes, Option, Some, None}
 use Rattle.frr_text.specs.declared.label.Label.{Label}
 use Rattle.frr_text.specs.declared.label.Label.TheVariants as label
+use Rattle.text_words.specs.Words.{after_words}
 use Rattle.frr_text.specs.Words.{Word, words}
 use Rattle.frr_text.specs.Rules.{◌>>=◌}
 
@@ -51,12 +52,6 @@ text_of label.Router = codes "OSPF Router with ID"
 text_of label.Area = codes "(Area"
 text_of label.Stub = codes "[Stub])"
 text_of label.Nssa = codes "[NSSA])"
-
--- the words after these, where the text begins with these
-unfoldable pub after_words : List Word → List Word → Option (List Word)
-after_words [] text = Some text
-after_words (wanted ∷ front) [] = None
-after_words (wanted ∷ front) (word ∷ text) = if bytes_eq word wanted then after_words front text else None
 
 -- the words after a label, where the text begins with it
 unfoldable pub after_label : Label → List Word → Option (List Word)

@@ -1,5 +1,5 @@
 -- How an FRR router prints numbers, addresses, and the header of an LSA (RFC 2328, A.4.1), as words.
-use Rattle.std.specs.Prelude.{◌≡◌, ℕ, zero, suc, ◌+◌, ◌/◌, ◌%◌, ◌^◌, ◌<◌, ◌==◌, nat_lt, false, All, List, [], ◌∷◌, ◌++◌, length, Option, Some, None, IfSome, if◌then◌else◌, decimal}
+use Rattle.std.specs.Prelude.{ℕ, zero, suc, ◌+◌, ◌/◌, ◌%◌, ◌^◌, ◌<◌, ◌==◌, nat_lt, List, [], ◌∷◌, ◌++◌, Option, Some, None, IfSome, if◌then◌else◌, decimal}
 use Rattle.lsa_codec.specs.Spelling.{address_text}
 use Rattle.frr_text.specs.declared.header.AgeAndOptions.{AgeAndOptions}
 use Rattle.frr_text.specs.declared.header.Header.{Header}
@@ -8,16 +8,17 @@ use Rattle.frr_text.specs.declared.header.Name.{Name}
 use Rattle.frr_text.specs.declared.header.ChecksumAndLength.{ChecksumAndLength}
 use Rattle.frr_text.specs.declared.label.Label.{Label}
 use Rattle.frr_text.specs.declared.label.Label.TheVariants as label
-use Rattle.frr_text.specs.Words.{Word, is_blank, words}
+use Rattle.text_words.specs.declared.blanks.Blanks.TheVariants.{InText}
+use Rattle.text_words.specs.Words as any
+use Rattle.frr_text.specs.Words.{Word, words}
 use Rattle.frr_text.specs.Labels.{text_of}
 use Rattle.frr_text.specs.Fields.{type_label, id_label}
 
 -- ---- one word
 
 -- at least one byte, and no blank among them
-pub record IsWord (word : Word) : Type 0 where
-  pub some : 0 < length word
-  pub no_blank : All (λ byte. is_blank byte ≡ false) word
+abbrev pub IsWord : Word → Type 0
+IsWord word = any.IsWord InText word
 
 -- a hexadecimal digit: 0 to 9 (48 to 57), a to f (97 to 102)
 abbrev pub printed_digit : ℕ → ℕ

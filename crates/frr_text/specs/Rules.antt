@@ -1,14 +1,10 @@
 -- Rules: each reads something from the front of a text, and answers the words after it.
 use Rattle.std.specs.Prelude.{ℕ, zero, suc, List, [], ◌∷◌, Option, Some, None}
+pub use Rattle.text_words.specs.Options.{◌>>=◌}
 use Rattle.frr_text.specs.Words.{Word}
 
 abbrev pub Rule : Type 0 → Type 0
 Rule X = List Word → Option (X × List Word)
-
-infixl 10 ◌>>=◌
-abbrev pub ◌>>=◌ : {A B : Type 0} → Option A → (A → Option B) → Option B
-(Some x) >>= f = f x
-None >>= f = None
 
 abbrev pub or_else : {A : Type 0} → Option A → Option A → Option A
 or_else (Some x) other = Some x

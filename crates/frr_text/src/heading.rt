@@ -5,13 +5,12 @@ ghost use Rattle.frr_text.specs.Words.{words};
 ghost use Rattle.frr_text.specs.Headings.{area_of, kind_in, heading_at, area_at};
 
 use crate::label::{Label, after_label, word_after};
-use crate::number::address_of;
-use crate::text::cut_at;
 use lsa_codec::AreaId;
 use lsa_instances::{AreaKind, AreaReport};
+use text_words::{address_of, cut_at};
 
-/// The area that the word after `(Area` names.
-fn area_of(word: &[u8]) -> Option<AreaId>
+/// The area that a word names, perhaps before a closing parenthesis.
+pub fn area_of(word: &[u8]) -> Option<AreaId>
     ensures { result ≡ area_of word.now }
 {
     let name = match cut_at(word, b')') {

@@ -2,12 +2,15 @@
 
 ghost use Rattle.std.specs.Prelude.{◌≡◌, ◌≤◌, IfSome, option_map};
 ghost use Rattle.frr_text.specs.Words.{words};
-ghost use Rattle.frr_text.specs.Numbers.{number_up_to, hex_up_to, marked_up_to, mask_length, address_of};
+ghost use Rattle.text_words.specs.Numbers.{number_up_to, hex_up_to};
+ghost use Rattle.text_words.specs.Addresses.{address_of};
+ghost use Rattle.frr_text.specs.Numbers.{marked_up_to, mask_length};
 ghost use Rattle.frr_text.specs.Fields.{past};
-ghost use Rattle.frr_text.specs.Labels.{text_of, after_words, after_label, word_after, value_after};
+ghost use Rattle.frr_text.specs.Labels.{text_of, after_label, word_after, value_after};
 
-use crate::number::{address_of, hex_up_to, marked_up_to, mask_length, number_up_to};
+use crate::number::{marked_up_to, mask_length};
 use crate::text::next_word;
+use text_words::{Blanks, address_of, after_words, hex_up_to, number_up_to};
 
 /// What is printed before or after a value.
 #[derive(Clone, Copy)]
@@ -158,33 +161,12 @@ fn text_of(label: Label) -> &'static [u8]
     }
 }
 
-/// What follows these words, where the text begins with them.
-#[tactic(auto, unfolding(crate::specs::Labels::after_words))]
-fn after_words<'a>(front: &[u8], text: &'a [u8]) -> Option<&'a [u8]>
-    ensures { option_map (λ rest. words rest.now) result
-        ≡ after_words (words front.now) (words text.now) }
-{
-    let mut left = front;
-    let mut rest = text;
-    while let Some((wanted, more)) = next_word(left) {
-        let Some((word, after)) = next_word(rest) else {
-            return None;
-        };
-        if word != wanted {
-            return None;
-        }
-        left = more;
-        rest = after;
-    }
-    Some(rest)
-}
-
 /// What follows a label, where the text begins with it.
-#[tactic(auto, unfolding(crate::specs::Labels::after_label))]
+#[tactic(auto, unfolding(crate::specs::Labels::after_label, crate::specs::Words::words))]
 pub(crate) fn after_label(label: Label, text: &[u8]) -> Option<&[u8]>
     ensures { option_map (λ rest. words rest.now) result ≡ after_label label (words text.now) }
 {
-    after_words(text_of(label), text)
+    after_words(Blanks::InText, text_of(label), text)
 }
 
 /// What follows a label, where the text begins with it, else all of the text.

@@ -28,11 +28,11 @@ mod parsed_part;
 mod printed;
 
 pub use finding::TextFinding;
+pub use heading::area_of;
 pub use laws::{
     printed_bodies_are_read, printed_headers_are_read, printed_lsas_are_read,
     printed_words_are_read,
 };
-pub use number::{address_of, hex_up_to, number_up_to};
 pub use parsed_part::{ParsedPart, rebuilt};
 pub use printed::{Printed, is_printed, read_printed, sorted};
 pub use text::next_word;

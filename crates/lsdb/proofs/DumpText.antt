@@ -278,7 +278,3 @@ loaded_again db good =
 -- different databases have different texts
 pub one_text : (a b : Lists) → IsDatabase a → IsDatabase b → text a ≡ text b → a ≡ b
 one_text a b p q e = ok_is a b (sym (loaded_again a p) ∙ ap loaded e ∙ loaded_again b q)
-
--- the size of what is loaded
-pub loaded_size : (bytes : List ℕ) (db : Lists) → IsBytes bytes → loaded bytes ≡ Ok db → length bytes ≡ size db
-loaded_size bytes db fits e = ap length (loaded_takes bytes db fits e).1 ∙ text_size db

@@ -1,11 +1,11 @@
 -- Two lists in rising order, merged: what is true of the items of both, their order, and what a merge gives first.
-use Rattle.std.proofs.Common.{◌≡◌, ℕ, zero, suc, ◌+◌, ◌<◌, Bool, true, List, [], ◌∷◌, ◌++◌, length, cond, Option, Some, None, refl, sym, ap, subst, ◌∙◌, arith, ◌⊎◌, ⊎_elim}
+use Rattle.std.proofs.Common.{◌≡◌, zero, suc, true, List, [], ◌∷◌, length, refl, sym, ap, subst, ◌∙◌, arith, ◌⊎◌, ⊎_elim}
 use Rattle.std.specs.Prelude.{All, Contains}
 use Rattle.std.specs.Cmp.{IsTotalOrder}
 use Rattle.std.specs.List.{AllByRecursion}
 use Rattle.std.specs.List.Sorted.{IsStrictlySortedBy}
 use Rattle.std.specs.Ordering.{match_ordering, ordering_reverse}
-use Rattle.std.specs.Set.{merge_step, sorted_merge}
+use Rattle.std.specs.Set.{sorted_merge}
 use Rattle.std.specs.declared.cmp.Ordering.{Ordering}
 use Rattle.std.specs.declared.cmp.Ordering.TheVariants.{Less, Equal, Greater}
 use Rattle.std.proofs.lemmas.List.Elements.{All-from_recursion, recursion_from_All}
@@ -85,9 +85,6 @@ module _ {X : Type 0} (order : X → X → Ordering) where
 
   in_tail : (x : X) (xs : List X) (z : X) → Contains xs z → Contains (x ∷ xs) z
   in_tail x xs z has = (suc has.0, omega (arith, has.1), has.2)
-
-  at_head : (x : X) (xs : List X) → Contains (x ∷ xs) x
-  at_head x xs = (0, omega arith, refl)
 
   second_step : (x : X) (xs : List X) (z : X) → CmpEqualImpliesEq order → ((ys : List X) → Contains ys z → Contains (merged xs ys) z)
       → (ys : List X) → Contains ys z → Contains (merged (x ∷ xs) ys) z

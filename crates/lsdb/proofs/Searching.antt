@@ -1,14 +1,14 @@
 -- The first item that passes, looked for from the front.
-use Rattle.std.proofs.Common.{◌≡◌, ℕ, zero, suc, ◌<◌, ◌≤◌, Bool, true, false, List, [], ◌∷◌, length, drop, get_or, map, Option, Some, None, refl, sym}
+use Rattle.std.proofs.Common.{◌≡◌, ℕ, zero, suc, ◌<◌, Bool, true, false, List, [], ◌∷◌, length, drop, get_or, map, Option, Some, None, refl, sym}
 use Rattle.std.proofs.Common.{ap, ◌∙◌, subst, arith, rules, cond}
 use Rattle.std.specs.Prelude.{IsSome}
 use Rattle.std.specs.List.{find}
-use Rattle.std.proofs.lemmas.List.{drop_all, length-map}
+use Rattle.std.proofs.lemmas.List.{length-map}
 use Rattle.lsa_codec.specs.declared.key.Key.{Key}
 use Rattle.lsdb.specs.declared.database.SectionOf.{SectionOf}
 use Rattle.lsdb.specs.Lists.{SectionLsas, Lists, has_key}
 use Rattle.lsdb.specs.Slots.{Slot, item_at, full, section_of, lists_of, lsas_in, IsFirstSlot}
-use Rattle.lsdb.specs.steps.OneSlot.{slot_has_key, IsFirstIndex}
+use Rattle.lsdb.specs.steps.OneSlot.{IsFirstIndex}
 use Rattle.lsdb.specs.steps.View.{section_slots_of, slots_of}
 
 -- item i of a list, and what follows it
@@ -48,42 +48,6 @@ find_hit p xs rest i x here front pass same =
 pub find_miss : {X : Type 0} (p : X → Bool) (xs rest : List X) (i : ℕ) (x : X) → drop i xs ≡ x ∷ rest
     → p x ≡ false → find p (drop i xs) ≡ find p xs → find p rest ≡ find p xs
 find_miss p xs rest i x front fail same = sym (ap (find p) front ∙ ap (λ b. cond b (Some x) (find p rest)) fail) ∙ same
-
-pub find_none : {X : Type 0} (p : X → Bool) (xs : List X) (i : ℕ) → length xs ≤ i → find p (drop i xs) ≡ find p xs → find p xs ≡ None
-find_none p xs i end same = sym same ∙ ap (find p) (drop_all i xs end)
-
--- ---- in the full slots
-
-full_hit : (key : Key) (p : Slot) (rest : List Slot) → slot_has_key key p ≡ true → (p ≡ find (has_key key) (full (p ∷ rest))) × IsSome p
-full_hit key None rest pass = absurd cc
-full_hit key (Some x) rest pass = (sym (ap (λ b. cond b (Some x) (find (has_key key) (full rest))) pass), refl)
-
-full_miss : (key : Key) (p : Slot) (rest : List Slot) → slot_has_key key p ≡ false
-    → find (has_key key) (full (p ∷ rest)) ≡ find (has_key key) (full rest)
-full_miss key None rest fail = refl
-full_miss key (Some x) rest fail = ap (λ b. cond b (Some x) (find (has_key key) (full rest))) fail
-
-pub slot_hit : (key : Key) (ps : List Slot) (i : ℕ) (p : Slot) → i < length ps → p ≡ get_or ps i p
-    → slot_has_key key p ≡ true → find (has_key key) (full (drop i ps)) ≡ find (has_key key) (full ps)
-    → IsFirstIndex ps (has_key key) i
-slot_hit key ps i p lt h pass same =
-    let t = turn ps i (suc i) p lt refl h in
-    let hit = full_hit key p (drop (suc i) ps) pass in
-    let found : p ≡ find (has_key key) (full ps) = hit.0 ∙ ap (λ (qs : List Slot). find (has_key key) (full qs)) (sym t.rest) ∙ same in
-    record { held = t.here ∙ ap Some found; found = subst IsSome found hit.1 }
-
-pub slot_miss : (key : Key) (ps : List Slot) (i j : ℕ) (p : Slot) → i < length ps → j ≡ suc i
-    → p ≡ get_or ps i p → slot_has_key key p ≡ false
-    → find (has_key key) (full (drop i ps)) ≡ find (has_key key) (full ps)
-    → find (has_key key) (full (drop j ps)) ≡ find (has_key key) (full ps)
-slot_miss key ps i j p lt e h fail same =
-    let t = turn ps i j p lt e h in
-    sym (ap (λ (qs : List Slot). find (has_key key) (full qs)) t.rest ∙ full_miss key p (drop j ps) fail) ∙ same
-
-pub slot_none : (key : Key) (ps : List Slot) (i : ℕ) → length ps ≤ i
-    → find (has_key key) (full (drop i ps)) ≡ find (has_key key) (full ps)
-    → find (has_key key) (full ps) ≡ None
-slot_none key ps i end same = sym same ∙ ap (λ (qs : List Slot). find (has_key key) (full qs)) (drop_all i ps end)
 
 -- ---- the sections in memory
 

@@ -6,8 +6,8 @@ use Rattle.lsdb.specs.declared.database.SectionOf.{SectionOf}
 use Rattle.std.specs.Prelude.{All}
 use Rattle.std.proofs.lemmas.List.Elements.{All-head, All-tail}
 use Rattle.lsdb.specs.Lists.{IsSection}
-use Rattle.lsdb.specs.Slots.{Slot, Slots, SectionSlots, update_at, item_at, put_slot, put, slot_in, slot_at, open_at, full, section_of, lists_of}
-use Rattle.lsdb.specs.steps.NotedKeys.{FitSection}
+use Rattle.lsdb.specs.Slots.{Slot, Slots, SectionSlots, update_at, item_at, put_slot, put, slot_in, slot_at, open_at, section_of, lists_of}
+use Rattle.lsdb.specs.steps.OneSection.{FitSection}
 use Rattle.lsdb.specs.declared.database.Head.{Head}
 use Rattle.lsdb.specs.steps.View.{head_of, section_slots_of, slots_of}
 use Rattle.lsdb.proofs.Walked.{section_few}
@@ -36,12 +36,6 @@ slot_read : {A : Type 0} → (ss : List (SectionOf A)) (section i : ℕ) (old : 
 slot_read {A} [] section i old w some h e = absurd (search rules)
 slot_read {A} (s ∷ ss) zero i old w some h e = ap (λ (o : SectionOf A). item_at o.slots i) (sym h) ∙ e
 slot_read {A} (s ∷ ss) (suc section) i old w some h e = slot_read ss section i old w some h e
-
-pub slot_seen : {A : Type 0} → (ss : List (SectionOf A)) (section i : ℕ) (s : SectionOf A) (w : Slot) → section < length ss → s ≡ get_or ss section s
-    → item_at s.slots i ≡ Some w → slot_in (item_at (slots_of ss) section) i ≡ Some w
-slot_seen {A} [] section i s w lt h e = absurd (omega arith)
-slot_seen {A} (t ∷ ss) zero i s w lt h e = ap (λ (o : SectionOf A). item_at o.slots i) (sym h) ∙ e
-slot_seen {A} (t ∷ ss) (suc section) i s w lt h e = slot_seen ss section i s w (omega arith) h e
 
 pub swap_read : {A : Type 0} → (ss : List (SectionOf A)) (slot : SlotId) (old : SectionOf A) (w : Slot)
     → IsSome (slot_at (slots_of ss) slot) → old ≡ get_or ss slot.section old

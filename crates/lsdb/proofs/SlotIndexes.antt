@@ -1,6 +1,6 @@
--- What the slots of a section name, in an index: noted again, and kept as slots are exchanged and opened.
-use Rattle.std.proofs.Common.{◌≡◌, ℕ, zero, suc, ◌+◌, ◌<◌, ◌≤◌, Bool, true, false, List, [], ◌∷◌, ◌++◌, length, drop, get_or, set, eqb, Option, Some, None, refl, sym, ap, subst, ◌∙◌, arith, append_assoc, length-append, ⊎_elim, ◌⊎◌, inl, inr}
-use Rattle.std.specs.Prelude.{◌≢◌, Contains}
+-- An index of slots: noted again, and kept as slots are exchanged and opened.
+use Rattle.std.proofs.Common.{◌≡◌, ℕ, zero, suc, ◌+◌, ◌<◌, ◌≤◌, Bool, true, false, List, [], ◌∷◌, ◌++◌, length, drop, get_or, eqb, Option, Some, None, refl, sym, ap, subst, ◌∙◌, arith, append_assoc, length-append, ⊎_elim, ◌⊎◌, inl, inr}
+use Rattle.std.specs.Prelude.{◌≢◌, Contains, option_map, vec_capacity}
 use Rattle.std.specs.Cmp.{IsTotalOrder}
 use Rattle.std.specs.List.{AllByRecursion, IsDistinct, cons_option}
 use Rattle.std.specs.List.Sorted.{IsPermutation, IsSorted, IsStrictlySortedBy}
@@ -13,35 +13,39 @@ use Rattle.std.proofs.lemmas.List.Elements.{Contains-append_cases, Contains-appe
 use Rattle.std.proofs.lemmas.List.Sorted.{Contains-permutation}
 use Rattle.std.proofs.lemmas.Map.Keys.{IsDistinct-IsPermutation, apart_from_distinct, sorted_from_all_adjacent}
 use Rattle.std.proofs.lemmas.Map.Lookups.{CmpEqualImpliesEq}
+use Rattle.lsdb.specs.declared.slot_index.SlotIndex.{SlotIndex}
+use Rattle.lsdb.specs.declared.slot_index.SlotOf.{SlotOf}
 use Rattle.lsdb.specs.Slots.{Slot, item_at, put_slot}
-use Rattle.lsdb.specs.steps.SlotIndex.{IsIndex, IsIndexBut, NotesOne, most_slots, noted_from}
-use Rattle.lsdb.proofs.KeyedSlotLists.{count_after}
+use Rattle.lsdb.specs.steps.SlotIndex.{AreNoted, AreRising, IsIndex, NotesOne, most_slots, noted_at, noted_from, slot_cmp, slot_of}
+use Rattle.lsdb.proofs.OneSection.{count_after}
 use Rattle.lsdb.proofs.Searching.{turn}
-use Rattle.lsdb.proofs.Seen.{slot_set}
+use Rattle.lsdb.proofs.SlotRanges.{slot_exact, slot_total}
 
 -- ---- a loop over the slots
 
-abbrev pub NotedSoFar : {X : Type 0} → (ℕ → Slot → Option X) → List Slot → ℕ → List X → Type 0
-NotedSoFar named ps i done = done ++ noted_from named i (drop i ps) ≡ noted_from named 0 ps
+abbrev pub NotedSoFar : {K : Type 0} → (List ℕ → Option K) → List Slot → ℕ → List (SlotOf K) → Type 0
+NotedSoFar found_by ps i done = done ++ noted_from found_by i (drop i ps) ≡ noted_from found_by 0 ps
 
-noted_next : {X : Type 0} (named : ℕ → Slot → Option X) (ps : List Slot) (i : ℕ) (p : Slot) → i < length ps → p ≡ get_or ps i p
-    → noted_from named i (drop i ps) ≡ cons_option (named i p) (noted_from named (suc i) (drop (suc i) ps))
-noted_next named ps i p lt here = ap (noted_from named i) (turn ps i (suc i) p lt refl here).rest
+noted_next : {K : Type 0} (found_by : List ℕ → Option K) (ps : List Slot) (i : ℕ) (p : Slot) → i < length ps → p ≡ get_or ps i p
+    → noted_from found_by i (drop i ps) ≡ cons_option (noted_at found_by i p) (noted_from found_by (suc i) (drop (suc i) ps))
+noted_next found_by ps i p lt here = ap (noted_from found_by i) (turn ps i (suc i) p lt refl here).rest
 
-pub noted_none : {X : Type 0} (named : ℕ → Slot → Option X) (ps : List Slot) (i j : ℕ) (p : Slot) (done : List X) → i < length ps → j ≡ suc i
-    → p ≡ get_or ps i p → named i p ≡ None → NotedSoFar named ps i done → NotedSoFar named ps j done
-noted_none {X} named ps i j p done lt e here none so_far =
-    let rest : noted_from named i (drop i ps) ≡ noted_from named (suc i) (drop (suc i) ps) =
-    noted_next named ps i p lt here ∙ ap (λ (o : Option X). cons_option o (noted_from named (suc i) (drop (suc i) ps))) none in
-    subst (λ (k : ℕ). NotedSoFar named ps k done) (sym e) (sym (ap (λ (es : List X). done ++ es) rest) ∙ so_far)
+pub noted_none : {K : Type 0} (found_by : List ℕ → Option K) (ps : List Slot) (i j : ℕ) (p : Slot) (done : List (SlotOf K)) → i < length ps → j ≡ suc i
+    → p ≡ get_or ps i p → noted_at found_by i p ≡ None → NotedSoFar found_by ps i done → NotedSoFar found_by ps j done
+noted_none {K} found_by ps i j p done lt e here none so_far =
+    let more : List (SlotOf K) = noted_from found_by (suc i) (drop (suc i) ps) in
+    let rest : noted_from found_by i (drop i ps) ≡ more =
+    noted_next found_by ps i p lt here ∙ ap (λ (o : Option (SlotOf K)). cons_option o more) none in
+    subst (λ (k : ℕ). NotedSoFar found_by ps k done) (sym e) (sym (ap (λ (es : List (SlotOf K)). done ++ es) rest) ∙ so_far)
 
-pub noted_one : {X : Type 0} (named : ℕ → Slot → Option X) (ps : List Slot) (i j : ℕ) (p : Slot) (name : X) (done : List X) → i < length ps → j ≡ suc i
-    → p ≡ get_or ps i p → named i p ≡ Some name → NotedSoFar named ps i done → NotedSoFar named ps j (done ++ name ∷ [])
-noted_one {X} named ps i j p name done lt e here one so_far =
-    let more : List X = noted_from named (suc i) (drop (suc i) ps) in
-    let rest : noted_from named i (drop i ps) ≡ name ∷ more = noted_next named ps i p lt here ∙ ap (λ (o : Option X). cons_option o more) one in
-    subst (λ (k : ℕ). NotedSoFar named ps k (done ++ name ∷ [])) (sym e)
-    (append_assoc done (name ∷ []) more ∙ sym (ap (λ (es : List X). done ++ es) rest) ∙ so_far)
+pub noted_one : {K : Type 0} (found_by : List ℕ → Option K) (ps : List Slot) (i j : ℕ) (p : Slot) (name : SlotOf K) (done : List (SlotOf K)) → i < length ps
+    → j ≡ suc i → p ≡ get_or ps i p → noted_at found_by i p ≡ Some name → NotedSoFar found_by ps i done → NotedSoFar found_by ps j (done ++ name ∷ [])
+noted_one {K} found_by ps i j p name done lt e here one so_far =
+    let more : List (SlotOf K) = noted_from found_by (suc i) (drop (suc i) ps) in
+    let rest : noted_from found_by i (drop i ps) ≡ name ∷ more =
+    noted_next found_by ps i p lt here ∙ ap (λ (o : Option (SlotOf K)). cons_option o more) one in
+    subst (λ (k : ℕ). NotedSoFar found_by ps k (done ++ name ∷ [])) (sym e)
+    (append_assoc done (name ∷ []) more ∙ sym (ap (λ (es : List (SlotOf K)). done ++ es) rest) ∙ so_far)
 
 -- ---- noted again
 
@@ -53,15 +57,16 @@ in_front : {X : Type 0} (o : Option X) (xs : List X) (x : X) → o ≡ Some x �
 in_front None xs x is = absurd cc
 in_front (Some y) xs x is = (0, omega arith, (let e : y ≡ x = cc in e))
 
-there : {X : Type 0} (named : ℕ → Slot → Option X) (n i m : ℕ) (ps : List Slot) (p : Slot) (x : X) → m ≡ n + i → item_at ps i ≡ Some p
-    → named m p ≡ Some x → Contains (noted_from named n ps) x
-there named n i m [] p x e at is = absurd cc
-there {X} named n zero m (q ∷ ps) p x e at is =
+there : {K : Type 0} (found_by : List ℕ → Option K) (n i m : ℕ) (ps : List Slot) (p : Slot) (x : SlotOf K) → m ≡ n + i → item_at ps i ≡ Some p
+    → noted_at found_by m p ≡ Some x → Contains (noted_from found_by n ps) x
+there found_by n i m [] p x e at is = absurd cc
+there {K} found_by n zero m (q ∷ ps) p x e at is =
     let same : q ≡ p = cc in
     let number : n ≡ m = omega arith in
-    in_front (named n q) (noted_from named (suc n) ps) x (ap (λ (k : ℕ). named k q) number ∙ ap (named m) same ∙ is)
-there named n (suc i) m (q ∷ ps) p x e at is =
-    in_cons (named n q) (noted_from named (suc n) ps) x (there named (suc n) i m ps p x (omega arith) at is)
+    in_front (noted_at found_by n q) (noted_from found_by (suc n) ps) x
+    (ap (λ (k : ℕ). noted_at found_by k q) number ∙ ap (noted_at found_by m) same ∙ is)
+there found_by n (suc i) m (q ∷ ps) p x e at is =
+    in_cons (noted_at found_by n q) (noted_from found_by (suc n) ps) x (there found_by (suc n) i m ps p x (omega arith) at is)
 
 none_sorted : {X : Type 0} (order : X → X → Ordering) → IsStrictlySortedBy order []
 unfolding IsStrictlySortedBy
@@ -82,109 +87,134 @@ unfolding IsDistinct
 distinct_cons same None xs h all = all
 distinct_cons same (Some x) xs h all = (h x refl, all)
 
--- a name contains the index of its slot
-abbrev pub ReportsIndex : {X : Type 0} → (ℕ → Slot → Option X) → (X → ℕ) → Type 0
-ReportsIndex {X} named index = (i : ℕ) (p : Slot) (x : X) → named i p ≡ Some x → index x ≡ i
+index_of_key : {K : Type 0} (i : ℕ) (o : Option K) (x : SlotOf K) → option_map (slot_of i) o ≡ Some x → x.index ≡ i
+index_of_key i None x is = absurd cc
+index_of_key {K} i (Some key) x is = let same : slot_of i key ≡ x = cc in sym (ap (λ (p : SlotOf K). p.index) same)
 
-module _ {X : Type 0} (named : ℕ → Slot → Option X) (index : X → ℕ) (reports : ReportsIndex named index) where
-  abbrev same_index : X → X → Bool
-  same_index a b = eqb (index a) (index b)
+index_of : {K : Type 0} (found_by : List ℕ → Option K) (i : ℕ) (p : Slot) (x : SlotOf K) → noted_at found_by i p ≡ Some x → x.index ≡ i
+index_of found_by i None x is = absurd cc
+index_of found_by i (Some lsa) x is = index_of_key i (found_by lsa) x is
 
-  beyond : (n m : ℕ) (ps : List Slot) → m < n → AllByRecursion (λ y. eqb m (index y) ≡ false) (noted_from named n ps)
-  beyond n m [] lt = tt
-  beyond n m (p ∷ ps) lt =
-      all_cons (λ y. eqb m (index y) ≡ false) (named n p) (noted_from named (suc n) ps)
-      (λ y is. ne_eqb m (index y) (λ e. absurd (omega (arith, reports n p y is)))) (beyond (suc n) m ps (omega arith))
+abbrev same_index : {K : Type 0} → SlotOf K → SlotOf K → Bool
+same_index a b = eqb a.index b.index
 
-  differ : (n : ℕ) (ps : List Slot) → IsDistinct same_index (noted_from named n ps)
-  unfolding IsDistinct
-  differ n [] = tt
-  differ n (p ∷ ps) =
-      distinct_cons same_index (named n p) (noted_from named (suc n) ps)
-      (λ x is. beyond (suc n) (index x) ps (omega (arith, reports n p x is))) (differ (suc n) ps)
+beyond : {K : Type 0} (found_by : List ℕ → Option K) (n m : ℕ) (ps : List Slot) → m < n
+    → AllByRecursion (λ (y : SlotOf K). eqb m y.index ≡ false) (noted_from found_by n ps)
+beyond found_by n m [] lt = tt
+beyond {K} found_by n m (p ∷ ps) lt =
+    all_cons (λ (y : SlotOf K). eqb m y.index ≡ false) (noted_at found_by n p) (noted_from found_by (suc n) ps)
+    (λ y is. ne_eqb m y.index (λ e. absurd (omega (arith, index_of found_by n p y is)))) (beyond found_by (suc n) m ps (omega arith))
 
-  pub filled : (order : X → X → Ordering) → IsTotalOrder order → CmpEqualImpliesEq order → X → (ps : List Slot) (noted : List X) (room before : ℕ)
-      → IsPermutation (noted_from named 0 ps) noted → IsSorted order noted → length ps ≤ before → room ≡ before → length ps ≤ most_slots
-      → IsIndex order named ps noted [] room
-  filled order total exact d ps noted room before moved sorted fits same narrow = record {
+differ : {K : Type 0} (found_by : List ℕ → Option K) (n : ℕ) (ps : List Slot) → IsDistinct same_index (noted_from found_by n ps)
+unfolding IsDistinct
+differ found_by n [] = tt
+differ {K} found_by n (p ∷ ps) =
+    distinct_cons same_index (noted_at found_by n p) (noted_from found_by (suc n) ps)
+    (λ x is. beyond found_by (suc n) x.index ps (omega (arith, index_of found_by n p x is))) (differ found_by (suc n) ps)
+
+module _ {K : Type 0} (order : K → K → Ordering) (total : IsTotalOrder order) (exact : CmpEqualImpliesEq order) (found_by : List ℕ → Option K) where
+  rising_from : (noted : List (SlotOf K)) → IsSorted (slot_cmp order) noted → IsDistinct same_index noted → AreRising order noted
+  rising_from [] sorted apart = none_sorted (slot_cmp order)
+  rising_from (d ∷ ds) sorted apart =
+      let noted : List (SlotOf K) = d ∷ ds in
+      sorted_from_all_adjacent (slot_total order total) noted d (λ k lt.
+      let a : SlotOf K = get_or noted k d in
+      let b : SlotOf K = get_or noted (k + 1) d in
+      by_order (slot_cmp order a b) (slot_cmp order b a) ((slot_total order total).antisymm b a) (sorted k d (omega arith) lt) (λ equal.
+      let yes : eqb a.index b.index ≡ true = eq-eqb _ _ (ap (λ (p : SlotOf K). p.index) (slot_exact order exact a b equal)) in
+      let no' : eqb a.index b.index ≡ false = apart_from_distinct same_index noted k (k + 1) d apart (omega arith) lt in
+      let both : true ≡ false = sym yes ∙ no' in
+      cc))
+
+  pub filled : (ps : List Slot) (noted : List (SlotOf K)) (room before : ℕ) → IsPermutation (noted_from found_by 0 ps) noted
+      → IsSorted (slot_cmp order) noted → length ps ≤ before → room ≡ before → length ps ≤ most_slots → AreNoted order found_by ps noted [] room
+  filled ps noted room before moved sorted fits same narrow = record {
     rising =
-        let apart = IsDistinct-IsPermutation same_index (λ a b. nat_eq_equiv.symm (index a) (index b)) (noted_from named 0 ps) noted moved (differ 0 ps) in
-        sorted_from_all_adjacent total noted d (λ k lt.
-        let a : X = get_or noted k d in
-        let b : X = get_or noted (k + 1) d in
-        by_order (order a b) (order b a) (total.antisymm b a) (sorted k d (omega arith) lt) (λ equal.
-        let yes : eqb (index a) (index b) ≡ true = eq-eqb _ _ (ap index (exact a b equal)) in
-        let no' : eqb (index a) (index b) ≡ false = apart_from_distinct same_index noted k (k + 1) d apart (omega arith) lt in
-        let both : true ≡ false = sym yes ∙ no' in
-        cc));
-    latest_rising = none_sorted order;
-    whole = λ i p x at is. Contains-permutation (noted_from named 0 ps) noted x moved (there named 0 i i ps p x (omega arith) at is);
+        rising_from noted sorted
+        (IsDistinct-IsPermutation same_index (λ a b. nat_eq_equiv.symm a.index b.index) (noted_from found_by 0 ps) noted moved (differ found_by 0 ps));
+    latest_rising = none_sorted (slot_cmp order);
+    whole = λ i p x at is. Contains-permutation (noted_from found_by 0 ps) noted x moved (there found_by 0 i i ps p x (omega arith) at is);
     fits = omega arith;
     narrow = narrow;
   }
 
--- ---- one slot
+-- ---- one slot, at which b stood before
 
-module _ {X : Type 0} (order : X → X → Ordering) (named : ℕ → Slot → Option X) where
-  named_there : (ps : List Slot) (index : ℕ) (p : Slot) (name : X) (noted latest new : List X) (room : ℕ) → index < length ps
-      → p ≡ get_or ps index p → named index p ≡ Some name → IsStrictlySortedBy order new → Contains (new ++ noted) name
-      → ((x : X) → Contains latest x → Contains new x) → IsIndexBut order named index ps noted latest room → IsIndex order named ps noted new room
-  named_there ps index p name noted latest new room lt here is rising has kept but = record {
-    rising = but.rising;
-    latest_rising = rising;
-    whole = λ i q x at named_so. ⊎_elim (λ same.
-        let stands : item_at ps index ≡ Some p = (turn ps index (suc index) p lt refl here).here in
-        let both : Some p ≡ Some q = sym stands ∙ ap (item_at ps) (sym same) ∙ at in
-        let one : p ≡ q = cc in
-        let it : Some name ≡ Some x = sym is ∙ ap (named index) one ∙ ap (λ (k : ℕ). named k q) (sym same) ∙ named_so in
-        let e : name ≡ x = cc in
-        subst (λ (y : X). Contains (new ++ noted) y) e has)
-        (λ other. ⊎_elim (λ there. Contains-append_left new noted x (kept x there)) (λ there. Contains-append_right new noted x there)
-        (Contains-append_cases latest noted x (but.whole i q x other at named_so)))
-        (cases_eq i index);
-    fits = but.fits;
-    narrow = but.narrow;
-  }
+item_other : (v : Slot) (ps : List Slot) (n i : ℕ) (p : Slot) → i ≢ n → item_at ps i ≡ Some p → item_at (put_slot v ps n) i ≡ Some p
+item_other v [] n i p other at = at
+item_other v (q ∷ ps) zero zero p other at = absurd (other refl)
+item_other v (q ∷ ps) zero (suc i) p other at = at
+item_other v (q ∷ ps) (suc n) zero p other at = at
+item_other v (q ∷ ps) (suc n) (suc i) p other at = item_other v ps n i p (λ e. other (ap suc e)) at
 
-  -- it is noted now
-  pub noted_there : (ps : List Slot) (index : ℕ) (p : Slot) (name : X) (noted latest new : List X) (room : ℕ) → index < length ps
-      → p ≡ get_or ps index p → named index p ≡ Some name → NotesOne order latest new name
-      → IsIndexBut order named index ps noted latest room → IsIndex order named ps noted new room
-  noted_there ps index p name noted latest new room lt here is notes but =
-      named_there ps index p name noted latest new room lt here is notes.rising (Contains-append_left new noted name notes.noted) notes.kept but
+item_put : (v : Slot) (ps : List Slot) (n : ℕ) → n < length ps → item_at (put_slot v ps n) n ≡ Some v
+item_put v [] n lt = absurd (omega arith)
+item_put v (p ∷ ps) zero lt = refl
+item_put v (p ∷ ps) (suc n) lt = item_put v ps n (omega arith)
 
-  -- it was noted before
-  pub noted_before : (ps : List Slot) (index : ℕ) (p : Slot) (name : X) (noted latest : List X) (room : ℕ) → index < length ps
-      → p ≡ get_or ps index p → named index p ≡ Some name → Contains noted name
-      → IsIndexBut order named index ps noted latest room → IsIndex order named ps noted latest room
-  noted_before ps index p name noted latest room lt here is has but =
-      named_there ps index p name noted latest latest room lt here is but.latest_rising (Contains-append_right latest noted name has) (λ x there. there) but
+module _ {K A : Type 0} (order : K → K → Ordering) (found_by : List ℕ → Option K) (ps : List Slot) (n : ℕ) (b : Slot) (index : SlotIndex K A)
+    (lt : n < length ps) (was : IsIndex order found_by (put_slot b ps n) index) where
+  pub fits : length ps ≤ vec_capacity index.noted
+  fits = omega (arith, count_after b ps n, was.fits)
 
-  -- the slot names nothing
-  pub none_there : (ps : List Slot) (index : ℕ) (p : Slot) (noted latest : List X) (room : ℕ) → index < length ps → p ≡ get_or ps index p
-      → named index p ≡ None → IsIndexBut order named index ps noted latest room → IsIndex order named ps noted latest room
-  none_there ps index p noted latest room lt here is but = record {
-    rising = but.rising;
-    latest_rising = but.latest_rising;
-    whole = λ i q x at named_so. ⊎_elim (λ same.
-        let stands : item_at ps index ≡ Some p = (turn ps index (suc index) p lt refl here).here in
-        let both : Some p ≡ Some q = sym stands ∙ ap (item_at ps) (sym same) ∙ at in
-        let one : p ≡ q = cc in
-        let no' : None ≡ Some x = sym is ∙ ap (named index) one ∙ ap (λ (k : ℕ). named k q) (sym same) ∙ named_so in
-        absurd cc)
-        (λ other. but.whole i q x other at named_so) (cases_eq i index);
-    fits = but.fits;
-    narrow = but.narrow;
-  }
+  pub narrow : length ps ≤ most_slots
+  narrow = omega (arith, count_after b ps n, was.narrow)
 
--- ---- slots exchanged, opened and found
+  module _ (p : Slot) (here : p ≡ get_or ps n p) where
+    stands : item_at ps n ≡ Some p
+    stands = (turn ps n (suc n) p lt refl here).here
 
-item_after : (v : Slot) (ps : List Slot) (n i : ℕ) (p : Slot) → i ≢ n → item_at (put_slot v ps n) i ≡ Some p → item_at ps i ≡ Some p
-item_after v [] n i p other at = at
-item_after v (q ∷ ps) zero zero p other at = absurd (other refl)
-item_after v (q ∷ ps) zero (suc i) p other at = at
-item_after v (q ∷ ps) (suc n) zero p other at = at
-item_after v (q ∷ ps) (suc n) (suc i) p other at = item_after v ps n i p (λ e. other (ap suc e)) at
+    named_there : (name : SlotOf K) (new : List (SlotOf K)) → noted_at found_by n p ≡ Some name → AreRising order new
+        → Contains (new ++ index.noted.items) name → ((x : SlotOf K) → Contains index.latest.items x → Contains new x)
+        → AreNoted order found_by ps index.noted.items new (vec_capacity index.noted)
+    named_there name new is rising has kept = record {
+      rising = was.rising;
+      latest_rising = rising;
+      whole = λ i q x at named_so. ⊎_elim (λ same.
+          let both : Some p ≡ Some q = sym stands ∙ ap (item_at ps) (sym same) ∙ at in
+          let one : p ≡ q = cc in
+          let it : Some name ≡ Some x = sym is ∙ ap (noted_at found_by n) one ∙ ap (λ (k : ℕ). noted_at found_by k q) (sym same) ∙ named_so in
+          let e : name ≡ x = cc in
+          subst (λ (y : SlotOf K). Contains (new ++ index.noted.items) y) e has)
+          (λ other. ⊎_elim (λ there. Contains-append_left new index.noted.items x (kept x there)) (λ there. Contains-append_right new index.noted.items x there)
+          (Contains-append_cases index.latest.items index.noted.items x (was.whole i q x (item_other b ps n i q other at) named_so)))
+          (cases_eq i n);
+      fits = fits;
+      narrow = narrow;
+    }
+
+    -- it is noted now
+    pub noted_there : (name : SlotOf K) (new : List (SlotOf K)) → noted_at found_by n p ≡ Some name → NotesOne (slot_cmp order) index.latest.items new name
+        → AreNoted order found_by ps index.noted.items new (vec_capacity index.noted)
+    noted_there name new is notes =
+        named_there name new is notes.rising (Contains-append_left new index.noted.items name notes.noted) notes.kept
+
+    -- it was noted before
+    pub noted_before : (name : SlotOf K) → noted_at found_by n p ≡ Some name → Contains index.noted.items name → IsIndex order found_by ps index
+    noted_before name is has =
+        named_there name index.latest.items is was.latest_rising (Contains-append_right index.latest.items index.noted.items name has) (λ x there. there)
+
+    -- what stood there before was noted as this
+    pub noted_same : (name : SlotOf K) → noted_at found_by n p ≡ Some name → noted_at found_by n b ≡ Some name → IsIndex order found_by ps index
+    noted_same name is same =
+        named_there name index.latest.items is was.latest_rising (was.whole n b name (item_put b ps n lt) same) (λ x there. there)
+
+    -- nothing is to be noted of the slot
+    pub none_there : noted_at found_by n p ≡ None → IsIndex order found_by ps index
+    none_there is = record {
+      rising = was.rising;
+      latest_rising = was.latest_rising;
+      whole = λ i q x at named_so. ⊎_elim (λ same.
+          let both : Some p ≡ Some q = sym stands ∙ ap (item_at ps) (sym same) ∙ at in
+          let one : p ≡ q = cc in
+          let no' : None ≡ Some x = sym is ∙ ap (noted_at found_by n) one ∙ ap (λ (k : ℕ). noted_at found_by k q) (sym same) ∙ named_so in
+          absurd cc)
+          (λ other. was.whole i q x (item_other b ps n i q other at) named_so) (cases_eq i n);
+      fits = fits;
+      narrow = narrow;
+    }
+
+-- ---- slots opened
 
 item_opened : (ps : List Slot) (i : ℕ) (p : Slot) → item_at (ps ++ None ∷ []) i ≡ Some p → (p ≡ None) ⊎ (item_at ps i ≡ Some p)
 item_opened [] zero p at = inl (let e : p ≡ None = cc in e)
@@ -192,40 +222,37 @@ item_opened [] (suc i) p at = absurd cc
 item_opened (q ∷ ps) zero p at = inr at
 item_opened (q ∷ ps) (suc i) p at = item_opened ps i p at
 
-module _ {X : Type 0} (order : X → X → Ordering) (named : ℕ → Slot → Option X) where
-  pub exchanged : (ps qs : List Slot) (index : ℕ) (v : Slot) (noted latest : List X) (room : ℕ) → qs ≡ set ps index v → IsIndex order named ps noted latest room
-      → IsIndexBut order named index qs noted latest room
-  exchanged ps qs index v noted latest room is indexed =
-      let put : qs ≡ put_slot v ps index = is ∙ slot_set v ps index in
-      record {
-        rising = indexed.rising;
-        latest_rising = indexed.latest_rising;
-        whole = λ i p x other at named_so.
-            indexed.whole i p x (item_after v ps index i p other (sym (ap (λ (l : List Slot). item_at l i) put) ∙ at)) named_so;
-        fits = omega (arith, ap length put, count_after v ps index, indexed.fits);
-        narrow = omega (arith, ap length put, count_after v ps index, indexed.narrow);
-      }
-
-  pub indexed_open : ((i : ℕ) → named i None ≡ None) → (ps qs : List Slot) (noted latest new later : List X) (room room' : ℕ)
-      → qs ≡ ps ++ None ∷ [] → new ≡ noted → later ≡ latest
-      → length ps + 1 ≤ room' → length ps + 1 ≤ most_slots → IsIndex order named ps noted latest room → IsIndex order named qs new later room'
-  indexed_open empty ps qs noted latest new later room room' is same same_latest fits narrow indexed = rw (same, same_latest) (record {
-    rising = indexed.rising;
-    latest_rising = indexed.latest_rising;
-    whole = λ i p x at named_so. ⊎_elim
-        (λ none. absurd (let no' : None ≡ Some x = sym (empty i) ∙ ap (named i) (sym none) ∙ named_so in cc))
-        (λ before. indexed.whole i p x before named_so)
-        (item_opened ps i p (sym (ap (λ (l : List Slot). item_at l i) is) ∙ at));
-    fits = omega (arith, ap length is, length-append ps (None ∷ []));
-    narrow = omega (arith, ap length is, length-append ps (None ∷ []));
-  })
-
-  pub indexed_kept : (ps qs : List Slot) (noted latest new later : List X) (room room' : ℕ) → qs ≡ ps → new ≡ noted → later ≡ latest
-      → length ps ≤ room' → IsIndex order named ps noted latest room → IsIndex order named qs new later room'
-  indexed_kept ps qs noted latest new later room room' slots same same_latest fits indexed = rw (slots, same, same_latest) (record {
+module _ {K : Type 0} (order : K → K → Ordering) (found_by : List ℕ → Option K) (ps : List Slot) (noted latest new later : List (SlotOf K))
+    (room room' : ℕ) (same : new ≡ noted) (same_latest : later ≡ latest) (indexed : AreNoted order found_by ps noted latest room) where
+  kept_lists : length ps ≤ room' → AreNoted order found_by ps new later room'
+  kept_lists fits = rw (same, same_latest) (record {
     rising = indexed.rising;
     latest_rising = indexed.latest_rising;
     whole = indexed.whole;
     fits = fits;
     narrow = indexed.narrow;
   })
+
+  opened_lists : length ps < room' → length ps < most_slots → AreNoted order found_by (ps ++ None ∷ []) new later room'
+  opened_lists fits narrow = rw (same, same_latest) (record {
+    rising = indexed.rising;
+    latest_rising = indexed.latest_rising;
+    whole = λ i p x at named_so. ⊎_elim
+        (λ none. absurd (let no' : None ≡ Some x = ap (noted_at found_by i) (sym none) ∙ named_so in cc))
+        (λ before. indexed.whole i p x before named_so)
+        (item_opened ps i p at);
+    fits = omega (arith, length-append ps (None ∷ []));
+    narrow = omega (arith, length-append ps (None ∷ []));
+  })
+
+module _ {K A : Type 0} (order : K → K → Ordering) (found_by : List ℕ → Option K) (ps : List Slot) (old new : SlotIndex K A)
+    (same : new.noted.items ≡ old.noted.items) (same_latest : new.latest.items ≡ old.latest.items) where
+  pub kept : length ps ≤ vec_capacity new.noted → IsIndex order found_by ps old → IsIndex order found_by ps new
+  kept fits indexed =
+      kept_lists order found_by ps old.noted.items old.latest.items new.noted.items new.latest.items (vec_capacity old.noted) (vec_capacity new.noted)
+      same same_latest indexed fits
+
+  pub opened : length ps < vec_capacity new.noted → length ps < most_slots → IsIndex order found_by ps old → IsIndex order found_by (ps ++ None ∷ []) new
+  opened fits narrow indexed =
+      opened_lists order found_by ps old.noted.items old.latest.items new.noted.items new.latest.items (vec_capacity old.noted) (vec_capacity new.noted)
+      same same_latest indexed fits narrow

@@ -1,6 +1,5 @@
 -- The keys of a section's LSAs in order, and those from one key to another.
-use Rattle.std.specs.Prelude.{◌≡◌, ◌^◌, ◌<◌, ◌&&◌, ℕ, Bool, true, List, map, Some, All, Contains}
-use Rattle.std.specs.Map.{keys_of}
+use Rattle.std.specs.Prelude.{◌≡◌, ◌^◌, ◌<◌, ◌&&◌, ℕ, Bool, true, List, Some, All, Contains}
 use Rattle.std.specs.List.Sorted.{IsStrictlySortedBy}
 use Rattle.std.specs.Ordering.{is_le, nat_cmp, ordering_then}
 use Rattle.std.specs.declared.cmp.Ordering.{Ordering}
@@ -8,15 +7,12 @@ use Rattle.lsa_codec.specs.declared.key.Key.{Key}
 use Rattle.lsa_codec.specs.Fields.{kind_of, link_state_id_of, advertising_router_of}
 use Rattle.lsa_codec.specs.Key.{key_of}
 use Rattle.lsa_codec.specs.Order.{key_cmp}
-use Rattle.lsdb.specs.declared.keyed_slots.KeyAt.{KeyAt}
+use Rattle.lsdb.specs.declared.slot_index.SlotOf.{SlotOf}
 use Rattle.lsdb.specs.Slots.{Slot, item_at}
 
-abbrev pub pairs_of : List KeyAt → List (Key × ℕ)
-pairs_of keys = map (λ noted. (noted.key, noted.index)) keys
-
--- each key is less than those after it
-abbrev pub IsRising : List KeyAt → Type 0
-IsRising keys = IsStrictlySortedBy key_cmp (keys_of (pairs_of keys))
+-- a slot of a key
+abbrev pub KeyAt : Type 0
+KeyAt = SlotOf Key
 
 -- by key, and then by index
 abbrev pub noted_cmp : KeyAt → KeyAt → Ordering

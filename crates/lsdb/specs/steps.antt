@@ -2,9 +2,9 @@
 pub mod View
 pub mod Reading
 pub mod OneSlot
-pub mod NotedKeys
+pub mod OneSection
 pub mod SlotIndex
-pub mod RouterIndex
-pub mod PrefixIndex
+pub mod IndexKeys
+pub mod Indexes
 pub mod Counting
 pub mod Filtering

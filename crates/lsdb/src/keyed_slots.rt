@@ -1,6 +1,6 @@
-//! The slots of one section, and where each key stands.
+//! The slots of one section, with their indexes beside them.
 
-ghost use Rattle.std.specs.Prelude.{◌≡◌, ◌<◌, ◌≤◌, ◌++◌, None, [], ◌∷◌, Some, length, OnOk, OnErr, IfOk, IfErr, true, MatchOption, vec_capacity, All};
+ghost use Rattle.std.specs.Prelude.{◌≡◌, ◌<◌, ◌≤◌, ◌++◌, None, [], ◌∷◌, Some, length, OnOk, OnErr, IfOk, MatchOption, All};
 ghost use Rattle.std.specs.List.{find};
 ghost use Rattle.lsa_codec.specs.Key.{key_of};
 ghost use Rattle.lsdb.specs.Counts.{counts_of};
@@ -11,69 +11,53 @@ ghost use Rattle.lsdb.specs.Slots.{full, item_at, put_slot};
 ghost use Rattle.lsdb.specs.PrefixSlots.{AreSlotsOfPrefix};
 ghost use Rattle.lsdb.specs.RouterSlots.{AreSlotsOfRouter};
 ghost use Rattle.lsdb.specs.TransitFilters.{AreTransitFilters};
-ghost use Rattle.lsdb.specs.steps.OneSlot.{slot_has_key, IsFirstIndex};
-ghost use Rattle.lsdb.specs.steps.NotedKeys.{AreApart, AreNoted, FitSection, IsFoundAt, IsGapFor, IsPartBetween, IsRising, Notes, keys_from, noted_index};
+ghost use Rattle.lsdb.specs.steps.OneSection.{AreApart, FitSection};
+ghost use Rattle.lsdb.specs.steps.OneSlot.{slot_has_key, some_has_key, IsFirstIndex};
 
 use crate::copy::copy_of_slots;
 use crate::counts::LsaCounts;
-use crate::merged::{Merged, latest_count};
-use crate::prefix_slots::{Origin, PrefixSlots, SlotOfPrefix};
-use crate::router_slots::{RouterSlots, SlotOfRouter};
+use crate::indexes::Indexes;
+use crate::merged::Merged;
+use crate::origin::Origin;
+use crate::slot_index::SlotOf;
 use crate::transit_filters::{TransitFilter, filters_of, put_filter};
 use lsa_codec::{Key, Lsa, Prefix, RouterId};
 use std::alloc::{AllocError, Allocator};
 use std::marker::Model;
 use std::mem;
 
-/// A key, and the index of the slot at which its LSA was put last.
-#[derive(Clone, Copy, Debug, PartialEq, Eq, PartialOrd, Ord)]
-pub struct KeyAt {
-    /// The key.
-    pub key: Key,
-    /// The index among the section's slots. The LSA may have gone since, and another stand there.
-    pub index: usize,
-}
-
-/// The slots of one section, and beside them where each key and the LSAs of each router, and of
-/// each router for each prefix, stand, so that these are found without going through the slots.
-/// Contracts see the slots.
+/// The slots of one section, and beside them their indexes. Contracts see the slots.
 #[derive(Drop)]
 pub(crate) struct KeyedSlots<A: Allocator> {
     slots: Vec<Option<Lsa<A>>, A>,
     /// For each slot the filter of the transit networks of the LSA there.
     filters: Vec<TransitFilter, A>,
-    /// In rising order of the keys. The key of an LSA that is gone stays until all are noted again.
-    keys: Vec<KeyAt, A>,
-    /// The keys noted since then, in rising order: few, so that another is soon among them.
-    latest: Vec<KeyAt, A>,
-    /// At which slots LSAs of each router stand.
-    routers: RouterSlots<A>,
-    /// At which slots LSAs of each router for each prefix stand.
-    prefixes: PrefixSlots<A>,
+    /// At which slots which LSAs stand.
+    indexes: Indexes<A>,
     /// What the LSAs count.
     counts: LsaCounts,
 }
 
 impl<A: Allocator> Model for KeyedSlots<A> {
-    ghost use Rattle.std.specs.Prelude.{◌≡◌, List, vec_capacity};
-    ghost use Rattle.lsdb.specs.Slots.{Slot};
+    ghost use Rattle.std.specs.Prelude.{◌≡◌, List, All};
+    ghost use Rattle.lsdb.specs.Slots.{Slot, full};
 
     ghost Value = { List Slot };
 
+    ghost use Rattle.lsdb.specs.Counts.{counts_of};
+    ghost use Rattle.lsdb.specs.KeyRanges.{HaveWidths};
     ghost use Rattle.lsdb.specs.steps.Filtering.{filters_of};
-    ghost use Rattle.lsdb.specs.steps.NotedKeys.{IsKeyed};
-    ghost use Rattle.lsdb.specs.steps.PrefixIndex.{IsPrefixIndex};
-    ghost use Rattle.lsdb.specs.steps.RouterIndex.{IsRouterIndex};
+    ghost use Rattle.lsdb.specs.steps.Indexes.{AreIndexes};
+    ghost use Rattle.lsdb.specs.steps.OneSection.{AreApart};
 
     ghost view = { λ p. p.slots.items };
 
     ghost invariant = { λ p. record {
+      apart : AreApart p.slots.items;
+      widths : All HaveWidths (full p.slots.items);
+      counted : p.counts ≡ counts_of (full p.slots.items);
       filters : p.filters.items ≡ filters_of p.slots.items;
-      keyed : IsKeyed p.slots.items p.keys.items p.latest.items (vec_capacity p.keys) p.counts;
-      routers : IsRouterIndex p.slots.items p.routers.noted.items p.routers.latest.items
-          (vec_capacity p.routers.noted);
-      prefixes : IsPrefixIndex p.slots.items p.prefixes.noted.items p.prefixes.latest.items
-          (vec_capacity p.prefixes.noted);
+      indexed : AreIndexes p.slots.items p.indexes;
     } };
 }
 
@@ -81,23 +65,17 @@ impl<A: Allocator + Copy> KeyedSlots<A> {
     /// These slots, of whose LSAs no two have one key. The error is want of memory.
     pub(crate) fn of(alloc: A, slots: Vec<Option<Lsa<A>>, A>) -> Result<KeyedSlots<A>, AllocError>
         requires apart { AreApart slots.items }
+        requires widths { All HaveWidths (full slots.items) }
         requires few { length slots.items ≤ most_lsas_of_as }
         ensures { IfOk result (λ keyed. keyed ≡ slots.items) }
     {
-        let mut keys = Vec::with_capacity(alloc, slots.len())?;
-        fill(&mut keys, &slots);
-        let latest = Vec::with_capacity(alloc, latest_count(slots.len()))?;
         let counts = LsaCounts::of_slots(&slots);
-        let routers = RouterSlots::of(alloc, &slots)?;
-        let prefixes = PrefixSlots::of(alloc, &slots)?;
+        let indexes = Indexes::of(alloc, &slots)?;
         let filters = filters_of(alloc, &slots)?;
         Ok(KeyedSlots {
             slots,
             filters,
-            keys,
-            latest,
-            routers,
-            prefixes,
+            indexes,
             counts,
         })
     }
@@ -122,25 +100,28 @@ impl<A: Allocator + Copy> KeyedSlots<A> {
         ensures { MatchOption result (find (has_key key) (full self.now) ≡ None)
             (IsFirstIndex self.now (has_key key)) }
     {
-        // A binary search: its steps are in the logarithm of the number of keys.
-        let index = noted_index(&self.latest, &self.keys, key)?;
-        let content = self.slots.get(index)?;
-        has_key(content, key).then_some(index)
+        // Of one key seldom more than one slot is noted.
+        for noted in self.keys_between(key, key) {
+            let index = noted.index as usize;
+            if has_key_at(&self.slots, index, key) {
+                return Some(index);
+            }
+        }
+        None
     }
 
     /// The noted keys from one key to another, both included, in their order. It takes no memory.
-    pub(crate) fn keys_between(&self, low: Key, high: Key) -> Merged<'_, KeyAt>
+    pub(crate) fn keys_between(&self, low: Key, high: Key) -> Merged<'_, SlotOf<Key>>
         ensures { AreKeysBetween self.now low high result }
     {
-        let older = noted_between(&self.keys, low, high);
-        Merged::of(older, noted_between(&self.latest, low, high))
+        self.indexes.keys.between(low, high)
     }
 
     /// The slots that are noted of a router, in rising order of their indices. It takes no memory.
-    pub(crate) fn slots_of_router(&self, router: RouterId) -> Merged<'_, SlotOfRouter>
+    pub(crate) fn slots_of_router(&self, router: RouterId) -> Merged<'_, SlotOf<RouterId>>
         ensures { AreSlotsOfRouter self.now router result }
     {
-        self.routers.of_router(router)
+        self.indexes.routers.between(router, router)
     }
 
     /// The slots that are noted of a router and a prefix, in rising order of their indices. It
@@ -149,11 +130,11 @@ impl<A: Allocator + Copy> KeyedSlots<A> {
         &self,
         router: RouterId,
         prefix: Prefix,
-    ) -> Merged<'_, SlotOfPrefix>
+    ) -> Merged<'_, SlotOf<Origin>>
         ensures { AreSlotsOfPrefix self.now router prefix result }
     {
         let origin = Origin::new(router, prefix);
-        self.prefixes.of_origin(&origin)
+        self.indexes.prefixes.between(origin, origin)
     }
 
     /// For each slot the filter of the transit networks of the LSA there.
@@ -171,25 +152,11 @@ impl<A: Allocator + Copy> KeyedSlots<A> {
         ensures content { item_at self.old index ≡ Some content.new }
     {
         mem::swap(&mut self.slots[index], content);
+        assert_widths(&self.slots[index]);
         let others = self.counts.without(LsaCounts::of_slot(content));
         self.counts = others.with(LsaCounts::of_slot(&self.slots[index]));
-        self.routers.note_slot(&self.slots, index);
-        self.prefixes.note_slot(&self.slots, index);
+        self.indexes.note_slot(&self.slots, index, content);
         put_filter(&mut self.filters, &self.slots, index);
-        let Some(lsa) = &self.slots[index] else {
-            return;
-        };
-        let key = key_of(lsa);
-        if has_key(content, key) {
-            return;
-        }
-        if is_noted(&self.latest, &self.keys, key, index) {
-            return;
-        }
-        if !note(&mut self.latest, key, index) {
-            fill(&mut self.keys, &self.slots);
-            self.latest.clear();
-        }
     }
 
     /// The same slots. The error is want of memory.
@@ -197,21 +164,12 @@ impl<A: Allocator + Copy> KeyedSlots<A> {
         ensures { IfOk result (λ copy. copy ≡ self.now) }
     {
         let slots = copy_of_slots(alloc, &self.slots)?;
-        let mut keys = Vec::with_capacity(alloc, slots.len().max(self.keys.len()))?;
-        keys.extend_from_slice(&self.keys)?;
-        let wanted = latest_count(slots.len()).max(self.latest.len());
-        let mut latest = Vec::with_capacity(alloc, wanted)?;
-        latest.extend_from_slice(&self.latest)?;
-        let routers = self.routers.clone_of(alloc, slots.len())?;
-        let prefixes = self.prefixes.clone_of(alloc, slots.len())?;
+        let indexes = self.indexes.clone_of(alloc, slots.len())?;
         let filters = Vec::from_slice(alloc, &self.filters)?;
         Ok(KeyedSlots {
             slots,
             filters,
-            keys,
-            latest,
-            routers,
-            prefixes,
+            indexes,
             counts: self.counts,
         })
     }
@@ -222,12 +180,7 @@ impl<A: Allocator + Copy> KeyedSlots<A> {
         ensures ok { OnOk result (self.new ≡ self.old ++ None ∷ []) }
         ensures err { OnErr result (self.new ≡ self.old) }
     {
-        let wanted = (self.slots.len() + 1).saturating_sub(self.keys.len());
-        self.keys.reserve(wanted)?;
-        let wanted = latest_count(self.slots.len() + 1).saturating_sub(self.latest.len());
-        self.latest.reserve(wanted)?;
-        self.routers.reserve_for(self.slots.len() + 1)?;
-        self.prefixes.reserve_for(self.slots.len() + 1)?;
+        self.indexes.reserve_for(self.slots.len() + 1)?;
         self.filters.reserve(1)?;
         self.slots.push(None)?;
         self.filters.push_reserved(TransitFilter::empty());
@@ -236,11 +189,21 @@ impl<A: Allocator + Copy> KeyedSlots<A> {
 }
 
 /// The key of an LSA. It is a value of its type, so its fields have their widths.
-fn key_of<A: Allocator + Copy>(lsa: &Lsa<A>) -> Key
+pub(crate) fn key_of<A: Allocator + Copy>(lsa: &Lsa<A>) -> Key
     ensures key { result ≡ key_of lsa.now }
     ensures widths { HaveWidths lsa.now }
 {
     lsa.key()
+}
+
+/// The fields of the key of the LSA at a slot have their widths. It does nothing when it runs.
+fn assert_widths<A: Allocator + Copy>(slot: &Option<Lsa<A>>)
+    ensures { All HaveWidths (full (slot.now ∷ [])) }
+{
+    if let Some(lsa) = slot {
+        // What it ensures of the key is wanted.
+        let _ = key_of(lsa);
+    }
 }
 
 /// Whether an LSA with this key stands at a slot.
@@ -253,107 +216,12 @@ fn has_key<A: Allocator + Copy>(content: &Option<Lsa<A>>, key: Key) -> bool
     }
 }
 
-/// Where a key stands, or else where it is to be inserted.
-fn search(keys: &[KeyAt], key: Key) -> Result<usize, usize>
-    requires { IsRising keys.now }
-    ensures found { IfOk result (IsFoundAt keys.now key) }
-    ensures absent { IfErr result (IsGapFor keys.now key) }
+/// Whether an LSA with this key stands at the slot with that index, if there is one.
+fn has_key_at<A: Allocator + Copy>(slots: &[Option<Lsa<A>>], index: usize, key: Key) -> bool
+    ensures { result ≡ some_has_key key (item_at slots.now index) }
 {
-    keys.binary_search_by_key(&key, |noted| noted.key)
-}
-
-/// The index that is noted of a key among these.
-fn index_among(keys: &[KeyAt], key: Key) -> Option<usize>
-    requires { IsRising keys.now }
-    ensures { result ≡ noted_index keys.now key }
-{
-    match search(keys, key) {
-        Ok(at) => Some(keys[at].index),
-        Err(_) => None,
-    }
-}
-
-/// The index that is noted of a key, first of all among the latest ones.
-fn noted_index(latest: &[KeyAt], keys: &[KeyAt], key: Key) -> Option<usize>
-    requires latest { IsRising latest.now }
-    requires keys { IsRising keys.now }
-    ensures { result ≡ noted_index (latest.now ++ keys.now) key }
-{
-    match index_among(latest, key) {
-        Some(index) => Some(index),
-        None => index_among(keys, key),
-    }
-}
-
-/// Whether this index is noted of a key.
-fn is_noted(latest: &[KeyAt], keys: &[KeyAt], key: Key, index: usize) -> bool
-    requires latest { IsRising latest.now }
-    requires keys { IsRising keys.now }
-    ensures { result ≡ true → noted_index (latest.now ++ keys.now) key ≡ Some index }
-{
-    match noted_index(latest, keys, key) {
-        Some(noted) => noted == index,
+    match slots.get(index) {
+        Some(content) => has_key(content, key),
         None => false,
-    }
-}
-
-/// The noted keys from one key to another, both included. It takes two binary searches.
-fn noted_between(keys: &[KeyAt], low: Key, high: Key) -> &[KeyAt]
-    requires { IsRising keys.now }
-    ensures { IsPartBetween keys.now low high result.now }
-{
-    let start = keys.partition_point(|noted| noted.key < low);
-    let rest = &keys[start..];
-    let end = rest.partition_point(|noted| noted.key <= high);
-    &rest[..end]
-}
-
-/// Notes at which slot the LSA of a key stands now, and answers whether it did: where the key is
-/// new, and there is no room for it, nothing is noted. It takes no memory.
-fn note<A: Allocator + Copy>(keys: &mut Vec<KeyAt, A>, key: Key, index: usize) -> bool
-    requires { IsRising keys.old.items }
-    ensures noted { result ≡ true → Notes keys.old.items keys.new.items key index }
-    ensures room { vec_capacity keys.new ≡ vec_capacity keys.old }
-{
-    match search(keys, key) {
-        Ok(at) => keys[at].index = index,
-        Err(at) => {
-            if keys.capacity() <= keys.len() {
-                return false;
-            }
-            // There is room for it, so no memory is wanted, and this does not fail.
-            let _ = keys.insert(at, KeyAt { key, index });
-        }
-    }
-    true
-}
-
-/// Notes all keys again. It takes no memory.
-fn fill<A: Allocator + Copy>(keys: &mut Vec<KeyAt, A>, slots: &[Option<Lsa<A>>])
-    requires apart { AreApart slots.now }
-    requires fits { length slots.now ≤ vec_capacity keys.old }
-    ensures sound { AreNoted slots.now keys.new.items [] }
-    ensures widths { All HaveWidths (full slots.now) }
-    ensures room { vec_capacity keys.new ≡ vec_capacity keys.old }
-{
-    put_keys(keys, slots);
-    keys.sort_unstable_by_key(|noted| noted.key);
-}
-
-/// Each LSA's key with the index of its slot, in order of the slots.
-fn put_keys<A: Allocator + Copy>(keys: &mut Vec<KeyAt, A>, slots: &[Option<Lsa<A>>])
-    requires { length slots.now ≤ vec_capacity keys.old }
-    ensures keys { keys.new.items ≡ keys_from 0 slots.now }
-    ensures widths { All HaveWidths (full slots.now) }
-    ensures room { vec_capacity keys.new ≡ vec_capacity keys.old }
-{
-    keys.clear();
-    for index in 0..slots.len() {
-        if let Some(lsa) = &slots[index] {
-            keys.push_reserved(KeyAt {
-                key: key_of(lsa),
-                index,
-            });
-        }
     }
 }

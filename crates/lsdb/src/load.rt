@@ -1,10 +1,11 @@
 //! Reading a dump.
 
-ghost use Rattle.std.specs.Prelude.{◌≡◌, ◌≤◌, length, [], Ok, Some, None, IfOk, IfErr, Err, Result, option_map};
+ghost use Rattle.std.specs.Prelude.{◌≡◌, ◌≤◌, length, [], Ok, Some, None, IfOk, IfErr, Err, Result, option_map, All};
+ghost use Rattle.lsdb.specs.KeyRanges.{HaveWidths};
 ghost use Rattle.lsdb.specs.Limits.{most_lsas_of_as};
 ghost use Rattle.lsdb.specs.Lists.{is_in_scope, limit_of, Lists, IsDatabase, size};
 ghost use Rattle.lsdb.specs.Slots.{full, section_of, lists_of};
-ghost use Rattle.lsdb.specs.steps.NotedKeys.{AreApart};
+ghost use Rattle.lsdb.specs.steps.OneSection.{AreApart};
 ghost use Rattle.lsdb.specs.steps.View.{head_of, section_slots_of, slots_of};
 ghost use Rattle.lsdb.specs.Text.{text};
 ghost use Rattle.lsdb.specs.steps.Reading.{at_of, Gives, Reads, IsMemoryAfter, reported_fault};
@@ -14,7 +15,7 @@ use crate::cursor::Cursor;
 use crate::database::{Database, Head, SectionOf};
 use crate::dump::{MAGIC, VERSION};
 use crate::fault::{DumpFault, DumpFaultKind, ReadError};
-use crate::keyed_slots::KeyedSlots;
+use crate::keyed_slots::{KeyedSlots, key_of};
 use crate::limits::{LONGEST_DUMP, MOST_AREAS, MOST_LSAS_OF_AREA, MOST_LSAS_OF_AS};
 use crate::read::{advanced, fault, read_u8, read_u16, read_u32};
 use lsa_codec::{AS_OPAQUE_LSA, AreaId, EXTERNAL_LSA, Key, Lsa, LsaFault};
@@ -71,6 +72,7 @@ fn read_lsas<'a, A: Allocator + Copy>(
     ensures lsas { Gives (λ x. (full x.0.items, at_of x.1))
         result (lsas_from (option_map head_of area) count [] (at_of start.entry)) }
     ensures apart { IfOk result (λ x. AreApart x.0.items) }
+    ensures widths { IfOk result (λ x. All HaveWidths (full x.0.items)) }
     ensures few { IfOk result (λ x. length x.0.items ≤ most_lsas_of_as) }
     ensures memory { IsMemoryAfter (first_lsa_at count (at_of start.entry)) result }
 {
@@ -79,7 +81,7 @@ fn read_lsas<'a, A: Allocator + Copy>(
     let mut at = start;
     for _ in 0..count {
         let (lsa, after) = read_lsa(alloc, area, at)?;
-        if !keys.insert(lsa.key())? {
+        if !keys.insert(key_of(&lsa))? {
             return Err(ReadError::Fault(fault(at, DumpFaultKind::DuplicateLsa)));
         }
         slots.push(Some(lsa))?;

@@ -11,12 +11,11 @@ ghost use Rattle.lsdb.specs.TransitFilters.{AreTransitFilters};
 ghost use Rattle.lsdb.specs.steps.View.{head_of};
 
 use crate::database::{Database, Head};
-use crate::keyed_slots::KeyAt;
 use crate::merged::Merged;
-use crate::prefix_slots::SlotOfPrefix;
-use crate::router_slots::SlotOfRouter;
+use crate::origin::Origin;
 use crate::section::Section;
 use crate::slot::SlotId;
+use crate::slot_index::SlotOf;
 use crate::transit_filters::TransitFilter;
 use lsa_codec::{Key, Prefix, RouterId};
 use std::alloc::Allocator;
@@ -52,7 +51,7 @@ impl<A: Allocator + Copy> Database<A> {
     /// by the section's number. Among them is the key of each LSA there, with the index of its
     /// slot; but also keys of LSAs that have gone, so what stands at a slot is to be looked at.
     /// It takes no memory, and its steps are in the logarithm of the number of keys.
-    pub fn keys_between(&self, section: usize, low: Key, high: Key) -> Merged<'_, KeyAt>
+    pub fn keys_between(&self, section: usize, low: Key, high: Key) -> Merged<'_, SlotOf<Key>>
         requires { IsSome (item_at self.now section) }
         ensures { AreKeysBetween (slots_in self.now section) low high result }
     {
@@ -63,7 +62,7 @@ impl<A: Allocator + Copy> Database<A> {
     /// section's number. Among them is that of each LSA there with this Advertising Router; but
     /// also slots of such LSAs that have gone, so what stands there is to be looked at. It takes
     /// no memory, and its steps are in the logarithm of the number of slots.
-    pub fn slots_of_router(&self, section: usize, router: RouterId) -> Merged<'_, SlotOfRouter>
+    pub fn slots_of_router(&self, section: usize, router: RouterId) -> Merged<'_, SlotOf<RouterId>>
         requires { IsSome (item_at self.now section) }
         ensures { AreSlotsOfRouter (slots_in self.now section) router result }
     {
@@ -80,7 +79,7 @@ impl<A: Allocator + Copy> Database<A> {
         section: usize,
         router: RouterId,
         prefix: Prefix,
-    ) -> Merged<'_, SlotOfPrefix>
+    ) -> Merged<'_, SlotOf<Origin>>
         requires { IsSome (item_at self.now section) }
         ensures { AreSlotsOfPrefix (slots_in self.now section) router prefix result }
     {

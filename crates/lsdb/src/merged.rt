@@ -15,12 +15,6 @@ pub struct Merged<'a, T: Ord + Copy> {
     latest: &'a [T],
 }
 
-/// For this number of slots, the number of the latest notes for which there is room at first. An
-/// insertion among them moves few, and seldom are all noted again.
-pub(crate) fn latest_count(slots: usize) -> usize {
-    slots / 32 + 16
-}
-
 impl<'a, T: Ord + Copy> Model for Merged<'a, T> {
     ghost use Rattle.std.specs.Prelude.{List, true};
     ghost use Rattle.std.specs.Set.{sorted_merge};

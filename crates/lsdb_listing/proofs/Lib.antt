@@ -1,4 +1,3 @@
-pub mod Split
 pub mod Titles
 pub mod LineKinds
 pub mod ParsedLines

@@ -1,7 +1,7 @@
 -- What a list contains, one line after another.
-use Rattle.std.proofs.Common.{◌≡◌, ℕ, Bool, true, false, List, [], ◌∷◌, ◌++◌, append_assoc, Option, refl, sym, ap, ◌∙◌}
+use Rattle.std.proofs.Common.{◌≡◌, ℕ, Bool, List, [], ◌∷◌, ◌++◌, append_assoc, Option, refl, sym, ap, ◌∙◌}
 use Rattle.std.specs.Prelude.{map, ◌||◌}
-use Rattle.std.specs.List.{slice_split}
+use Rattle.std.specs.List.{list_any, slice_split}
 use Rattle.std.proofs.lemmas.List.{append-nil}
 use Rattle.frr_text.specs.Words.{words}
 use Rattle.lsdb_listing.specs.declared.heading.Heading.{Heading}
@@ -57,27 +57,11 @@ parsed_last before after all heading line_kind line here e m added h =
 
 -- ---- whether a line of this kind stands there
 
-module _ (test : Line → Bool) (line : Line) (here : List Line) where
-  step_any : (others : List Line) → has_line test (line ∷ others) ≡ (test line || has_line test others)
-  unfolding has_line
-  step_any others = refl
+any_mapped : (test : Line → Bool) (parts : List (List ℕ)) → list_any test (map words parts) ≡ list_any (λ line. test (words line)) parts
+any_mapped test [] = refl
+any_mapped test (part ∷ parts) = ap (λ (b : Bool). test (words part) || b) (any_mapped test parts)
 
-  line_at : (others : List Line) → here ≡ line ∷ others → has_line test here ≡ (test line || has_line test others)
-  line_at others e = ap (has_line test) e ∙ step_any others
-
-  pub line_here : (others : List Line) → here ≡ line ∷ others → test line ≡ true → has_line test here ≡ true
-  line_here others e h = line_at others e ∙ ap (λ (b : Bool). b || has_line test others) h
-
-  pub line_later : (others : List Line) → here ≡ line ∷ others → test line ≡ false → has_line test here ≡ has_line test others
-  line_later others e h = line_at others e ∙ ap (λ (b : Bool). b || has_line test others) h
-
-  or_false : (b : Bool) → (b || false) ≡ b
-  or_false true = refl
-  or_false false = refl
-
-  no_line : has_line test [] ≡ false
-  unfolding has_line
-  no_line = refl
-
-  pub line_last : here ≡ line ∷ [] → has_line test here ≡ test line
-  line_last e = line_at [] e ∙ ap (λ (b : Bool). test line || b) no_line ∙ or_false (test line)
+pub any_line : (test : Line → Bool) (text : List ℕ)
+    → has_line test (lines text) ≡ list_any (λ line. test (words line)) (slice_split is_line_feed text)
+unfolding has_line lines
+any_line test text = any_mapped test (slice_split is_line_feed text)

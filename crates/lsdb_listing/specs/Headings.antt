@@ -4,7 +4,7 @@ use Rattle.lsa_codec.specs.LsTypes.{router_lsa, network_lsa, summary_lsa, asbr_s
 use Rattle.lsa_codec.specs.declared.address.AreaId.{AreaId}
 use Rattle.frr_text.specs.Headings.{area_of}
 use Rattle.frr_text.specs.Labels.{first_word}
-use Rattle.frr_text.specs.Numbers.{address_of}
+use Rattle.text_words.specs.Addresses.{address_of}
 use Rattle.frr_text.specs.Rules.{◌>>=◌, or_else}
 use Rattle.lsdb_listing.specs.declared.heading.Heading.{Heading}
 use Rattle.lsdb_listing.specs.declared.heading.Heading.TheVariants as headings

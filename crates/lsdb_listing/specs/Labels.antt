@@ -1,7 +1,8 @@
 -- What FRR and BIRD print around the rows of a list.
-use Rattle.std.specs.Prelude.{ℕ, List, [], ◌∷◌, codes, bytes_eq, Bool, Option, Some, None, if◌then◌else◌}
+use Rattle.std.specs.Prelude.{ℕ, List, codes, Bool, Option}
 use Rattle.std.specs.Option.{is_some}
-use Rattle.frr_text.specs.Words.{Word, words}
+use Rattle.text_words.specs.Words.{after_words}
+use Rattle.frr_text.specs.Words.{words}
 use Rattle.lsdb_listing.specs.declared.label.Label.{Label}
 use Rattle.lsdb_listing.specs.declared.label.Label.TheVariants as label
 use Rattle.lsdb_listing.specs.Lines.{Line}
@@ -27,12 +28,6 @@ text_of label.Printer = codes "OSPF Router with ID"
 text_of label.Bird = codes "BIRD"
 text_of label.States = codes "States"
 text_of label.Age = codes "LS age:"
-
--- the words after these, where the line begins with these
-unfoldable pub after_words : List Word → Line → Option Line
-after_words [] line = Some line
-after_words (wanted ∷ front) [] = None
-after_words (wanted ∷ front) (word ∷ line) = if bytes_eq word wanted then after_words front line else None
 
 -- the words after a label, where the line begins with it
 unfoldable pub after_label : Label → Line → Option Line

@@ -3,7 +3,8 @@ use Rattle.std.specs.Prelude.{ℕ, ◌==◌, ◌&&◌, ◌∷◌, length, Option
 use Rattle.lsa_codec.specs.declared.address.AreaId.{AreaId}
 use Rattle.frr_text.specs.Words.{Word}
 use Rattle.frr_text.specs.Labels.{first_word}
-use Rattle.frr_text.specs.Numbers.{number_up_to, hex_up_to, address_of}
+use Rattle.text_words.specs.Numbers.{number_up_to, hex_up_to}
+use Rattle.text_words.specs.Addresses.{address_of}
 use Rattle.frr_text.specs.Rules.{◌>>=◌, Rule}
 use Rattle.lsdb_listing.specs.declared.heading.Heading.{Heading}
 use Rattle.lsdb_listing.specs.declared.heading.Heading.TheVariants as headings

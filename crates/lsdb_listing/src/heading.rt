@@ -1,18 +1,16 @@
 //! Lines that say where the rows below them belong.
 
-ghost use Rattle.std.specs.Prelude.{◌≡◌, option_map};
-ghost use Rattle.std.specs.List.{slice_split};
+ghost use Rattle.std.specs.Prelude.{◌≡◌};
 ghost use Rattle.frr_text.specs.Words.{words};
-ghost use Rattle.frr_text.specs.Headings.{area_of};
 ghost use Rattle.frr_text.specs.Rules.{or_else};
 ghost use Rattle.lsdb_listing.specs.Headings.{titles, area_after, table_as, table_among, area_section, is_bare, is_global, is_link, bare_section, section_in};
 ghost use Rattle.lsdb_listing.specs.Rows.{area_under};
 
 use crate::label::{Label, after_label};
-use crate::line::cut_at;
 use crate::title::{TITLES, Title};
-use frr_text::{address_of, next_word};
+use frr_text::{area_of, next_word};
 use lsa_codec::AreaId;
+use text_words::address_of;
 
 /// What stands above rows.
 #[derive(Clone, Copy, Debug)]
@@ -33,17 +31,6 @@ impl Heading {
             Heading::Section(area) => area,
         }
     }
-}
-
-/// The area that a word names, perhaps before a closing parenthesis.
-fn area_of(word: &[u8]) -> Option<AreaId>
-    ensures { result ≡ area_of word.now }
-{
-    let name = match cut_at(word, b')') {
-        Some((name, _)) => name,
-        None => word,
-    };
-    address_of(name).map(AreaId)
 }
 
 /// The area that is named after a title, if one is.

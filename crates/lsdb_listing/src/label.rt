@@ -2,9 +2,9 @@
 
 ghost use Rattle.std.specs.Prelude.{◌≡◌, option_map};
 ghost use Rattle.frr_text.specs.Words.{words};
-ghost use Rattle.lsdb_listing.specs.Labels.{text_of, after_words, after_label, begins_with};
+ghost use Rattle.lsdb_listing.specs.Labels.{text_of, after_label, begins_with};
 
-use frr_text::next_word;
+use text_words::{Blanks, after_words};
 
 /// What is printed around rows.
 #[derive(Clone, Copy)]
@@ -80,33 +80,12 @@ fn text_of(label: Label) -> &'static [u8]
     }
 }
 
-/// What follows these words, where the line begins with them.
-#[tactic(auto, unfolding(crate::specs::Labels::after_words))]
-fn after_words<'a>(front: &[u8], line: &'a [u8]) -> Option<&'a [u8]>
-    ensures { option_map (λ rest. words rest.now) result
-        ≡ after_words (words front.now) (words line.now) }
-{
-    let mut left = front;
-    let mut rest = line;
-    while let Some((wanted, more)) = next_word(left) {
-        let Some((word, after)) = next_word(rest) else {
-            return None;
-        };
-        if word != wanted {
-            return None;
-        }
-        left = more;
-        rest = after;
-    }
-    Some(rest)
-}
-
 /// What follows a label, where the line begins with it.
-#[tactic(auto, unfolding(crate::specs::Labels::after_label))]
+#[tactic(auto, unfolding(crate::specs::Labels::after_label, frr_text::specs::Words::words))]
 pub(crate) fn after_label(label: Label, line: &[u8]) -> Option<&[u8]>
     ensures { option_map (λ rest. words rest.now) result ≡ after_label label (words line.now) }
 {
-    after_words(text_of(label), line)
+    after_words(Blanks::InText, text_of(label), line)
 }
 
 /// Whether a line begins with a label.

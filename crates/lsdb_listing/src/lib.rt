@@ -5,9 +5,8 @@
 //! their areas.
 #![tactic(auto)]
 
-// Lines, and what is printed in them.
+// What is printed in lines.
 mod label;
-mod line;
 
 // Headings and rows.
 mod heading;

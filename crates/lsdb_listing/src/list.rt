@@ -10,7 +10,6 @@ ghost use Rattle.lsdb_listing.specs.Sorting.{header_of, finding_of, parsed_of, h
 use crate::fault::ListFault;
 use crate::finding::ListFinding;
 use crate::label::{Label, begins_with};
-use crate::line::cut_at;
 use crate::line_kind::line_kind_of;
 use crate::parsed_line::{ParsedLine, parse_all};
 use lsa_instances::Header;
@@ -82,14 +81,7 @@ fn is_title(line: &[u8]) -> bool
 fn has_title(text: &[u8]) -> bool
     ensures { result ≡ has_line is_title (lines text.now) }
 {
-    let mut rest = text;
-    while let Some((line, after)) = cut_at(rest, b'\n') {
-        if is_title(line) {
-            return true;
-        }
-        rest = after;
-    }
-    is_title(rest)
+    text.split(|byte| *byte == b'\n').any(|line| is_title(line))
 }
 
 /// Whether a line is the first of an LSA that is printed whole.
@@ -103,14 +95,8 @@ fn is_detail(line: &[u8]) -> bool
 fn has_detail(text: &[u8]) -> bool
     ensures { result ≡ has_line is_detail (lines text.now) }
 {
-    let mut rest = text;
-    while let Some((line, after)) = cut_at(rest, b'\n') {
-        if is_detail(line) {
-            return true;
-        }
-        rest = after;
-    }
-    is_detail(rest)
+    text.split(|byte| *byte == b'\n')
+        .any(|line| is_detail(line))
 }
 
 /// Whether one of the lines is the heading of rows, and no LSA is printed whole.

@@ -8,12 +8,12 @@ ghost use Rattle.lsdb_listing.specs.ParsedLines.{in_scope, parsed_row, parsed_by
 
 use crate::finding::ListFinding;
 use crate::heading::Heading;
-use crate::line::cut_at;
 use crate::line_kind::{LineKind, line_kind_of};
 use crate::row::{Row, row_under};
 use lsa_codec::AreaId;
 use lsa_instances::{Header, LINK_OPAQUE_LSA, Place, Scope};
 use std::alloc::{AllocError, Allocator};
+use text_words::cut_at;
 
 /// What a line contains.
 #[derive(Clone, Copy, Debug)]

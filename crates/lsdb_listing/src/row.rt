@@ -2,13 +2,15 @@
 
 ghost use Rattle.std.specs.Prelude.{◌≡◌, ◌≤◌, IfSome, option_map};
 ghost use Rattle.frr_text.specs.Words.{words};
-ghost use Rattle.frr_text.specs.Numbers.{number_up_to, address_of};
+ghost use Rattle.text_words.specs.Numbers.{number_up_to};
+ghost use Rattle.text_words.specs.Addresses.{address_of};
 ghost use Rattle.lsdb_listing.specs.Rows.{hex_of, marked_hex_of, value_of, table_row, section_row, row_under};
 
 use crate::heading::Heading;
-use frr_text::{address_of, hex_up_to, next_word, number_up_to};
+use frr_text::next_word;
 use lsa_codec::{Addr, Key, RouterId};
 use lsa_instances::InstanceId;
+use text_words::{address_of, hex_up_to, number_up_to};
 
 /// What a row has.
 #[derive(Clone, Copy)]

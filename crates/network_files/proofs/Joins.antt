@@ -6,7 +6,7 @@ use Rattle.lsa_instances.specs.declared.observation.Observation.{Observation}
 use Rattle.lsdb.specs.Lists.{Lists, IsDatabase}
 use Rattle.lsdb.specs.Text.{text}
 use Rattle.network_files.specs.declared.parsed_file.ParsedFile.{ParsedFile}
-use Rattle.network_files.specs.Dumps.{observations_of, areas_of, IsDump, IsJoinFault}
+use Rattle.network_files.specs.Dumps.{observations_of, areas_of, IsDump, IsJoinFault, IsJoinedFrom}
 use Rattle.lsa_instances.specs.declared.area.AreaReport.{AreaReport}
 use Rattle.lsdb_merge.specs.declared.fault.JoinFault.{JoinFault}
 use Rattle.lsdb_merge.specs.declared.fault.JoinFault.TheVariants.{OutOfMemory}
@@ -36,6 +36,9 @@ module _ {A : Type 0} (flushed : FlushedLsas) where
 
     pub is_dump : (db : Lists) (dump : List ℕ) → IsDatabase db → dump ≡ text db → IsJoined db parsed areas → IsDump flushed files dump
     is_dump db dump h spelled k = dump_with db dump h spelled (moved (IsJoined db) k)
+
+    pub is_joined : (db : Lists) → IsDatabase db → IsJoined db parsed areas → IsJoinedFrom flushed files db
+    is_joined db h k = let m = moved (IsJoined db) k in record { joining = m.0; sound = h; lists = m.1 }
 
     pub is_fault : (fault : JoinFault) → IsFaultOf fault parsed areas → IsJoinFault flushed files fault
     is_fault fault h = moved (IsFaultOf fault) h

@@ -1,12 +1,23 @@
-//! The dump that all files together make.
+//! The database that all files together make, and its dump.
 
 ghost use Rattle.std.specs.Prelude.{◌≡◌, ◌++◌, IfOk, IfErr, OnOk};
-ghost use Rattle.network_files.specs.Dumps.{observations_of, areas_of, IsDump, IsJoinFault};
+ghost use Rattle.lsdb.specs.Slots.{lists_of};
+ghost use Rattle.network_files.specs.Dumps.{observations_of, areas_of, IsDump, IsJoinFault, IsJoinedFrom};
 
 use crate::parsed_file::ParsedFile;
 use lsa_instances::{AreaReport, FlushedLsas, Observation};
+use lsdb::Database;
 use lsdb_merge::{JoinFault, join};
-use std::alloc::{AllocError, Allocator};
+use std::alloc::{AllocError, Allocator, Global};
+
+/// The database that all files together make, and its dump.
+#[derive(Drop)]
+pub struct JoinedFiles<A: Allocator = Global> {
+    /// The database.
+    pub database: Database<A>,
+    /// Its dump.
+    pub dump: Vec<u8, A>,
+}
 
 /// Adds copies of observations.
 fn put_observations<A: Allocator + Copy>(
@@ -54,23 +65,26 @@ pub fn areas_of<A: Allocator + Copy>(
     Ok(all)
 }
 
-/// The dump of the database that all files together make. Its sections have the newest instance of
-/// each LSA in the files; flushed LSAs are left out, or kept at MaxAge, as `flushed` says. Its
+/// The database that all files together make, and its dump. Its sections have the newest instance
+/// of each LSA in the files; flushed LSAs are left out, or kept at MaxAge, as `flushed` says. Its
 /// areas are those whose kind the files report and those that have LSAs.
 ///
 /// # Errors
 ///
 /// Those of [`join`].
-pub fn dump_of_files<A: Allocator + Copy>(
+pub fn join_files<A: Allocator + Copy>(
     alloc: A,
     flushed: FlushedLsas,
     files: &[ParsedFile<A>],
-) -> Result<Vec<u8, A>, JoinFault>
-    ensures dump { IfOk result (λ dump. IsDump flushed files.now dump.items) }
+) -> Result<JoinedFiles<A>, JoinFault>
+    ensures database { IfOk result
+        (λ made. IsJoinedFrom flushed files.now (lists_of made.database)) }
+    ensures dump { IfOk result (λ made. IsDump flushed files.now made.dump.items) }
     ensures fault { IfErr result (λ fault. IsJoinFault flushed files.now fault) }
 {
     let observations = observations_of(alloc, files)?;
     let areas = areas_of(alloc, files)?;
     let database = join(alloc, flushed, observations, &areas)?;
-    Ok(database.dump()?)
+    let dump = database.dump()?;
+    Ok(JoinedFiles { database, dump })
 }

@@ -1,5 +1,5 @@
 -- How the program ends after a fault: the status, and the line on standard error.
-use Rattle.std.specs.Prelude.{ℕ, List, [], ◌++◌, Option, Some, None, codes, decimal}
+use Rattle.std.specs.Prelude.{◌≡◌, ℕ, List, [], ◌++◌, Option, Some, None, codes, decimal}
 use Rattle.std.specs.Borrow.{Bor}
 use Rattle.capture_files.specs.declared.fault.CaptureFault.{CaptureFault}
 use Rattle.capture_files.specs.declared.fault.CaptureFault.TheVariants as captures
@@ -15,8 +15,10 @@ use Rattle.ospf_capture.specs.declared.fault.ExitFault.{ExitFault}
 use Rattle.ospf_capture.specs.declared.fault.ExitFault.TheVariants.{File, Join, Output, Memory}
 use Rattle.ospf_capture.specs.declared.fault.FileEnd.{FileEnd}
 use Rattle.ospf_capture.specs.declared.fault.FileEnd.TheVariants.{Open, Read, Write, TooLarge, Refused, NotAList}
-use Rattle.streams.specs.declared.reading.ReadFault.{ReadFault}
-use Rattle.streams.specs.declared.reading.ReadFault.TheVariants as reads
+use Rattle.host_io.specs.declared.reading.ReadFault.{ReadFault}
+use Rattle.host_io.specs.declared.reading.ReadFault.TheVariants as reads
+use Rattle.host_io.specs.declared.fault.ReplaceFault.{ReplaceFault}
+use Rattle.host_io.specs.declared.fault.ReplaceFault.TheVariants as replace
 
 -- ---- faults of a run
 
@@ -48,6 +50,17 @@ unread name reads.OutOfMemory = Memory
 abbrev pub unlisted : Bor (List ℕ) → ListFault → ExitFault
 unlisted name lists.NotAList = File name NotAList
 unlisted name lists.OutOfMemory = Memory
+
+-- ---- the file of the dump
+
+-- a file that was not replaced could not be opened, or not be written
+abbrev pub not_replaced : Bor (List ℕ) → ReplaceFault → ExitFault
+not_replaced name replace.Open = File name Open
+not_replaced name replace.Write = File name Write
+
+-- why a file of this name was not replaced
+abbrev pub IsNotReplaced : Bor (List ℕ) → ExitFault → Type 0
+IsNotReplaced name fault = (why : ReplaceFault) × (fault ≡ not_replaced name why)
 
 -- ---- status
 

@@ -1,4 +1,3 @@
 pub mod CommandLine
-pub mod OptionsFaults
 pub mod Exit
 pub mod steps

@@ -3,9 +3,9 @@
 use crate::fault::{ExitFault, unlisted, unread};
 use crate::files::open_file;
 use capture_report::LONGEST_FILE;
+use host_io::{Watched, read_whole};
 use lsdb::Database;
 use lsdb_listing::{PrintedList, list_lines, read_list};
-use streams::{Watched, read_whole};
 
 /// Opens a list, and reads it.
 fn list_of<'a>(rt: &HostRuntime, name: &'a str) -> Result<PrintedList, ExitFault<'a>> {

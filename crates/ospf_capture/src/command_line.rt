@@ -1,16 +1,17 @@
 //! The command line, read by clap.
 
 ghost use Rattle.std.specs.Prelude.{◌≡◌, false, [], codes, map, string_bytes, IfOk, IfErr, OnOk};
-ghost use Rattle.clap.specs.Words.{app_of, count_of, fault_of, found_of, new_app};
-ghost use Rattle.clap.specs.Words.{rows_of, rule_of};
-ghost use Rattle.ospf_capture.specs.CommandLine.{against_rule, files_rule, keep_rule, out_rule};
-ghost use Rattle.ospf_capture.specs.CommandLine.{kept_where, ospf_capture, with_version, IsGiven};
-ghost use Rattle.ospf_capture.specs.steps.FoundFiles.{IsRead, values_in};
-ghost use Rattle.ospf_capture.specs.OptionsFaults.{IsRefusal};
+ghost use Rattle.clap.specs.Words.{app_of, count_of, fault_of, found_of, rows_of, rule_of};
+ghost use Rattle.host_arguments.specs.Commands.{values_in};
+ghost use Rattle.host_arguments.specs.OptionsFaults.{IsRefusal};
+ghost use Rattle.ospf_capture.specs.CommandLine.{files_rule, keep_rule};
+ghost use Rattle.ospf_capture.specs.CommandLine.{kept_where, ospf_capture, IsGiven};
+ghost use Rattle.ospf_capture.specs.steps.FoundFiles.{IsRead};
 
-use crate::arguments::{Options, OptionsFault};
+use crate::arguments::Options;
 use crate::help::{ABOUT, DETAILS, VERSION};
 use clap::{Arg, ArgAction, ArgMatches, Command};
+use host_arguments::{CommandTexts, OptionsFault, named_command, value_option};
 use lsa_instances::FlushedLsas;
 use std::alloc::{AllocError, Global};
 
@@ -37,49 +38,28 @@ pub(crate) fn options<'a>(alloc: Global, words: &'a [String]) -> Result<Options<
 fn command<'a>(alloc: Global) -> Result<Command<'a>, AllocError>
     ensures { IfOk result (λ command. app_of command ≡ ospf_capture) }
 {
-    named_command(alloc)?
-        .arg(out_option(alloc))?
-        .arg(against_option(alloc))?
+    let texts = CommandTexts {
+        about: ABOUT,
+        version: VERSION,
+        after_help: DETAILS,
+    };
+    named_command(alloc, "ospf-capture", texts)?
+        .arg(value_option(
+            alloc,
+            "out",
+            "DUMP",
+            "Where to write the dump; without it none is written",
+            ArgAction::Set,
+        ))?
+        .arg(value_option(
+            alloc,
+            "against",
+            "LIST",
+            "Compare the dump with this list of another router's LSAs; may be given again",
+            ArgAction::Append,
+        ))?
         .arg(keep_option(alloc))?
         .arg(file_words(alloc))
-}
-
-/// The command without its arguments: its name, and the texts of `--help` and `--version`.
-fn named_command<'a>(alloc: Global) -> Result<Command<'a>, AllocError>
-    ensures { IfOk result
-        (λ command. app_of command ≡ with_version (new_app (codes "ospf-capture"))) }
-{
-    Ok(
-        Command::new(alloc, "ospf-capture")
-            .bin_name("ospf-capture")?
-            .about(ABOUT)
-            .version(VERSION)
-            .after_help(DETAILS),
-    )
-}
-
-/// The option `--out DUMP`.
-fn out_option<'a>(alloc: Global) -> Arg<'a>
-    ensures rule { rule_of result ≡ out_rule }
-    ensures local { result.global ≡ false }
-{
-    Arg::new(alloc, "out")
-        .long("out")
-        .value_name("DUMP")
-        .help("Where to write the dump; without it none is written")
-        .action(ArgAction::Set)
-}
-
-/// The option `--against LIST`, once for each list.
-fn against_option<'a>(alloc: Global) -> Arg<'a>
-    ensures rule { rule_of result ≡ against_rule }
-    ensures local { result.global ≡ false }
-{
-    Arg::new(alloc, "against")
-        .long("against")
-        .value_name("LIST")
-        .help("Compare the dump with this list of another router's LSAs; may be given again")
-        .action(ArgAction::Append)
 }
 
 /// The option `--keep-flushed`.

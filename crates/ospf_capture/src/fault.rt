@@ -1,14 +1,14 @@
 //! Why the program ends with status 3, 4 or 5.
 
 ghost use Rattle.std.specs.Prelude.{◌≡◌};
-ghost use Rattle.ospf_capture.specs.Exit.{index_of, named, unlisted, unread};
+ghost use Rattle.ospf_capture.specs.Exit.{index_of, named, not_replaced, unlisted, unread};
 
 use capture_report::RunFault;
+use host_io::{ReadFault, ReplaceFault};
 use lsdb_listing::ListFault;
 use lsdb_merge::JoinFault;
 use network_files::FileFault;
 use std::alloc::{AllocError, AllocFailed};
-use streams::ReadFault;
 
 /// What is wrong with a file.
 #[derive(Clone, Copy, Debug, PartialEq, Eq)]
@@ -84,6 +84,16 @@ pub(crate) fn unlisted(name: &str, fault: ListFault) -> ExitFault<'_>
     match fault {
         ListFault::NotAList => ExitFault::File(name, FileEnd::NotAList),
         ListFault::OutOfMemory => ExitFault::Memory,
+    }
+}
+
+/// Why the file of a name is not replaced.
+pub(crate) fn not_replaced(name: &str, fault: ReplaceFault) -> ExitFault<'_>
+    ensures { result ≡ not_replaced name.entry fault }
+{
+    match fault {
+        ReplaceFault::Open => ExitFault::File(name, FileEnd::Open),
+        ReplaceFault::Write => ExitFault::File(name, FileEnd::Write),
     }
 }
 

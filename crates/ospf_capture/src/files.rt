@@ -1,28 +1,32 @@
 //! The files that the command line names.
 
-ghost use Rattle.std.specs.Prelude.{◌≡◌, All, IfOk, false};
-ghost use Rattle.streams.specs.Watched.{has_failed};
+ghost use Rattle.std.specs.Prelude.{◌≡◌, All, IfErr, IfOk, OnOk, false};
+ghost use Rattle.host_io.specs.Taking.{IsTaken};
+ghost use Rattle.host_io.specs.Watched.{has_failed};
+ghost use Rattle.ospf_capture.specs.Exit.{IsNotReplaced};
 
 use crate::against::{against_lines, lists_of};
 use crate::arguments::Options;
-use crate::fault::{ExitFault, FileEnd, index_of, named};
+use crate::fault::{ExitFault, FileEnd, index_of, named, not_replaced};
 use capture_report::{
     RunFault, area_findings, database_findings, file_findings, file_line, header_findings, run,
 };
 use findings::finding_lines;
+use host_io::{Watched, replace_file};
 use lsdb::Database;
 use lsdb_listing::PrintedList;
 use network_files::ParsedFile;
-use replaced_files::{ReplaceFault, replace_file};
-use std::fs::{self, File};
+use std::alloc::Alloc;
+use std::fs::{self, File, Files};
 use std::io::{self, Write};
-use streams::Watched;
 
 /// What findings about all files together are found in.
 const DATABASE: &str = "database";
 
-/// Opens a file.
-pub(crate) fn open_file<'a>(rt: &HostRuntime, name: &'a str) -> Result<File, ExitFault<'a>> {
+/// Opens a file, which the command line names.
+pub(crate) fn open_file<'a>(rt: &HostRuntime, name: &'a str) -> Result<File, ExitFault<'a>>
+    ensures fault { IfErr result (λ fault. fault ≡ ExitFault.File name.entry FileEnd.Open) }
+{
     fs::open(rt, name).map_err(|_| ExitFault::File(name, FileEnd::Open))
 }
 
@@ -92,12 +96,6 @@ fn all_finding_lines<'a>(
     Ok(lines)
 }
 
-/// The database of the dump that all files make.
-fn database_of<'a>(rt: &HostRuntime, dump: &[u8]) -> Result<Database, ExitFault<'a>> {
-    // It is the dump of a joined database, so only memory can be missing.
-    Database::load(rt.alloc(), dump).map_err(|_| ExitFault::Memory)
-}
-
 /// The lines of what a database lacks: by its own LSAs, and beside the lists of other routers.
 fn missing_lines<'a>(
     rt: &HostRuntime,
@@ -111,12 +109,12 @@ fn missing_lines<'a>(
     Ok(lines)
 }
 
-/// Writes the dump to its file.
-fn write_dump<'a>(rt: &HostRuntime, path: &'a str, dump: &[u8]) -> Result<(), ExitFault<'a>> {
-    replace_file(rt, path, dump).map_err(|fault| match fault {
-        ReplaceFault::Open => ExitFault::File(path, FileEnd::Open),
-        ReplaceFault::Write => ExitFault::File(path, FileEnd::Write),
-    })
+/// Writes the dump to its file, which is replaced once the new one is whole.
+fn write_dump<'a, R: Files + Alloc>(rt: &R, path: &'a str, dump: &[u8]) -> Result<(), ExitFault<'a>>
+    ensures taken { OnOk result (IsTaken R.File.contents dump.now) }
+    ensures fault { IfErr result (IsNotReplaced path.entry) }
+{
+    replace_file(rt, path, dump).map_err(|fault| not_replaced(path, fault))
 }
 
 /// Reads the lists and the files, reports what each file contains and what is missing, and writes
@@ -131,14 +129,12 @@ pub(crate) fn make_dump<'a>(
     let mut files = opened(rt, names)?;
     let lists = lists_of(rt, options.against.as_slice())?;
     let mut dump = Watched::new(Vec::new(rt.alloc()));
-    let parsed = run(rt.alloc(), options.flushed, &mut files, &mut dump).map_err(
+    let made = run(rt.alloc(), options.flushed, &mut files, &mut dump).map_err(
         |fault| fault_of_file(names, fault),
     )?;
-    let dump = dump.into_inner();
-    let database = database_of(rt, dump.as_slice())?;
-    let missing = missing_lines(rt, options.against.as_slice(), &lists, &database)?;
-    let given = file_lines(rt, names, &parsed)?;
-    let findings = all_finding_lines(rt, names, &parsed, &database)?;
+    let missing = missing_lines(rt, options.against.as_slice(), &lists, &made.database)?;
+    let given = file_lines(rt, names, &made.files)?;
+    let findings = all_finding_lines(rt, names, &made.files, &made.database)?;
     io::writer(rt)
         .write_all(given.as_bytes())
         .map_err(|_| ExitFault::Output)?;
@@ -146,7 +142,7 @@ pub(crate) fn make_dump<'a>(
     let _ = rt.stderr().write_all(findings.as_bytes());
     let _ = rt.stderr().write_all(missing.as_bytes());
     if let Some(path) = options.out {
-        write_dump(rt, path, dump.as_slice())?;
+        write_dump(rt, path, dump.into_inner().as_slice())?;
     }
     Ok(findings.is_empty() && missing.is_empty())
 }

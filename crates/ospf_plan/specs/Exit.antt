@@ -9,8 +9,8 @@ use Rattle.ospf_plan.specs.declared.fault.FileArg.{FileArg}
 use Rattle.ospf_plan.specs.declared.fault.FileArg.TheVariants as file
 use Rattle.ospf_plan.specs.declared.fault.ExitFault.{ExitFault}
 use Rattle.ospf_plan.specs.declared.fault.ExitFault.TheVariants.{Run, Open}
-use Rattle.replaced_files.specs.declared.fault.ReplaceFault.{ReplaceFault}
-use Rattle.replaced_files.specs.declared.fault.ReplaceFault.TheVariants as replace
+use Rattle.host_io.specs.declared.fault.ReplaceFault.{ReplaceFault}
+use Rattle.host_io.specs.declared.fault.ReplaceFault.TheVariants as replace
 
 abbrev pub dump_status : DumpFaultKind → ℕ
 dump_status kind.OutOfMemory = 5

@@ -1,53 +1,15 @@
-//! The arguments that the command line gives, or why it gives none.
-
-ghost use Rattle.std.specs.Prelude.{◌≡◌};
-ghost use Rattle.ospf_plan.specs.declared.arguments.OptionsFault.TheVariants.{OutOfMemory};
-ghost use Rattle.ospf_plan.specs.OptionsFaults.{IsFaultOf};
-
-use clap::Error;
-use clap::error::ErrorKind;
-use std::alloc::AllocError;
+//! The options that the command line gives.
 
 /// The files that the command line names.
 #[derive(Debug, Drop)]
-pub(crate) struct Options {
+pub(crate) struct Options<'a> {
     /// The dump or the session that is opened. Without it the program takes a small sample of its
     /// own.
-    pub(crate) dump: Option<String>,
+    pub(crate) dump: Option<&'a str>,
     /// The script that is carried out. Without it the program reads standard input.
-    pub(crate) script: Option<String>,
+    pub(crate) script: Option<&'a str>,
     /// Where the dump of the database after the script goes. Without it none is written.
-    pub(crate) out: Option<String>,
+    pub(crate) out: Option<&'a str>,
     /// Where the session after the script goes. Without it none is saved.
-    pub(crate) save: Option<String>,
-}
-
-/// Why words give no options.
-#[derive(Debug, Drop)]
-pub(crate) enum OptionsFault {
-    /// The words are refused, or ask for help or for the version. Its text goes where
-    /// `Error::print` puts it, and its status is `Error::exit_code`. It is never for want of
-    /// memory.
-    Refused(Error),
-    /// A growth was refused.
-    OutOfMemory,
-}
-
-impl From<AllocError> for OptionsFault {
-    ghost from_gives = { λ _ fault. fault ≡ OutOfMemory };
-
-    fn from(_error: AllocError) -> OptionsFault {
-        OptionsFault::OutOfMemory
-    }
-}
-
-impl From<Error> for OptionsFault {
-    ghost from_gives = { λ error fault. IsFaultOf error fault };
-
-    fn from(error: Error) -> OptionsFault {
-        match error.kind() {
-            ErrorKind::OutOfMemory => OptionsFault::OutOfMemory,
-            _ => OptionsFault::Refused(error),
-        }
-    }
+    pub(crate) save: Option<&'a str>,
 }

@@ -1,14 +1,15 @@
 //! The command line, read by clap.
 
-ghost use Rattle.std.specs.Prelude.{◌≡◌, false, [], codes, map, option_map, string_bytes, IfOk, IfErr, OnOk};
-ghost use Rattle.clap.specs.Words.{app_of, fault_of, first_value, found_of, new_app, rule_of};
-ghost use Rattle.ospf_plan.specs.CommandLine.{file_rule, ospf_plan, with_version, IsGiven};
+ghost use Rattle.std.specs.Prelude.{◌≡◌, false, [], map, string_bytes, IfOk, IfErr, OnOk};
+ghost use Rattle.clap.specs.Words.{app_of, fault_of, found_of, rule_of};
+ghost use Rattle.host_arguments.specs.OptionsFaults.{IsRefusal};
+ghost use Rattle.ospf_plan.specs.CommandLine.{file_rule, ospf_plan, IsGiven};
 ghost use Rattle.ospf_plan.specs.steps.FoundFiles.{IsRead};
-ghost use Rattle.ospf_plan.specs.OptionsFaults.{IsRefusal};
 
-use crate::arguments::{Options, OptionsFault};
+use crate::arguments::Options;
 use crate::help::{ABOUT, COMMANDS, VERSION};
 use clap::{Arg, ArgAction, ArgMatches, Command};
+use host_arguments::{CommandTexts, OptionsFault, named_command, value_option};
 use std::alloc::{AllocError, Global};
 
 /// The options that the words of a command line give. The first word is the program's name.
@@ -20,20 +21,25 @@ use std::alloc::{AllocError, Global};
 ///
 /// `Refused` for words that clap refuses, `--help` and `--version` among them, with clap's own
 /// error. `OutOfMemory` where a growth was refused.
-pub(crate) fn options(alloc: Global, words: &[String]) -> Result<Options, OptionsFault>
+pub(crate) fn options<'a>(alloc: Global, words: &'a [String]) -> Result<Options<'a>, OptionsFault>
     ensures given { IfOk result (IsGiven (map string_bytes words.now)) }
     ensures accepted { OnOk result (fault_of ospf_plan (map string_bytes words.now) ≡ []) }
     ensures refused { IfErr result (IsRefusal (fault_of ospf_plan (map string_bytes words.now))) }
 {
     let matches = command(alloc)?.try_get_matches_from(words)?;
-    Ok(named_files(alloc, &matches)?)
+    Ok(named_files(&matches))
 }
 
 /// The program's command. Its name in help and usage is `ospf-plan`, whatever file it is run from.
 fn command<'a>(alloc: Global) -> Result<Command<'a>, AllocError>
     ensures { IfOk result (λ command. app_of command ≡ ospf_plan) }
 {
-    named_command(alloc)?
+    let texts = CommandTexts {
+        about: ABOUT,
+        version: VERSION,
+        after_help: COMMANDS,
+    };
+    named_command(alloc, "ospf-plan", texts)?
         .arg(file_option(
             alloc,
             "dump",
@@ -44,54 +50,22 @@ fn command<'a>(alloc: Global) -> Result<Command<'a>, AllocError>
         .arg(file_option(alloc, "save", "Where to save the session after the script"))
 }
 
-/// The command without its options: its name, and the texts of `--help` and `--version`.
-fn named_command<'a>(alloc: Global) -> Result<Command<'a>, AllocError>
-    ensures { IfOk result (λ command. app_of command ≡ with_version (new_app (codes "ospf-plan"))) }
-{
-    Ok(
-        Command::new(alloc, "ospf-plan")
-            .bin_name("ospf-plan")?
-            .about(ABOUT)
-            .version(VERSION)
-            .after_help(COMMANDS),
-    )
-}
-
 /// An option `--NAME FILE`.
 fn file_option<'a>(alloc: Global, name: &'a str, help: &'a str) -> Arg<'a>
     ensures rule { rule_of result ≡ file_rule name.entry.now }
     ensures local { result.global ≡ false }
 {
-    Arg::new(alloc, name)
-        .long(name)
-        .value_name("FILE")
-        .help(help)
-        .action(ArgAction::Set)
+    value_option(alloc, name, "FILE", help, ArgAction::Set)
 }
 
 /// The files that clap found.
-fn named_files(alloc: Global, matches: &ArgMatches<'_>) -> Result<Options, AllocError>
-    ensures { IfOk result (IsRead (found_of matches.now)) }
+fn named_files<'a>(matches: &ArgMatches<'a>) -> Options<'a>
+    ensures { IsRead (found_of matches.now) result }
 {
-    Ok(Options {
-        dump: file_name(alloc, matches, "dump")?,
-        script: file_name(alloc, matches, "script")?,
-        out: file_name(alloc, matches, "out")?,
-        save: file_name(alloc, matches, "save")?,
-    })
-}
-
-/// The value that clap found for an option, as a text of its own.
-fn file_name(
-    alloc: Global,
-    matches: &ArgMatches<'_>,
-    name: &str,
-) -> Result<Option<String>, AllocError>
-    ensures { IfOk result (λ text.
-        option_map string_bytes text ≡ first_value (found_of matches.now) name.now) }
-{
-    match matches.get_str(name) {
-        None => Ok(None),
-        Some(text) => Ok(Some(String::from_str(alloc, text)?)),
+    Options {
+        dump: matches.get_str("dump"),
+        script: matches.get_str("script"),
+        out: matches.get_str("out"),
+        save: matches.get_str("save"),
     }
 }

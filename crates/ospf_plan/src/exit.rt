@@ -1,6 +1,6 @@
 //! How the program ends after a fault: its status, and the line on standard error.
 
-ghost use Rattle.std.specs.Prelude.{◌≡◌, IfOk};
+ghost use Rattle.std.specs.Prelude.{◌≡◌, IfOk, string_bytes};
 ghost use Rattle.ospf_plan.specs.Exit.{exit_status, exit_text};
 
 use crate::fault::{ExitFault, FileArg};
@@ -30,20 +30,18 @@ fn status_of(fault: &ExitFault) -> u8
 }
 
 /// The line of a refused dump.
-fn dump_line<A: Allocator + Copy>(alloc: A, fault: DumpFault) -> Result<Vec<u8, A>, AllocError>
-    ensures { IfOk result (λ line. line.items ≡ exit_text (ExitFault.Run (RunFault.Dump fault))) }
+fn dump_line<A: Allocator + Copy>(alloc: A, fault: DumpFault) -> Result<String<A>, AllocError>
+    ensures { IfOk result (λ line.
+        string_bytes line ≡ exit_text (ExitFault.Run (RunFault.Dump fault))) }
 {
     match fault.kind {
-        DumpFaultKind::OutOfMemory => Vec::from_slice(alloc, b"memory: OutOfMemory\n"),
-        _ => {
-            let line = format!(in alloc; "dump: {fault}\n")?;
-            Ok(line.into_bytes())
-        }
+        DumpFaultKind::OutOfMemory => String::from_str(alloc, "memory: OutOfMemory\n"),
+        _ => format!(in alloc; "dump: {fault}\n"),
     }
 }
 
-fn line_of<A: Allocator + Copy>(alloc: A, fault: &ExitFault) -> Result<Vec<u8, A>, AllocError>
-    ensures { IfOk result (λ line. line.items ≡ exit_text fault.now) }
+fn line_of<A: Allocator + Copy>(alloc: A, fault: &ExitFault) -> Result<String<A>, AllocError>
+    ensures { IfOk result (λ line. string_bytes line ≡ exit_text fault.now) }
 {
     let line = match *fault {
         ExitFault::Run(RunFault::Dump(fault)) => return dump_line(alloc, fault),
@@ -56,7 +54,7 @@ fn line_of<A: Allocator + Copy>(alloc: A, fault: &ExitFault) -> Result<Vec<u8, A
         ExitFault::Open(FileArg::Out) => "file: Open out\n",
         ExitFault::Open(FileArg::Save) => "file: Open save\n",
     };
-    Vec::from_slice(alloc, line.as_bytes())
+    String::from_str(alloc, line)
 }
 
 /// The exit status and the line for standard error, its line feed included: 3 where the dump is
@@ -67,9 +65,9 @@ fn line_of<A: Allocator + Copy>(alloc: A, fault: &ExitFault) -> Result<Vec<u8, A
 pub(crate) fn exit_line<A: Allocator + Copy>(
     alloc: A,
     fault: &ExitFault,
-) -> (u8, Result<Vec<u8, A>, AllocError>)
+) -> (u8, Result<String<A>, AllocError>)
     ensures status { result.0 ≡ exit_status fault.now }
-    ensures line { IfOk result.1 (λ line. line.items ≡ exit_text fault.now) }
+    ensures line { IfOk result.1 (λ line. string_bytes line ≡ exit_text fault.now) }
 {
     (status_of(fault), line_of(alloc, fault))
 }

@@ -6,6 +6,10 @@
 //! command line names.
 #![tactic(auto)]
 
+ghost use Rattle.std.specs.Prelude.{◌≡◌};
+ghost use Rattle.std.specs.Process.{exit_status as process_status};
+ghost use Rattle.ospf_plan.specs.Exit.{exit_status};
+
 mod arguments;
 mod command_line;
 mod exit;
@@ -13,19 +17,14 @@ mod fault;
 mod files;
 mod help;
 
-use arguments::{Options, OptionsFault};
-use clap::Error;
+use arguments::Options;
 use command_line::options;
 use exit::exit_line;
 use fault::ExitFault;
+use host_arguments::{end_without_options, end_without_words, words};
+use host_io::end_with;
 use std::alloc::Global;
-use std::io::{ErrorKind, Write};
 use std::process::ExitCode;
-use std::{env, io};
-use whole_run::RunFault;
-
-/// The line where an argument is no text.
-const BAD_ARGUMENT: &[u8] = b"error: an argument is not UTF-8 text\n";
 
 fn main(rt: HostRuntime) -> ExitCode {
     let words = match words(&rt) {
@@ -34,14 +33,8 @@ fn main(rt: HostRuntime) -> ExitCode {
     };
     match options(rt.alloc(), words.as_slice()) {
         Ok(given) => plan(&rt, &given),
-        Err(OptionsFault::Refused(error)) => refuse(&rt, &error),
-        Err(OptionsFault::OutOfMemory) => end(&rt, &ExitFault::Run(RunFault::OutOfMemory)),
+        Err(fault) => end_without_options(&rt, &fault),
     }
-}
-
-/// The words of the command line, the program's name first.
-fn words(rt: &HostRuntime) -> io::Result<Vec<String>> {
-    Ok(env::args(rt)?.collect::<Vec<String>>(rt.alloc())?)
 }
 
 /// A block that is taken and given back, in bytes: the C library goes by the size of one of up to
@@ -58,7 +51,7 @@ fn keep_heap(alloc: Global) {
 }
 
 /// Runs the script on the dump.
-fn plan(rt: &HostRuntime, given: &Options) -> ExitCode {
+fn plan(rt: &HostRuntime, given: &Options<'_>) -> ExitCode {
     keep_heap(rt.alloc());
     match files::run_files(rt, given) {
         Ok(_summary) => ExitCode::SUCCESS,
@@ -66,36 +59,10 @@ fn plan(rt: &HostRuntime, given: &Options) -> ExitCode {
     }
 }
 
-/// Shows the text of clap, and ends as it says.
-fn refuse(rt: &HostRuntime, error: &Error) -> ExitCode {
-    // Where the text cannot be shown, the status alone reports it.
-    let _ = error.print(rt);
-    if error.use_stderr() {
-        ExitCode::from(2)
-    } else {
-        ExitCode::SUCCESS
-    }
-}
-
-/// Ends where the words of the command line cannot be had: there is no memory, or one is no text.
-fn end_without_words(rt: &HostRuntime, error: &io::Error) -> ExitCode {
-    match error.kind() {
-        ErrorKind::OutOfMemory => end(rt, &ExitFault::Run(RunFault::OutOfMemory)),
-        _ => {
-            // Where standard error takes no line, the status alone reports it.
-            let _ = rt.stderr().write_all(BAD_ARGUMENT);
-            ExitCode::from(2)
-        }
-    }
-}
-
 /// Writes the line of a fault, and ends with its status.
-fn end(rt: &HostRuntime, fault: &ExitFault) -> ExitCode {
+fn end(rt: &HostRuntime, fault: &ExitFault) -> ExitCode
+    ensures { process_status result ≡ exit_status fault.now }
+{
     let (status, line) = exit_line(rt.alloc(), fault);
-    // Where there is no memory for the line, or standard error takes none, the status alone reports
-    // it.
-    if let Ok(line) = line {
-        let _ = rt.stderr().write_all(line.as_slice());
-    }
-    ExitCode::from(status)
+    end_with(rt, status, line)
 }

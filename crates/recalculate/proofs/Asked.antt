@@ -1,7 +1,7 @@
 -- What asking for a table of one router leaves of the trees that are kept, and of their count.
 use Rattle.std.proofs.Common.{◌≡◌, ◌≢◌, ℕ, ◌+◌, ◌≤◌, Bool, true, false, not, filter, List, [], ◌∷◌, length, cond, Some, None, Result, Ok, Err, inl}
 use Rattle.std.proofs.Common.{refl, sym, ap, ◌∙◌, subst, arith}
-use Rattle.std.specs.Prelude.{OnErr, OnOk}
+use Rattle.std.specs.Prelude.{OnOk}
 use Rattle.lsa_codec.specs.declared.address.AreaId.{AreaId}
 use Rattle.lsa_codec.specs.declared.address.RouterId.{RouterId}
 use Rattle.lsdb.specs.Lists.{AreaHead, Lists}
@@ -13,7 +13,9 @@ use Rattle.routing_table.specs.KeptTrees.{GainsOnly, KeptRouters, TreeSet, areas
 use Rattle.routing_table.proofs.KeptLemmas.{none_gained}
 use Rattle.routing_table.proofs.TableLemmas.{counted_twice}
 use Rattle.recalculate.specs.Asking.{GainsTrees, HasTrees, HasTreesOfTable, IsAskedAgain, gained, lacking}
+use Rattle.recalculate.specs.CallsForTables.{CalculatesTrees, KeepsBaseline}
 use Rattle.recalculate.specs.Planning.{PlannerValue}
+use Rattle.routing_table.specs.declared.table.TableFault.{TableFault}
 use Rattle.recalculate.proofs.TreesSpared.{reported}
 
 -- what is shown of the trees
@@ -82,22 +84,16 @@ module _ (db : Lists) (router : RouterId) where
   pub gained_all : (old new : KeptRouters) → HasTrees db router new → gained db router old new ≡ lacking db router old
   gained_all old new all = ap length (all_came (is_kept old) (is_kept new) router (attached_areas db router) all)
 
--- where none came, the count stays
-pub same_counted : (base : Lists) (router : RouterId) (old new : KeptRouters) (was is : ℕ) → is ≡ was → new ≡ old
-    → is ≡ counted_by (gained base router old new) was
-same_counted base router old new was is runs same = runs ∙ ap (λ n. counted_by n was) (sym (gained_same base router old new same))
-
 -- ---- a table of the beginning, where it is asked for again
 
 module _ (base : Lists) (router : RouterId) (p q : PlannerValue) where
-  pub base_counted : {X E : Type 0} (r : Result X E) → OnOk r (q.runs ≡ counted_by (lacking base router p.first_kept) p.runs)
-      → OnOk r (HasTrees base router q.first_kept) → OnErr r (q.tables.first ≢ None → q ≡ p) → q.tables.first ≡ Some router
-      → q.runs ≡ counted_by (gained base router p.first_kept q.first_kept) p.runs
-  base_counted (Ok v) runs trees gone first =
-      runs ∙ ap (λ n. counted_by n p.runs) (sym (gained_all base router p.first_kept q.first_kept trees))
-  base_counted (Err e) runs trees gone first =
+  pub base_counted : {X : Type 0} (r : Result X TableFault) → CalculatesTrees base router r (p.first_kept, p.runs) (q.first_kept, q.runs)
+      → KeepsBaseline router r p q → q.tables.first ≡ Some router → q.runs ≡ counted_by (gained base router p.first_kept q.first_kept) p.runs
+  base_counted (Ok v) made keeps first =
+      made.counts ∙ ap (λ n. counted_by n p.runs) (sym (gained_all base router p.first_kept q.first_kept made.all))
+  base_counted (Err e) made keeps first =
       let there : q.tables.first ≢ None = λ none. absurd cc in
-      let same = gone there in
+      let same = keeps there in
       ap (λ (v : PlannerValue). v.runs) same
       ∙ ap (λ n. counted_by n p.runs) (sym (gained_same base router p.first_kept q.first_kept (ap (λ (v : PlannerValue). v.first_kept) same)))
 
@@ -153,15 +149,6 @@ module _ (router : RouterId) (p q r : PlannerValue) (session : q.session ≡ p.s
 -- more trees may be counted than were
 pub more_at_most : (most more old new : ℕ) → most ≤ more → CountsAtMost most old new → CountsAtMost more old new
 more_at_most most more old new le counts = record { trees = counts.trees; few = omega (arith, counts.few, le); counts = counts.counts }
-
--- where all is as it was
-pub same_runs : (router : RouterId) (p q : PlannerValue) → q ≡ p
-    → q.runs ≡ counted_by (gained (state p.session) router p.kept q.kept) (counted_by (gained p.session.base router p.first_kept q.first_kept) p.runs)
-same_runs router p q same =
-    let kept : q.kept ≡ p.kept = ap (λ (v : PlannerValue). v.kept) same in
-    let first_kept : q.first_kept ≡ p.first_kept = ap (λ (v : PlannerValue). v.first_kept) same in
-    same_counted p.session.base router p.first_kept q.first_kept p.runs q.runs (ap (λ (v : PlannerValue). v.runs) same) first_kept
-    ∙ ap (λ n. counted_by n (counted_by (gained p.session.base router p.first_kept q.first_kept) p.runs)) (sym (gained_same (state p.session) router p.kept q.kept kept))
 
 -- the count stays
 pub same_at_most : (most old new : ℕ) → new ≡ old → CountsAtMost most old new

@@ -15,12 +15,16 @@ use Rattle.edit_script.specs.declared.edit.Edit.{Edit}
 use Rattle.edit_history.specs.declared.fault.EditFault.{EditFault}
 use Rattle.edit_history.specs.Effect.{edit_touches, graph_lsas}
 use Rattle.edit_history.specs.Session.{Session, Request, edit, undo, redo, accepted_or, after_request, edited, moved_back, moved_on, state}
+use Rattle.lsdb.specs.Lists.{Lists}
 use Rattle.recalculate.specs.Calls.{AreMade, Call, CarriedOut, IsTaken, Leads, after_calls, call_touches, calls_touch, request_touches}
-use Rattle.routing_table.specs.AreasTrees.{KeptTreesValue, routers_of}
+use Rattle.routing_table.specs.AreasTrees.{routers_of}
 use Rattle.routing_table.specs.KeptTrees.{KeptRouters, is_kept, less_touched}
-use Rattle.recalculate.specs.Planning.{KeptTables, PlannerValue}
+use Rattle.routing_table.specs.Tables.{TableValue}
+use Rattle.recalculate.specs.declared.moved.Moved.{Moved}
+use Rattle.recalculate.specs.Planning.{AreCachesOf, CacheValue, IsCacheOf, PlannerValue, router_of, without_last}
+use Rattle.recalculate.specs.steps.Moving.{before, moved_touches}
 use Rattle.recalculate.specs.Reached.{IsReached}
-use Rattle.recalculate.proofs.Touches.{IsKeptAs, edited_spares, redone_spares, undone_spares}
+use Rattle.recalculate.proofs.Touches.{IsStep, edited_spares, redone_spares, undone_spares}
 
 -- ---- requests that are taken
 
@@ -36,13 +40,44 @@ redo_taken s k le = cond-false (ltb (length s.undone) k) s (moved_on k s) (le-lt
 pub took : (s t : Session) (e : Edit) → edited s e ≡ Ok t → IsTaken (edit e) s
 took s t e is = subst (λ (r : Result Session EditFault). IsOk r) (sym is) refl
 
--- what a planner shows that has these trees
-abbrev pub shown : Session → ℕ → (trees first_trees : KeptTreesValue) → KeptTables → PlannerValue
-shown s runs trees first_trees tables = record { session = s; runs = runs; kept = routers_of trees; first_kept = routers_of first_trees; tables = tables }
+-- what a planner shows that keeps this
+abbrev pub shown : Session → ℕ → (present baseline : CacheValue) → Option RouterId → PlannerValue
+shown s runs present baseline asked = record {
+  session = s;
+  runs = runs;
+  kept = routers_of present.trees;
+  first_kept = routers_of baseline.trees;
+  tables = record { last = router_of present.table; first = router_of baseline.table; asked = asked };
+}
 
-pub carries_out : (r : Request) (s t : Session) (runs : ℕ) (areas new first_trees : KeptTreesValue) (before after : KeptTables) → IsTaken r s → after_request s r ≡ t → IsReached t
-    → IsKeptAs (state t) (request_touches r s) areas new → CarriedOut r (shown s runs areas first_trees before) (shown t runs new first_trees after)
-carries_out r s t runs areas new first_trees before after taken is reached kept = record { taken = taken; session = sym is; reached = reached; runs = refl; kept = kept.shown }
+-- a step that a request made, and what is kept of the session's database before and after
+module _ (request : Request) (moved : Moved) (s t : Session) (step : IsStep request moved s t) (old new : CacheValue) where
+  pub less_kept_by : routers_of new.trees ≡ less_touched (λ area. moved_touches moved area t) (routers_of old.trees)
+      → routers_of new.trees ≡ less_touched (request_touches request s) (routers_of old.trees)
+  less_kept_by kept = kept ∙ ap (λ (f : AreaId → Bool). less_touched f (routers_of old.trees)) (λ i area. step.touched area i)
+
+  pub caches_follow : (baseline : CacheValue) → (IsCacheOf (state (before moved t)) old → IsCacheOf (state t) new) → AreCachesOf s old baseline
+      → AreCachesOf t new baseline
+  caches_follow baseline follows all = record {
+    present = follows (subst (λ (db : Lists). IsCacheOf db old) (sym step.back) all.present);
+    baseline = subst (λ (db : Lists). IsCacheOf db baseline) (sym step.base) all.baseline;
+  }
+
+  module _ (runs : ℕ) (baseline : CacheValue) (asked : Option RouterId) where
+    pub carries_out : routers_of new.trees ≡ less_touched (λ area. moved_touches moved area t) (routers_of old.trees) → IsTaken request s
+        → after_request s request ≡ t → IsReached t → CarriedOut request (shown s runs old baseline asked) (shown t runs new baseline asked)
+    carries_out kept taken is reached = record { taken = taken; session = sym is; reached = reached; runs = refl; kept = less_kept_by kept }
+
+-- the last table went, and nothing else of what is not named
+pub others_stay : (s t : Session) (runs : ℕ) (old new baseline : CacheValue) (asked : Option RouterId) → new.table ≡ None
+    → shown t runs new baseline asked
+    ≡ record (shown s runs old baseline asked) {
+      session = t;
+      kept = routers_of new.trees;
+      tables = without_last (shown s runs old baseline asked).tables;
+    }
+others_stay s t runs old new baseline asked none =
+    ap (λ (o : Option TableValue). shown t runs (record { trees = new.trees; externals = new.externals; table = o }) baseline asked) none
 
 -- ---- the graph of an area stays
 

@@ -1,19 +1,31 @@
--- Calls, one after another, that each leave the session and keep the trees.
-use Rattle.std.proofs.Common.{◌≡◌, ◌∙◌, subst, sym}
-use Rattle.routing_table.specs.KeptTrees.{IsWithin, is_kept}
+-- What calls leave that ask for tables.
+use Rattle.std.proofs.Common.{◌≡◌, ◌∙◌, ℕ, true, Option, ap, subst, sym}
+use Rattle.lsa_codec.specs.declared.address.RouterId.{RouterId}
+use Rattle.edit_history.specs.Session.{Session}
+use Rattle.routing_table.specs.AreasTrees.{routers_of}
+use Rattle.routing_table.specs.KeptTrees.{KeptRouters, is_kept}
+use Rattle.routing_table.specs.Tables.{TableValue}
 use Rattle.recalculate.specs.Calls.{Stayed}
-use Rattle.recalculate.specs.Planning.{PlannerValue}
+use Rattle.recalculate.specs.Planning.{CacheValue, PlannerValue}
+use Rattle.recalculate.proofs.CallsSpare.{shown}
 
+-- one call after another
 pub stayed_twice : (p q r : PlannerValue) → Stayed p q → Stayed q r → Stayed p r
 stayed_twice p q r first second = record {
   session = second.session ∙ first.session;
   keeps = λ area router there. second.keeps area router (first.keeps area router there);
 }
 
--- the session is that of the planner as it was, and trees came alone
-pub stayed_from : (p q r : PlannerValue) → p ≡ q → r.session ≡ p.session → IsWithin (is_kept p.kept) (is_kept r.kept) → Stayed q r
-stayed_from p q r same session keeps = subst (λ (v : PlannerValue). Stayed v r) same (record { session = session; keeps = keeps })
+-- the session stays, and so do the trees of its database
+pub stayed_same : (p q : PlannerValue) → q.session ≡ p.session → q.kept ≡ p.kept → Stayed p q
+stayed_same p q session kept = record {
+  session = session;
+  keeps = λ area router there. subst (λ (k : KeptRouters). is_kept k area router ≡ true) (sym kept) there;
+}
 
--- the same, where what the planner shows is written otherwise
-pub stayed_as : (p q r s : PlannerValue) → p ≡ q → s ≡ r → r.session ≡ p.session → IsWithin (is_kept p.kept) (is_kept r.kept) → Stayed q s
-stayed_as p q r s same shown session keeps = subst (λ (v : PlannerValue). Stayed q v) (sym shown) (stayed_from p q r same session keeps)
+-- more is kept of the session's database
+module _ (s : Session) (runs now_runs : ℕ) (old new baseline : CacheValue) (asked : Option RouterId) where
+  pub grown_shown : new.table ≡ old.table
+      → shown s now_runs new baseline asked ≡ record (shown s runs old baseline asked) { runs = now_runs; kept = routers_of new.trees }
+  grown_shown same =
+      ap (λ (o : Option TableValue). shown s now_runs (record { trees = new.trees; externals = new.externals; table = o }) baseline asked) same

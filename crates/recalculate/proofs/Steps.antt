@@ -19,12 +19,11 @@ use Rattle.recalculate.specs.Reached.{IsStudied}
 start_links : (d : Slots) (h : HistoryData) → IsDatabase (lists_of d) → h ≡ record { past = []; future = [] } → Links d h
 start_links d h sound e = subst (λ (k : HistoryData). Links d k) (sym e) (record { sound = sound; back = tt; on = tt })
 
-pub start_studied : (d : Slots) (h : HistoryData) → IsDatabase (lists_of d) → h ≡ record { past = []; future = [] } → IsStudied d h None None
+pub start_studied : (d : Slots) (h : HistoryData) → IsDatabase (lists_of d) → h ≡ record { past = []; future = [] } → IsStudied d h None
 start_studied d h sound e = record {
   links = start_links d h sound e;
   few = omega (arith, ap (λ (k : HistoryData). length k.past) e, ap (λ (k : HistoryData). length k.future) e);
   loaded = tt;
-  externals = tt;
 }
 
 -- the database of a history is that of the session that it shows

@@ -1,17 +1,15 @@
 -- What an undo or redo leaves is a study, whether it is carried out or refused.
-use Rattle.std.proofs.Common.{◌≡◌, ℕ, ◌+◌, ◌-◌, ◌≤◌, List, Option, Result, Ok, Err, IsOk, IfSome, length, take, drop}
+use Rattle.std.proofs.Common.{◌≡◌, ℕ, ◌+◌, ◌-◌, List, Option, Result, Ok, Err, IfSome, length, take, drop}
 use Rattle.std.proofs.Common.{◌∙◌, refl, sym, ap, subst, arith}
-use Rattle.std.specs.Prelude.{◌↔◌, OnErr, OnOk}
+use Rattle.std.specs.Prelude.{OnErr, OnOk}
 use Rattle.std.proofs.lemmas.List.{length-append, take-append-drop}
 use Rattle.lsdb.specs.Lists.{Lists}
 use Rattle.lsdb.specs.Slots.{Slots, lists_of}
 use Rattle.edit_script.specs.declared.edit.Edit.{Edit}
 use Rattle.edit_history.specs.Journal.{HistoryData, Links}
-use Rattle.edit_history.specs.Session.{Session, moved_back, moved_on, session_of, state}
+use Rattle.edit_history.specs.Session.{Session, moved_back, moved_on, session_of}
 use Rattle.edit_history.proofs.HistoryLemmas.{done_len, undone_len}
-use Rattle.external_routes.specs.declared.external_lsas.ExternalLsa.{ExternalLsa}
 use Rattle.recalculate.specs.Reached.{IsStudied}
-use Rattle.recalculate.proofs.ExternalLists.{IsListOf, of_session, to_session}
 
 abbrev edit_count : Session → ℕ
 edit_count s = length s.done + length s.undone
@@ -27,14 +25,11 @@ back_count k s =
 on_count : (k : ℕ) (s : Session) → edit_count (moved_on k s) ≡ edit_count s
 on_count k s = omega (arith, parts k s.undone, length-append s.done (take k s.undone))
 
-module _ (d e : Slots) (h k : HistoryData) (copy : Option Slots) (before after : Option (List ExternalLsa)) (links : Links e k) where
-  abbrev WasStudied : Type 0
-  WasStudied = IsStudied d h copy before
-
+module _ (d e : Slots) (h k : HistoryData) (copy : Option Slots) (links : Links e k) where
   -- it led to a session of the same base, with the same number of edits
   led : (s : Session) → session_of e k ≡ s → s.base ≡ (session_of d h).base → edit_count s ≡ edit_count (session_of d h)
-      → IsListOf (state s) after → WasStudied → IsStudied e k copy after
-  led s is base edits listed studied = record {
+      → IsStudied d h copy → IsStudied e k copy
+  led s is base edits studied = record {
     links = links;
     few = omega (
       arith,
@@ -48,27 +43,23 @@ module _ (d e : Slots) (h k : HistoryData) (copy : Option Slots) (before after :
       studied.few,
     );
     loaded = subst (λ (db : Lists). IfSome copy (λ slots. lists_of slots ≡ db)) (sym (ap (λ (t : Session). t.base) is ∙ base)) studied.loaded;
-    externals = of_session after e k s links is listed;
   }
 
   abbrev IsSame : Type 0
   IsSame = (k ≡ h) × (e ≡ d)
 
-  refused : IsSame → IsListOf (lists_of d) after → WasStudied → IsStudied e k copy after
-  refused same listed studied =
-      led (session_of d h) (ap (λ (x : HistoryData). session_of e x) same.0 ∙ ap (λ (p : Slots). session_of p h) same.1) refl refl
-      (to_session after d h (session_of d h) studied.links refl listed) studied
+  refused : IsSame → IsStudied d h copy → IsStudied e k copy
+  refused same studied =
+      led (session_of d h) (ap (λ (x : HistoryData). session_of e x) same.0 ∙ ap (λ (p : Slots). session_of p h) same.1) refl refl studied
 
-  pub undo_studied : {T E : Type 0} (r : Result T E) (count : ℕ) → (IsOk r ↔ (count ≤ length h.past))
-      → OnOk r (session_of e k ≡ moved_back count (session_of d h)) → OnErr r IsSame → IsListOf (lists_of d) after
-      → (count ≤ length h.past → IsListOf (state (moved_back count (session_of d h))) after) → WasStudied → IsStudied e k copy after
-  undo_studied (Ok x) count ok session same now undone studied =
-      led (moved_back count (session_of d h)) session refl (back_count count (session_of d h)) (undone (ok.0 refl)) studied
-  undo_studied (Err fault) count ok session same now undone studied = refused same now studied
+  pub undo_studied : {T E : Type 0} (r : Result T E) (count : ℕ) → OnOk r (session_of e k ≡ moved_back count (session_of d h)) → OnErr r IsSame
+      → IsStudied d h copy → IsStudied e k copy
+  undo_studied (Ok x) count session same studied =
+      led (moved_back count (session_of d h)) session refl (back_count count (session_of d h)) studied
+  undo_studied (Err fault) count session same studied = refused same studied
 
-  pub redo_studied : {T E : Type 0} (r : Result T E) (count : ℕ) → (IsOk r ↔ (count ≤ length h.future))
-      → OnOk r (session_of e k ≡ moved_on count (session_of d h)) → OnErr r IsSame → IsListOf (lists_of d) after
-      → (count ≤ length h.future → IsListOf (state (moved_on count (session_of d h))) after) → WasStudied → IsStudied e k copy after
-  redo_studied (Ok x) count ok session same now redone studied =
-      led (moved_on count (session_of d h)) session refl (on_count count (session_of d h)) (redone (ok.0 refl)) studied
-  redo_studied (Err fault) count ok session same now redone studied = refused same now studied
+  pub redo_studied : {T E : Type 0} (r : Result T E) (count : ℕ) → OnOk r (session_of e k ≡ moved_on count (session_of d h)) → OnErr r IsSame
+      → IsStudied d h copy → IsStudied e k copy
+  redo_studied (Ok x) count session same studied =
+      led (moved_on count (session_of d h)) session refl (on_count count (session_of d h)) studied
+  redo_studied (Err fault) count session same studied = refused same studied

@@ -9,14 +9,19 @@ use Rattle.edit_script.specs.declared.edit.Edit.{Edit}
 use Rattle.edit_history.specs.declared.fault.EditFault.{EditFault}
 use Rattle.edit_history.specs.declared.fault.EditFault.TheVariants.{HistoryFull}
 use Rattle.edit_history.specs.Effect.{◌>>=◌, edit_touches, effect, graph_lsas}
-use Rattle.edit_history.specs.Session.{Session, accepted, edited, edited_by, edits_touch, moved_back, moved_on, most_edits, redo_touches}
-use Rattle.edit_history.specs.Session.{state, undo_touches}
+use Rattle.edit_history.specs.Session.{Session, Request, edit, undo, redo, accepted, edited, edited_by, edits_touch, moved_back, moved_on, most_edits}
+use Rattle.edit_history.specs.Session.{redo_touches, state, undo_touches}
 use Rattle.edit_history.proofs.HistoryLemmas.{back_and_on, edits_back, on_and_back, seam_drop, seam_take}
 use Rattle.edit_history.proofs.HistoryLemmas.{redo_spares, undo_spares}
 use Rattle.routing_table.specs.AreasTrees.{AreasTrees, KeptTreesValue, AreAreasOf, AreOfDatabase, IsSpareOf, routers_by, routers_of}
 use Rattle.routing_table.specs.KeptTrees.{less_touched}
+use Rattle.recalculate.specs.declared.moved.Moved.{Moved}
+use Rattle.recalculate.specs.declared.moved.Moved.TheVariants.{On, Back}
+use Rattle.recalculate.specs.Calls.{request_touches}
 use Rattle.recalculate.specs.Reached.{IsReached}
-use Rattle.recalculate.proofs.TreesSpared.{reported_untouched, untouched, untouched_stay}
+use Rattle.recalculate.specs.steps.Moving.{HasMoved, before, moved_touches}
+use Rattle.recalculate.proofs.Caches.{edited_base}
+use Rattle.recalculate.proofs.TreesSpared.{reported_untouched, untouched_stay}
 
 -- ---- the edits that were taken back are the next to be carried out again, and the other way round
 
@@ -76,59 +81,55 @@ edited_spares s t e area reached h apart =
 
 -- ---- the trees that are kept after a step
 
--- they are those of this database, and are shown as the others less those of touched areas
-pub record IsKeptAs (db : Lists) (is_touched : AreaId → Bool) (kept new : KeptTreesValue) : Type 0 where
-  pub graphs : AreOfDatabase db new
-  pub shown : routers_of new ≡ less_touched is_touched (routers_of kept)
+pub spared : (moved : Moved) (s : Session) (area : AreaId) → IsReached s → moved_touches moved area s ≡ false
+    → graph_lsas area (state s) ≡ graph_lsas area (state (before moved s))
+spared (On k) s area reached apart = sym (undone_spares s k area reached apart)
+spared (Back k) s area reached apart = sym (redone_spares s k area reached apart)
 
-kept_as : (db after : Lists) (is_touched : AreaId → Bool) (kept new : KeptTreesValue)
-    → ((area : AreaId) → is_touched area ≡ false → graph_lsas area after ≡ graph_lsas area db)
-    → new.areas ≡ untouched is_touched kept.areas → (AreOfDatabase db kept → IfSome new.spare (IsSpareOf after))
-    → AreOfDatabase db kept → IsKeptAs after is_touched kept new
-kept_as db after is_touched kept new stay is spare all = record {
-  graphs = record {
-    areas = subst (λ (l : AreasTrees). AreAreasOf after l) (sym is) (untouched_stay db after is_touched stay kept.areas all.areas);
+module _ (moved : Moved) (s : Session) (old new : KeptTreesValue) (is : new.areas ≡ filter (λ a. not (moved_touches moved a.0 s)) old.areas) where
+  pub untouched_kept : routers_of new ≡ less_touched (λ area. moved_touches moved area s) (routers_of old)
+  untouched_kept = ap (λ (l : AreasTrees). routers_by l) is ∙ reported_untouched (λ area. moved_touches moved area s) old.areas
+
+  pub graphs_stay : IsReached s → (AreOfDatabase (state (before moved s)) old → IfSome new.spare (IsSpareOf (state s)))
+      → AreOfDatabase (state (before moved s)) old → AreOfDatabase (state s) new
+  graphs_stay reached spare all = record {
+    areas = subst (λ (l : AreasTrees). AreAreasOf (state s) l) (sym is)
+        (untouched_stay (state (before moved s)) (state s) (λ area. moved_touches moved area s)
+        (λ area apart. spared moved s area reached apart) old.areas all.areas);
     spare = spare all;
-  };
-  shown = ap (λ (l : AreasTrees). routers_by l) is ∙ reported_untouched is_touched kept.areas;
+  }
+
+-- ---- steps, as the requests that make them
+
+-- carrying a request out led from s to t, and moved over these edits
+pub record IsStep (request : Request) (moved : Moved) (s t : Session) : Type 0 where
+  pub enough : HasMoved moved t
+  pub base : t.base ≡ s.base
+  pub back : state (before moved t) ≡ state s
+  pub touched : (area : AreaId) → moved_touches moved area t ≡ request_touches request s area
+
+pub edit_step : (s t : Session) (e : Edit) → edited s e ≡ Ok t → IsStep (edit e) (On 1) s t
+edit_step s t e is = record {
+  enough = omega (arith, ap (λ (es : List Edit). length es) (done_after s t e is), length-append s.done (e ∷ []));
+  base = edited_base s t e is;
+  back = state_before s t e is;
+  touched = λ area. edited_touch area s t e is;
 }
 
--- the spare graph is that of a database, where it is that of another by which name it goes
-of_same : (before db : Lists) (kept : KeptTreesValue) (P : Type 0) → before ≡ db → (AreOfDatabase before kept → P) → AreOfDatabase db kept → P
-of_same before db kept P same spare all = spare (subst (λ (l : Lists). AreOfDatabase l kept) (sym same) all)
+pub undo_step : (s t : Session) (k : ℕ) → k ≤ length s.done → t ≡ moved_back k s → IsStep (undo k) (Back k) s t
+undo_step s t k le is = record {
+  enough = subst (λ (u : Session). k ≤ length u.undone) (sym is)
+      (omega (arith, length-append (drop (length s.done - k) s.done) s.undone, length-drop (length s.done - k) s.done, le));
+  base = ap (λ (u : Session). u.base) is;
+  back = ap (λ (u : Session). state (moved_on k u)) is ∙ ap (λ (u : Session). state u) (back_and_on s k le);
+  touched = λ area. ap (redo_touches k area) is ∙ undone_touch k area s le;
+}
 
-module _ (kept new : KeptTreesValue) (s t : Session) (all : AreOfDatabase (state s) kept) where
-  abbrev has_spare : Type 0
-  has_spare = IfSome new.spare (IsSpareOf (state t))
-
-  pub undone_kept : (k : ℕ) → IsReached s → k ≤ length s.done → t ≡ moved_back k s
-      → new.areas ≡ filter (λ a. not (redo_touches k a.0 t)) kept.areas → (AreOfDatabase (state (moved_on k t)) kept → has_spare)
-      → IsKeptAs (state t) (λ area. undo_touches k area s) kept new
-  undone_kept k reached le is by_code spare =
-      kept_as (state s) (state t) (λ area. undo_touches k area s) kept new
-      (λ area apart. ap (λ (x : Session). graph_lsas area (state x)) is ∙ undone_spares s k area reached apart)
-      (by_code ∙ ap (λ (f : AreaId → Bool). untouched f kept.areas) (λ i area. (ap (redo_touches k area) is ∙ undone_touch k area s le) i))
-      (of_same (state (moved_on k t)) (state s) kept has_spare
-      (ap (λ (x : Session). state (moved_on k x)) is ∙ ap (λ (x : Session). state x) (back_and_on s k le)) spare) all
-
-  pub redone_kept : (k : ℕ) → IsReached s → k ≤ length s.undone → t ≡ moved_on k s
-      → new.areas ≡ filter (λ a. not (undo_touches k a.0 t)) kept.areas → (AreOfDatabase (state (moved_back k t)) kept → has_spare)
-      → IsKeptAs (state t) (λ area. redo_touches k area s) kept new
-  redone_kept k reached le is by_code spare =
-      kept_as (state s) (state t) (λ area. redo_touches k area s) kept new
-      (λ area apart. ap (λ (x : Session). graph_lsas area (state x)) is ∙ redone_spares s k area reached apart)
-      (by_code ∙ ap (λ (f : AreaId → Bool). untouched f kept.areas) (λ i area. (ap (undo_touches k area) is ∙ redone_touch k area s le) i))
-      (of_same (state (moved_back k t)) (state s) kept has_spare
-      (ap (λ (x : Session). state (moved_back k x)) is ∙ ap (λ (x : Session). state x) (on_and_back s k le)) spare) all
-
-  pub edited_kept : (e : Edit) → IsReached t → edited s e ≡ Ok t
-      → new.areas ≡ filter (λ a. not (undo_touches 1 a.0 t)) kept.areas → (AreOfDatabase (state (moved_back 1 t)) kept → has_spare)
-      → IsKeptAs (state t) (λ area. edit_touches area (state s) e) kept new
-  edited_kept e reached is by_code spare =
-      kept_as (state s) (state t) (λ area. edit_touches area (state s) e) kept new
-      (λ area apart. edited_spares s t e area reached is apart)
-      (by_code ∙ ap (λ (f : AreaId → Bool). untouched f kept.areas) (λ i area. edited_touch area s t e is i))
-      (of_same (state (moved_back 1 t)) (state s) kept has_spare (state_before s t e is) spare) all
-
-pub one_done : (s t : Session) (e : Edit) → edited s e ≡ Ok t → 1 ≤ length t.done
-one_done s t e h = omega (arith, ap (λ (es : List Edit). length es) (done_after s t e h), length-append s.done (e ∷ []))
+pub redo_step : (s t : Session) (k : ℕ) → k ≤ length s.undone → t ≡ moved_on k s → IsStep (redo k) (On k) s t
+redo_step s t k le is = record {
+  enough = subst (λ (u : Session). k ≤ length u.done) (sym is)
+      (omega (arith, length-append s.done (take k s.undone), length-take k s.undone, le));
+  base = ap (λ (u : Session). u.base) is;
+  back = ap (λ (u : Session). state (moved_back k u)) is ∙ ap (λ (u : Session). state u) (on_and_back s k le);
+  touched = λ area. ap (undo_touches k area) is ∙ redone_touch k area s le;
+}

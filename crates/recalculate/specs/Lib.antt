@@ -3,3 +3,5 @@ pub mod Counts
 pub mod Reached
 pub mod Calls
 pub mod Asking
+pub mod CallsForTables
+pub mod steps

@@ -1,8 +1,11 @@
 -- What a planner shows: its session, how often it calculated trees, and which trees and tables it keeps.
-use Rattle.std.specs.Prelude.{◌≡◌, ℕ, [], Option, Some, None, IfSome, option_map}
+use Rattle.std.specs.Prelude.{◌≡◌, ℕ, List, [], Option, Some, None, IfSome, option_map}
 use Rattle.lsa_codec.specs.declared.address.RouterId.{RouterId}
-use Rattle.lsdb.specs.Lists.{Lists}
+use Rattle.lsdb.specs.declared.section.Section.TheVariants.{AsWide}
+use Rattle.lsdb.specs.Lists.{Lists, lsas_of}
 use Rattle.area_routes.specs.Attached.{attached_areas}
+use Rattle.external_routes.specs.declared.external_lsas.ExternalLsa.{ExternalLsa}
+use Rattle.external_routes.specs.ExternalLsas.{AreListedOf}
 use Rattle.edit_history.specs.Session.{Session, state}
 use Rattle.routing_table.specs.AreasTrees.{KeptTreesValue, AreOfDatabase, routers_of}
 use Rattle.routing_table.specs.KeptTrees.{KeptRouters, areas_without_tree, is_kept}
@@ -36,10 +39,19 @@ pub record IsTableOver (db : Lists) (kept : KeptRouters) (router : RouterId) (ta
   pub shows : table_in db router ≡ Some table
   pub trees : areas_without_tree (is_kept kept) router (attached_areas db router) ≡ []
 
--- the trees that are kept are those of the session's database, and of the database that it began at; and if a table of the latter
--- is kept, or a last table, that is one of the session's database, they are tables there, over trees that are kept
-pub record KeepsTrees (s : Session) (trees first_trees : KeptTreesValue) (first_table last_table : Option TableValue) : Type 0 where
-  pub now : AreOfDatabase (state s) trees
-  pub beginning : AreOfDatabase s.base first_trees
-  pub table : IfSome first_table (λ table. IsTableOver s.base (routers_of first_trees) table.router table)
-  pub last : IfSome last_table (λ table. IsTableOver (state s) (routers_of trees) table.router table)
+-- what is kept of a database for tables: graphs and trees of its areas, the list of its AS-external-LSAs, and the last table
+pub record CacheValue : Type 0 where
+  pub trees : KeptTreesValue
+  pub externals : Option (List ExternalLsa)
+  pub table : Option TableValue
+
+-- all of it is of this database
+pub record IsCacheOf (db : Lists) (cache : CacheValue) : Type 0 where
+  pub trees : AreOfDatabase db cache.trees
+  pub externals : AreListedOf (lsas_of AsWide db) cache.externals
+  pub table : IfSome cache.table (λ table. IsTableOver db (routers_of cache.trees) table.router table)
+
+-- what is kept is of the session's database, and of the database that it began at
+pub record AreCachesOf (s : Session) (now beginning : CacheValue) : Type 0 where
+  pub present : IsCacheOf (state s) now
+  pub baseline : IsCacheOf s.base beginning

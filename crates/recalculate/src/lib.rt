@@ -3,11 +3,11 @@
 
 mod copying;
 mod counts;
-mod external_list;
 mod laws;
+mod moved;
 mod planner;
 mod study;
-mod tables;
+mod table_cache;
 mod touched;
 
 pub use counts::Info;

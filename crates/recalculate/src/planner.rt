@@ -3,13 +3,14 @@
 ghost use Rattle.std.specs.Prelude.{◌≡◌, IfOk};
 
 use crate::counts::Info;
+use crate::moved::Moved;
 use crate::study::Study;
-use crate::touched::{drop_done, drop_undone};
+use crate::table_cache::TableCache;
 use edit_history::{EditFault, Record, RedoFault, UndoFault};
 use edit_script::Edit;
 use lsa_codec::RouterId;
 use lsdb::Database;
-use routing_table::{KeptTrees, Table, TableFault, routers};
+use routing_table::{Table, TableFault, routers};
 use spf::Meter;
 use std::alloc::{AllocError, Allocator, Global};
 use std::marker::Model;
@@ -27,36 +28,31 @@ use std::rc::Rc;
 #[derive(Drop)]
 pub struct Planner<A: Allocator = Global> {
     study: Study<A>,
-    trees: KeptTrees<A>,
-    first_trees: KeptTrees<A>,
-    first_table: Option<Rc<Table<A>, A>>,
-    last_table: Option<Rc<Table<A>, A>>,
+    present: TableCache<A>,
+    baseline: TableCache<A>,
     asked: Option<RouterId>,
     meter: Meter,
 }
 
 impl<A: Allocator> Model for Planner<A> {
-    ghost use Rattle.std.specs.Prelude.{option_map};
     ghost use Rattle.routing_table.specs.AreasTrees.{routers_of};
-    ghost use Rattle.recalculate.specs.Planning.{KeepsTrees, PlannerValue, router_of};
+    ghost use Rattle.recalculate.specs.Planning.{AreCachesOf, PlannerValue, router_of};
 
     ghost Value = { PlannerValue };
 
     ghost view = { λ p. record {
       session = p.study;
       runs = p.meter;
-      kept = routers_of p.trees;
-      first_kept = routers_of p.first_trees;
+      kept = routers_of p.present.trees;
+      first_kept = routers_of p.baseline.trees;
       tables = record {
-        last = router_of (option_map (λ table. table.value) p.last_table);
-        first = router_of (option_map (λ table. table.value) p.first_table);
+        last = router_of p.present.table;
+        first = router_of p.baseline.table;
         asked = p.asked;
       };
     } };
 
-    ghost invariant = { λ p. KeepsTrees p.study p.trees p.first_trees
-        (option_map (λ table. table.value) p.first_table)
-        (option_map (λ table. table.value) p.last_table) };
+    ghost invariant = { λ p. AreCachesOf p.study p.present p.baseline };
 }
 
 impl<A: Allocator + Copy> Planner<A> {
@@ -68,17 +64,17 @@ impl<A: Allocator + Copy> Planner<A> {
     ghost use Rattle.area_routes.specs.Attached.{attached_areas};
     ghost use Rattle.edit_history.specs.declared.fault.EditFault.TheVariants.{HistoryFull, OutOfMemory};
     ghost use Rattle.edit_history.specs.Effect.{edit_touches};
-    ghost use Rattle.recalculate.specs.Asking.{GainsTrees, HasTrees, HasTreesOfTable, IsAskedAgain, gained, lacking};
-    ghost use Rattle.recalculate.specs.Calls.{CarriedOut, Stayed};
-    ghost use Rattle.recalculate.specs.Counts.{info_of};
-    ghost use Rattle.recalculate.specs.Planning.{IsTableOver, without_last};
-    ghost use Rattle.routing_table.specs.Counting.{counted_by, CountsAtMost};
-    ghost use Rattle.routing_table.specs.KeptTrees.{IsWithin, areas_without_tree, is_kept, less_touched};
-    ghost use Rattle.recalculate.specs.Reached.{IsReached};
-    ghost use Rattle.routing_table.specs.Routers.{attached_routers};
-    ghost use Rattle.routing_table.specs.Tables.{table_in, FaultMeans};
     ghost use Rattle.edit_history.specs.Session.{edit as edit_request, undo as undo_request, redo as redo_request};
     ghost use Rattle.edit_history.specs.Session.{edits_of, start, state, effects, most_edits, edited, moved_back, moved_on, redo_touches, undo_touches};
+    ghost use Rattle.recalculate.specs.Asking.{HasTreesOfTable, IsAskedAgain};
+    ghost use Rattle.recalculate.specs.Calls.{CarriedOut, Stayed};
+    ghost use Rattle.recalculate.specs.CallsForTables.{CalculatesEither, CalculatesTrees, CountsTrees, KeepsBaseline, NotesAsked};
+    ghost use Rattle.recalculate.specs.Counts.{info_of};
+    ghost use Rattle.recalculate.specs.Planning.{IsTableOver, without_last};
+    ghost use Rattle.recalculate.specs.Reached.{IsReached};
+    ghost use Rattle.routing_table.specs.KeptTrees.{less_touched};
+    ghost use Rattle.routing_table.specs.Routers.{attached_routers};
+    ghost use Rattle.routing_table.specs.Tables.{table_in, FaultMeans};
 
     /// The session that begins at a database: no edit is done, none is undone, and no tree is
     /// calculated. It takes no memory.
@@ -91,10 +87,8 @@ impl<A: Allocator + Copy> Planner<A> {
     {
         Planner {
             study: Study::new(alloc, database),
-            trees: KeptTrees::new(alloc),
-            first_trees: KeptTrees::new(alloc),
-            first_table: None,
-            last_table: None,
+            present: TableCache::new(alloc),
+            baseline: TableCache::new(alloc),
             asked: None,
             meter: Meter::new(),
         }
@@ -135,13 +129,15 @@ impl<A: Allocator + Copy> Planner<A> {
         ensures runs { self.new.runs ≡ self.old.runs }
         ensures kept { OnOk result (self.new.kept ≡ less_touched
             (λ area. edit_touches area (state self.old.session) edit.now) self.old.kept) }
-        ensures first_kept { self.new.first_kept ≡ self.old.first_kept }
-        ensures tables { OnOk result (self.new.tables ≡ without_last self.old.tables) }
+        ensures others { OnOk result (self.new ≡ record self.old {
+          session = self.new.session;
+          kept = self.new.kept;
+          tables = without_last self.old.tables;
+        }) }
         ensures step { OnOk result (CarriedOut (edit_request edit.now) self.old self.new) }
     {
         self.study.edit(edit)?;
-        self.last_table = None;
-        drop_done(&mut self.trees, &self.study, 1);
+        self.present.follow(&self.study, Moved::On(1));
         Ok(())
     }
 
@@ -159,13 +155,16 @@ impl<A: Allocator + Copy> Planner<A> {
         ensures runs { self.new.runs ≡ self.old.runs }
         ensures kept { OnOk result (self.new.kept ≡ less_touched
             (λ area. undo_touches count area self.old.session) self.old.kept) }
-        ensures first_kept { self.new.first_kept ≡ self.old.first_kept }
-        ensures tables { OnOk result (self.new.tables ≡ without_last self.old.tables) }
+        ensures others { OnOk result (self.new ≡ record self.old {
+          session = self.new.session;
+          kept = self.new.kept;
+          tables = without_last self.old.tables;
+        }) }
         ensures step { OnOk result (CarriedOut (undo_request count) self.old self.new) }
     {
         self.study.undo(count as usize)?;
-        self.last_table = None;
-        drop_undone(&mut self.trees, &self.study, count as usize);
+        self.present
+            .follow(&self.study, Moved::Back(count as usize));
         Ok(())
     }
 
@@ -183,13 +182,15 @@ impl<A: Allocator + Copy> Planner<A> {
         ensures runs { self.new.runs ≡ self.old.runs }
         ensures kept { OnOk result (self.new.kept ≡ less_touched
             (λ area. redo_touches count area self.old.session) self.old.kept) }
-        ensures first_kept { self.new.first_kept ≡ self.old.first_kept }
-        ensures tables { OnOk result (self.new.tables ≡ without_last self.old.tables) }
+        ensures others { OnOk result (self.new ≡ record self.old {
+          session = self.new.session;
+          kept = self.new.kept;
+          tables = without_last self.old.tables;
+        }) }
         ensures step { OnOk result (CarriedOut (redo_request count) self.old self.new) }
     {
         self.study.redo(count as usize)?;
-        self.last_table = None;
-        drop_done(&mut self.trees, &self.study, count as usize);
+        self.present.follow(&self.study, Moved::On(count as usize));
         Ok(())
     }
 
@@ -252,22 +253,13 @@ impl<A: Allocator + Copy> Planner<A> {
             (λ table. table_in (state self.old.session) router ≡ Some table) }
         ensures fault { IfErr result (FaultMeans (table_in (state self.old.session) router)) }
         ensures session { self.new.session ≡ self.old.session }
-        ensures runs { OnOk result (self.new.runs ≡ counted_by (length (areas_without_tree
-            (is_kept self.old.kept) router (attached_areas (state self.old.session) router)))
-            self.old.runs) }
-        ensures no_router { result ≡ Err TableFault.NoRouter → self.new.runs ≡ self.old.runs }
-        ensures at_most { CountsAtMost (length (areas_without_tree (is_kept self.old.kept) router
-            (attached_areas (state self.old.session) router))) self.old.runs self.new.runs }
-        ensures kept { OnOk result (areas_without_tree (is_kept self.new.kept) router
-            (attached_areas (state self.old.session) router) ≡ []) }
-        ensures keeps { IsWithin (is_kept self.old.kept) (is_kept self.new.kept) }
-        ensures gains { GainsTrees (state self.old.session) router self.old.kept self.new.kept }
-        ensures first_kept { self.new.first_kept ≡ self.old.first_kept }
-        ensures tables { self.new.tables ≡ self.old.tables }
+        ensures trees { CalculatesTrees (state self.old.session) router result
+            (self.old.kept, self.old.runs) (self.new.kept, self.new.runs) }
+        ensures others { self.new ≡ record self.old { runs = self.new.runs; kept = self.new.kept } }
         ensures step { Stayed self.old self.new }
     {
-        self.study
-            .table_over(router, &mut self.trees, &mut self.meter)
+        self.present
+            .table_of(self.study.database(), router, &mut self.meter)
     }
 
     /// The routing table of a router in the database that the session began at, by trees that are
@@ -280,14 +272,9 @@ impl<A: Allocator + Copy> Planner<A> {
         ensures table { IfOk result (λ table. table_in self.old.session.base router ≡ Some table) }
         ensures fault { IfErr result (FaultMeans (table_in self.old.session.base router)) }
         ensures session { self.new.session ≡ self.old.session }
-        ensures kept { self.new.kept ≡ self.old.kept }
-        ensures first_kept { self.new.first_kept ≡ self.old.first_kept }
-        ensures runs { OnOk result (self.new.runs
-            ≡ counted_by (length (attached_areas self.old.session.base router)) self.old.runs) }
-        ensures no_router { result ≡ Err TableFault.NoRouter → self.new.runs ≡ self.old.runs }
-        ensures at_most { CountsAtMost (length (attached_areas self.old.session.base router))
+        ensures trees { CountsTrees (length (attached_areas self.old.session.base router)) result
             self.old.runs self.new.runs }
-        ensures tables { self.new.tables ≡ self.old.tables }
+        ensures others { self.new ≡ record self.old { runs = self.new.runs } }
         ensures step { Stayed self.old self.new }
     {
         self.study.base_table(router, &mut self.meter)
@@ -303,40 +290,26 @@ impl<A: Allocator + Copy> Planner<A> {
     ///
     /// As those of [`table`](Planner::table), for that database. The table that was kept may be
     /// gone then.
-    #[tactic(auto, using(crate::proofs::Bases::keeps_other, crate::proofs::Asked::gains_none))]
     pub fn baseline_table(&mut self, router: RouterId) -> Result<Rc<Table<A>, A>, TableFault>
         ensures table { IfOk result
             (λ table. table_in self.old.session.base router ≡ Some table.value) }
         ensures fault { IfErr result (FaultMeans (table_in self.old.session.base router)) }
         ensures session { self.new.session ≡ self.old.session }
-        ensures kept { self.new.kept ≡ self.old.kept }
-        ensures runs { OnOk result (self.new.runs ≡ counted_by (length (areas_without_tree
-            (is_kept self.old.first_kept) router (attached_areas self.old.session.base router)))
-            self.old.runs) }
-        ensures no_router { result ≡ Err TableFault.NoRouter → self.new.runs ≡ self.old.runs }
-        ensures at_most { CountsAtMost (length (areas_without_tree (is_kept self.old.first_kept)
-            router (attached_areas self.old.session.base router))) self.old.runs self.new.runs }
-        ensures first_kept { OnOk result (areas_without_tree (is_kept self.new.first_kept) router
-            (attached_areas self.old.session.base router) ≡ []) }
-        ensures keeps { IsWithin (is_kept self.old.first_kept) (is_kept self.new.first_kept) }
-        ensures gains { GainsTrees self.old.session.base router self.old.first_kept
-            self.new.first_kept }
-        ensures last { self.new.tables.last ≡ self.old.tables.last }
-        ensures first { OnOk result (self.new.tables.first ≡ Some router) }
-        ensures asked { self.new.tables.asked ≡ self.old.tables.asked }
-        ensures gone { OnErr result (self.new.tables.first ≢ None → self.new ≡ self.old) }
+        ensures trees { CalculatesTrees self.old.session.base router result
+            (self.old.first_kept, self.old.runs) (self.new.first_kept, self.new.runs) }
+        ensures first { KeepsBaseline router result self.old self.new }
+        ensures others { self.new ≡ record self.old {
+          runs = self.new.runs;
+          first_kept = self.new.first_kept;
+          tables = record self.old.tables { first = self.new.tables.first };
+        } }
         ensures step { Stayed self.old self.new }
     {
         if let Some(table) = self.first_table_of(router) {
             return Ok(table.clone()?);
         }
-        self.first_table = None;
-        let table = self
-            .study
-            .base_table_over(router, &mut self.first_trees, &mut self.meter)?;
-        let table = shared(self.study.database().alloc(), table)?;
-        self.first_table = Some(table.clone()?);
-        Ok(table)
+        self.study
+            .new_base_table(router, &mut self.baseline, &mut self.meter)
     }
 
     /// Whether a router's table in the session's database is sure to be that in the database that
@@ -348,7 +321,7 @@ impl<A: Allocator + Copy> Planner<A> {
         ensures { result ≡ true → table_in (state self.now.session) router
             ≡ table_in self.now.session.base router }
     {
-        self.study.is_unchanged(router, &self.first_trees)
+        self.study.is_unchanged(router, self.baseline.trees())
     }
 
     /// The routing table of a router in the session's database, as [`table`](Planner::table) gives
@@ -367,29 +340,13 @@ impl<A: Allocator + Copy> Planner<A> {
     /// # Errors
     ///
     /// As those of [`table`](Planner::table).
-    #[tactic(auto, using(crate::proofs::Asked::gains_none, crate::proofs::Asked::none_at_most))]
     pub fn cached_table(&mut self, router: RouterId) -> Result<Rc<Table<A>, A>, TableFault>
         ensures table { IfOk result
             (λ table. table_in (state self.old.session) router ≡ Some table.value) }
         ensures fault { IfErr result (FaultMeans (table_in (state self.old.session) router)) }
         ensures session { self.new.session ≡ self.old.session }
         ensures same { self.old.tables.last ≡ Some router → self.new ≡ self.old }
-        ensures trees { OnOk result (HasTreesOfTable router self.new) }
-        ensures gains { GainsTrees (state self.old.session) router self.old.kept self.new.kept }
-        ensures first_gains { GainsTrees self.old.session.base router self.old.first_kept
-            self.new.first_kept }
-        ensures first_kept { ¬ IsAskedAgain router self.old
-            → self.new.first_kept ≡ self.old.first_kept }
-        ensures runs { OnOk result ((IsAskedAgain router self.old
-            → self.new.tables.first ≡ Some router) → self.new.runs ≡ counted_by
-            (gained (state self.old.session) router self.old.kept self.new.kept)
-            (counted_by (gained self.old.session.base router self.old.first_kept
-            self.new.first_kept) self.old.runs)) }
-        ensures at_most { CountsAtMost (lacking (state self.old.session) router self.old.kept
-            + lacking self.old.session.base router self.old.first_kept)
-            self.old.runs self.new.runs }
-        ensures few { ¬ IsAskedAgain router self.old → CountsAtMost
-            (lacking (state self.old.session) router self.old.kept) self.old.runs self.new.runs }
+        ensures trees { CalculatesEither router result self.old self.new }
         ensures step { Stayed self.old self.new }
     {
         if let Some(table) = self.last_table_of(router) {
@@ -409,21 +366,14 @@ impl<A: Allocator + Copy> Planner<A> {
             (λ table. table_in (state self.old.session) router ≡ Some table.value) }
         ensures fault { IfErr result (FaultMeans (table_in (state self.old.session) router)) }
         ensures session { self.new.session ≡ self.old.session }
-        ensures trees { OnOk result (HasTrees (state self.old.session) router self.new.kept) }
-        ensures gains { GainsTrees (state self.old.session) router self.old.kept self.new.kept }
+        ensures trees { CalculatesTrees (state self.old.session) router result
+            (self.old.kept, self.old.runs) (self.new.kept, self.new.runs) }
         ensures first_kept { self.new.first_kept ≡ self.old.first_kept }
         ensures first { self.new.tables.first ≡ self.old.tables.first }
-        ensures runs { OnOk result (self.new.runs ≡ counted_by
-            (lacking (state self.old.session) router self.old.kept) self.old.runs) }
-        ensures at_most { CountsAtMost (lacking (state self.old.session) router self.old.kept)
-            self.old.runs self.new.runs }
         ensures step { Stayed self.old self.new }
     {
-        self.last_table = None;
-        let table = self.table(router)?;
-        let table = shared(self.study.database().alloc(), table)?;
-        self.last_table = Some(table.clone()?);
-        Ok(table)
+        self.present
+            .new_table(self.study.database(), router, &mut self.meter)
     }
 
     /// The table that is kept of the session's database, if it is that of a router.
@@ -432,29 +382,13 @@ impl<A: Allocator + Copy> Planner<A> {
             router table.now.value) }
         ensures none { result ≡ None → self.now.tables.last ≢ Some router }
     {
-        match &self.last_table {
-            Some(table) if table.router() == router => Some(table),
-            _ => None,
-        }
+        self.present.kept_table(router)
     }
 
     /// Notes that a router's table is asked for, and keeps its table of the beginning where it is
     /// asked for twice in a row while one edit is done.
-    #[tactic(auto, using(crate::proofs::Asked::gains_none, crate::proofs::Asked::none_at_most))]
     fn ask(&mut self, router: RouterId)
-        ensures session { self.new.session ≡ self.old.session }
-        ensures kept { self.new.kept ≡ self.old.kept }
-        ensures gains { GainsTrees self.old.session.base router self.old.first_kept
-            self.new.first_kept }
-        ensures first_kept { ¬ IsAskedAgain router self.old
-            → self.new.first_kept ≡ self.old.first_kept }
-        ensures few { ¬ IsAskedAgain router self.old → self.new.runs ≡ self.old.runs }
-        ensures runs { (IsAskedAgain router self.old → self.new.tables.first ≡ Some router)
-            → self.new.runs ≡ counted_by (gained self.old.session.base router
-            self.old.first_kept self.new.first_kept) self.old.runs }
-        ensures at_most { CountsAtMost (lacking self.old.session.base router
-            self.old.first_kept) self.old.runs self.new.runs }
-        ensures step { Stayed self.old self.new }
+        ensures { NotesAsked router self.old self.new }
     {
         let again = self.is_asked_again(router);
         self.asked = Some(router);
@@ -494,10 +428,7 @@ impl<A: Allocator + Copy> Planner<A> {
             self.now.first_kept router table.now.value) }
         ensures first { IfSome result (λ table. self.now.tables.first ≡ Some router) }
     {
-        match &self.first_table {
-            Some(table) if table.router() == router => Some(table),
-            _ => None,
-        }
+        self.baseline.kept_table(router)
     }
 
     /// What the session counted at its beginning, before all edits. The session stays as it is, and
@@ -527,15 +458,5 @@ impl<A: Allocator + Copy> Planner<A> {
         ensures kept { self.new ≡ self.old }
     {
         self.study.dump_base()
-    }
-}
-
-/// A table that several may hold, without a copy of it.
-fn shared<A: Allocator + Copy>(alloc: A, table: Table<A>) -> Result<Rc<Table<A>, A>, AllocError>
-    ensures { IfOk result (λ shared. shared.value ≡ table) }
-{
-    match Rc::new(alloc, table) {
-        Ok(shared) => Ok(shared),
-        Err(_table) => Err(AllocError),
     }
 }

@@ -1,18 +1,23 @@
 //! A database under its edits.
 
+ghost use Rattle.std.specs.Prelude.{IfSome};
+ghost use Rattle.lsdb.specs.Slots.{Slots as AnySlots};
+ghost use Rattle.edit_history.specs.Journal.{Links};
+ghost use Rattle.recalculate.specs.steps.Moving.{IsOneChange};
+
 use crate::copying::takes_longer_than_a_copy;
 use crate::counts::{Info, beginning_of};
-use crate::external_list::{drop_over_edit, drop_over_redo, drop_over_undo};
-use crate::tables::table_over;
-use edit_history::{EditFault, History, Record, RedoFault, UndoFault, apply};
+use crate::moved::Moved;
+use crate::table_cache::TableCache;
+use edit_history::{Change, EditFault, History, Record, RedoFault, UndoFault, apply};
 use edit_script::Edit;
-use external_routes::ExternalLsas;
 use lsa_codec::{AreaId, RouterId};
 use lsdb::Database;
 use routing_table::{KeptTrees, Table, TableFault, table_of};
 use spf::Meter;
 use std::alloc::{AllocError, Allocator};
 use std::marker::Model;
+use std::rc::Rc;
 use unchanged_tables::{AreaChange, cost_change, is_unchanged};
 
 /// The edits that may be done at a time.
@@ -22,14 +27,12 @@ const MOST_EDITS: usize = 10_000;
 /// were undone since. Contracts see it as its session.
 ///
 /// It may hold a copy of the loaded database, which no edit changes. Then no edit is taken back for
-/// a table of that database. It keeps the list of the AS-external-LSAs of its own database from
-/// table to table, until an edit, undo or redo changes an LSA of AS scope.
+/// a table of that database.
 #[derive(Drop)]
 pub(crate) struct Study<A: Allocator> {
     database: Database<A>,
     history: History<A>,
     loaded: Option<Database<A>>,
-    externals: Option<ExternalLsas<A>>,
     /// Whether many edits were taken back for a table of the loaded database. For the next one a
     /// copy is made.
     took_many_back: bool,
@@ -43,23 +46,38 @@ impl<A: Allocator> Model for Study<A> {
 
     ghost view = { λ s. session_of s.database s.history.lists };
 
-    ghost invariant = { λ s. IsStudied s.database s.history.lists s.loaded s.externals };
+    ghost invariant = { λ s. IsStudied s.database s.history.lists s.loaded };
+}
+
+/// The change of one LSA that the last step of a session made, where it moved over one edit that
+/// did nothing else. It takes no memory.
+fn one_change<A: Allocator + Copy>(history: &History<A>, moved: Moved) -> Option<Change<'_, A>>
+    ensures { IfSome result (λ change. (d : AnySlots) → Links d history.now.lists
+        → IsOneChange moved d history.now.lists change.slot change.before.now) }
+{
+    match moved {
+        Moved::On(1) => history.last_change(),
+        Moved::Back(1) => history.next_change(),
+        _ => None,
+    }
 }
 
 impl<A: Allocator + Copy> Study<A> {
-    ghost use Rattle.std.specs.Prelude.{◌≡◌, ◌≢◌, ◌≤◌, ◌↔◌, ◌+◌, ◌++◌, [], Ok, Err, Some, length, true, IsOk, OnOk, OnErr, IfOk, IfErr, IfSome, IsErrOf};
+    ghost use Rattle.std.specs.Prelude.{◌≡◌, ◌≢◌, ◌≤◌, ◌↔◌, ◌+◌, ◌++◌, Ok, Err, Some, length, true, false, IsOk, OnOk, OnErr, IfOk, IfErr, IfSome, IsErrOf};
     ghost use Rattle.lsdb.specs.BaseText.{base_text};
-    ghost use Rattle.lsdb.specs.Lists.{IsDatabase};
+    ghost use Rattle.lsdb.specs.declared.section.Section.TheVariants.{AsWide};
+    ghost use Rattle.lsdb.specs.Lists.{IsDatabase, lsas_of};
     ghost use Rattle.lsdb.specs.Slots.{lists_of};
-    ghost use Rattle.area_routes.specs.Attached.{attached_areas, is_attached};
+    ghost use Rattle.area_routes.specs.Attached.{attached_areas};
     ghost use Rattle.edit_history.specs.declared.fault.EditFault.TheVariants.{HistoryFull, OutOfMemory};
-    ghost use Rattle.edit_history.specs.Session.{edits_of, start, state, effects, most_edits, edited, moved_back, moved_on, redo_touches, undo_touches};
+    ghost use Rattle.edit_history.specs.Session.{edits_of, start, state, effects, most_edits, edited, moved_back, moved_on};
     ghost use Rattle.routing_table.specs.AreasTrees.{AreOfDatabase, routers_of};
-    ghost use Rattle.routing_table.specs.Counting.{counted_by, CountsAtMost};
-    ghost use Rattle.routing_table.specs.KeptTrees.{GainsOnly, IsWithin, areas_without_tree, is_kept};
-    ghost use Rattle.recalculate.specs.Counts.{info_of};
-    ghost use Rattle.recalculate.specs.Reached.{IsReached};
     ghost use Rattle.routing_table.specs.Tables.{table_in, FaultMeans};
+    ghost use Rattle.recalculate.specs.CallsForTables.{CalculatesTrees, CountsTrees, KeepsTable};
+    ghost use Rattle.recalculate.specs.Counts.{info_of};
+    ghost use Rattle.recalculate.specs.Planning.{IsCacheOf};
+    ghost use Rattle.recalculate.specs.Reached.{IsReached};
+    ghost use Rattle.recalculate.specs.steps.Moving.{HasMoved, before, moved_touches};
     ghost use Rattle.unchanged_tables.specs.CostChanges.{IsCostChange};
 
     /// The study of a database, without edits. It takes no memory.
@@ -73,7 +91,6 @@ impl<A: Allocator + Copy> Study<A> {
             database,
             history: History::new(alloc),
             loaded: None,
-            externals: None,
             took_many_back: false,
         }
     }
@@ -101,7 +118,6 @@ impl<A: Allocator + Copy> Study<A> {
         }
         self.history.reserve()?;
         let record = apply(&mut self.database, edit)?;
-        drop_over_edit(&mut self.externals, &self.database, &record);
         self.history.push(record);
         // That the edit left a database is what the history's invariant asks for.
         self.database.assert_valid();
@@ -116,7 +132,6 @@ impl<A: Allocator + Copy> Study<A> {
         ensures reached { IsReached self.old }
         ensures leads { IsReached self.new }
     {
-        drop_over_undo(&mut self.externals, &self.database, &self.history, count);
         self.history.undo(&mut self.database, count)
     }
 
@@ -129,61 +144,47 @@ impl<A: Allocator + Copy> Study<A> {
         ensures reached { IsReached self.old }
         ensures leads { IsReached self.new }
     {
-        drop_over_redo(&mut self.externals, &self.database, &self.history, count);
         self.history.redo(&mut self.database, count)
     }
 
-    /// Whether one of the last `count` done edits touches an area, where that many are done: it
-    /// rewrote, removed or added a router-LSA or network-LSA of it. It takes no memory.
-    #[tactic(auto, using(edit_history::proofs::HistoryLemmas::done_len))]
-    pub(crate) fn undo_touches(&self, count: usize, area: AreaId) -> bool
-        ensures { count ≤ length self.now.done → result ≡ undo_touches count area self.now }
+    /// Whether the last step touched an area: one of its edits rewrote, removed or added a
+    /// router-LSA or network-LSA of it. It takes no memory.
+    #[tactic(auto, using(edit_history::proofs::HistoryLemmas::done_len, edit_history::proofs::HistoryLemmas::undone_len))]
+    pub(crate) fn touches(&self, moved: Moved, area: AreaId) -> bool
+        ensures { HasMoved moved self.now → result ≡ moved_touches moved area self.now }
     {
-        count <= self.history.done() && self.history.undo_touches(count, area)
+        let history = &self.history;
+        match moved {
+            Moved::On(count) => count <= history.done() && history.undo_touches(count, area),
+            Moved::Back(count) => count <= history.undone() && history.redo_touches(count, area),
+        }
     }
 
-    /// Whether one of the first `count` undone edits touches an area, where that many are undone.
-    /// It takes no memory.
-    #[tactic(auto, using(edit_history::proofs::HistoryLemmas::undone_len))]
-    pub(crate) fn redo_touches(&self, count: usize, area: AreaId) -> bool
-        ensures { count ≤ length self.now.undone → result ≡ redo_touches count area self.now }
+    /// Whether the last step changed an LSA of AS scope. It takes no memory.
+    #[tactic(auto, using(edit_history::proofs::HistoryLemmas::done_len, edit_history::proofs::HistoryLemmas::undone_len))]
+    pub(crate) fn changes_as_scope(&self, moved: Moved) -> bool
+        requires { HasMoved moved self.now }
+        ensures { result ≡ false → lsas_of AsWide (state self.now)
+            ≡ lsas_of AsWide (state (before moved self.now)) }
     {
-        count <= self.history.undone() && self.history.redo_touches(count, area)
+        let areas = self.database.area_count();
+        match moved {
+            Moved::On(count) => self.history.undo_changes_as_scope(count, areas),
+            Moved::Back(count) => self.history.redo_changes_as_scope(count, areas),
+        }
     }
 
-    /// The change of the cost of one interface that the last `count` done edits made, where they
-    /// are one edit, and it made no other change. It takes no memory.
-    pub(crate) fn done_change(&self, count: usize) -> Option<AreaChange>
-        requires { count ≤ length self.now.done }
+    /// The change of the cost of one interface that the last step made, where it moved over one
+    /// edit, and made no other change. It takes no memory.
+    pub(crate) fn cost_change(&self, moved: Moved) -> Option<AreaChange>
+        requires { HasMoved moved self.now }
         ensures change { IfSome result (λ made. IsCostChange made.area made.change
-            (state (moved_back count self.now)) (state self.now)) }
-        ensures touched { IfSome result (λ made. undo_touches count made.area self.now ≡ true) }
+            (state (before moved self.now)) (state self.now)) }
+        ensures touched { IfSome result (λ made. moved_touches moved made.area self.now ≡ true) }
     {
-        if count != 1 {
-            return None;
-        }
-        let last = self.history.last_change()?;
-        let made = cost_change(&self.database, last.slot, last.before)?;
-        if !self.undo_touches(count, made.area) {
-            return None;
-        }
-        Some(made)
-    }
-
-    /// The change of the cost of one interface that taking the first `count` undone edits back
-    /// made, where they are one edit, and no other change was made. It takes no memory.
-    pub(crate) fn undone_change(&self, count: usize) -> Option<AreaChange>
-        requires { count ≤ length self.now.undone }
-        ensures change { IfSome result (λ made. IsCostChange made.area made.change
-            (state (moved_on count self.now)) (state self.now)) }
-        ensures touched { IfSome result (λ made. redo_touches count made.area self.now ≡ true) }
-    {
-        if count != 1 {
-            return None;
-        }
-        let next = self.history.next_change()?;
-        let made = cost_change(&self.database, next.slot, next.before)?;
-        if !self.redo_touches(count, made.area) {
+        let one = one_change(&self.history, moved)?;
+        let made = cost_change(&self.database, one.slot, one.before)?;
+        if !self.touches(moved, made.area) {
             return None;
         }
         Some(made)
@@ -240,66 +241,30 @@ impl<A: Allocator + Copy> Study<A> {
         }
     }
 
-    /// The routing table of a router over trees of the database that are kept. Those of the router
-    /// that are not there are calculated and kept, and the meter counts them.
-    pub(crate) fn table_over(
+    /// The routing table of a router in the loaded database, made over what is kept of that, and
+    /// kept there. Where there is no copy of that database, all edits are taken back for it, and
+    /// carried out again.
+    pub(crate) fn new_base_table(
         &mut self,
         router: RouterId,
-        trees: &mut KeptTrees<A>,
+        kept: &mut TableCache<A>,
         meter: &mut Meter,
-    ) -> Result<Table<A>, TableFault>
-        requires { AreOfDatabase (state self.old) trees.old }
-        ensures table { IfOk result (λ table. table_in (state self.old) router ≡ Some table) }
-        ensures fault { IfErr result (FaultMeans (table_in (state self.old) router)) }
-        ensures session { self.new ≡ self.old }
-        ensures graphs { AreOfDatabase (state self.old) trees.new }
-        ensures meter { OnOk result (meter.new ≡ counted_by (length (areas_without_tree
-            (is_kept (routers_of trees.old)) router (attached_areas (state self.old) router)))
-            meter.old) }
-        ensures no_router { result ≡ Err TableFault.NoRouter → meter.new ≡ meter.old }
-        ensures at_most { CountsAtMost (length (areas_without_tree (is_kept (routers_of trees.old))
-            router (attached_areas (state self.old) router))) meter.old meter.new }
-        ensures kept { OnOk result (areas_without_tree (is_kept (routers_of trees.new)) router
-            (attached_areas (state self.old) router) ≡ []) }
-        ensures keeps { IsWithin (is_kept (routers_of trees.old)) (is_kept (routers_of trees.new)) }
-        ensures no_more { GainsOnly (λ area. is_attached (state self.old) area router) router
-            (is_kept (routers_of trees.old)) (is_kept (routers_of trees.new)) }
-    {
-        table_over(&self.database, router, trees, meter, &mut self.externals)
-    }
-
-    /// The routing table of a router over trees of the loaded database that are kept. Those of the
-    /// router that are not there are calculated and kept, and the meter counts them. Where there is
-    /// no copy of that database, all edits are taken back for it, and carried out again.
-    pub(crate) fn base_table_over(
-        &mut self,
-        router: RouterId,
-        trees: &mut KeptTrees<A>,
-        meter: &mut Meter,
-    ) -> Result<Table<A>, TableFault>
-        requires { AreOfDatabase self.old.base trees.old }
-        ensures table { IfOk result (λ table. table_in self.old.base router ≡ Some table) }
+    ) -> Result<Rc<Table<A>, A>, TableFault>
+        requires { IsCacheOf self.old.base kept.old }
+        ensures table { IfOk result (λ table. table_in self.old.base router ≡ Some table.value) }
         ensures fault { IfErr result (FaultMeans (table_in self.old.base router)) }
         ensures session { self.new ≡ self.old }
-        ensures graphs { AreOfDatabase self.old.base trees.new }
-        ensures meter { OnOk result (meter.new ≡ counted_by (length (areas_without_tree
-            (is_kept (routers_of trees.old)) router (attached_areas self.old.base router)))
-            meter.old) }
-        ensures no_router { result ≡ Err TableFault.NoRouter → meter.new ≡ meter.old }
-        ensures at_most { CountsAtMost (length (areas_without_tree (is_kept (routers_of trees.old))
-            router (attached_areas self.old.base router))) meter.old meter.new }
-        ensures kept { OnOk result (areas_without_tree (is_kept (routers_of trees.new)) router
-            (attached_areas self.old.base router) ≡ []) }
-        ensures keeps { IsWithin (is_kept (routers_of trees.old)) (is_kept (routers_of trees.new)) }
-        ensures no_more { GainsOnly (λ area. is_attached self.old.base area router) router
-            (is_kept (routers_of trees.old)) (is_kept (routers_of trees.new)) }
+        ensures trees { CalculatesTrees self.old.base router result
+            (routers_of kept.old.trees, meter.old) (routers_of kept.new.trees, meter.new) }
+        ensures cache { IsCacheOf self.old.base kept.new }
+        ensures last { KeepsTable router result kept.new.table }
     {
         self.keep_loaded();
         if let Some(loaded) = self.loaded() {
-            return table_over(loaded, router, trees, meter, &mut None);
+            return kept.new_table(loaded, router, meter);
         }
         let done = self.undo_all();
-        let table = self.table_over(router, trees, meter);
+        let table = kept.new_table(self.database(), router, meter);
         self.redo_all(done);
         table
     }
@@ -314,10 +279,7 @@ impl<A: Allocator + Copy> Study<A> {
         ensures table { IfOk result (λ table. table_in self.old.base router ≡ Some table) }
         ensures fault { IfErr result (FaultMeans (table_in self.old.base router)) }
         ensures session { self.new ≡ self.old }
-        ensures meter { OnOk result (meter.new
-            ≡ counted_by (length (attached_areas self.old.base router)) meter.old) }
-        ensures no_router { result ≡ Err TableFault.NoRouter → meter.new ≡ meter.old }
-        ensures at_most { CountsAtMost (length (attached_areas self.old.base router))
+        ensures trees { CountsTrees (length (attached_areas self.old.base router)) result
             meter.old meter.new }
     {
         if let Some(loaded) = self.loaded() {

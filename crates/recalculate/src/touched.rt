@@ -1,18 +1,44 @@
-//! The trees of the areas that edits touch, and that are kept no more.
+//! What is kept of the database of a session, after a step of the session.
 
-ghost use Rattle.std.specs.Prelude.{◌≡◌, ◌≤◌, not, filter, length, IfSome, MatchOption};
+ghost use Rattle.std.specs.Prelude.{◌≡◌, None, IfSome, MatchOption, filter, not};
 ghost use Rattle.std.specs.Map.{remove_entry};
 ghost use Rattle.std.specs.Ordering.{eq_by_cmp};
 ghost use Rattle.lsa_codec.specs.Order.{area_cmp};
-ghost use Rattle.lsdb.specs.Lists.{IsDatabase, Lists};
-ghost use Rattle.edit_history.specs.Session.{moved_back, moved_on, redo_touches, state, undo_touches};
-ghost use Rattle.routing_table.specs.AreasTrees.{AreOfDatabase, IsSpareOf};
+ghost use Rattle.lsdb.specs.declared.section.Section.TheVariants.{AsWide};
+ghost use Rattle.lsdb.specs.Lists.{IsDatabase, Lists, lsas_of};
+ghost use Rattle.edit_history.specs.Session.{state};
+ghost use Rattle.external_routes.specs.ExternalLsas.{AreListedOf};
+ghost use Rattle.routing_table.specs.AreasTrees.{AreOfDatabase, IsSpareOf, routers_of};
+ghost use Rattle.routing_table.specs.KeptTrees.{less_touched};
 ghost use Rattle.unchanged_tables.specs.CostChanges.{IsCostChange};
+ghost use Rattle.recalculate.specs.Planning.{IsCacheOf};
+ghost use Rattle.recalculate.specs.Reached.{IsReached};
+ghost use Rattle.recalculate.specs.steps.Moving.{HasMoved, before, moved_touches};
 
+use crate::moved::Moved;
 use crate::study::Study;
+use crate::table_cache::TableCache;
+use external_routes::ExternalLsas;
 use routing_table::KeptTrees;
 use std::alloc::Allocator;
 use unchanged_tables::AreaChange;
+
+impl<A: Allocator + Copy> TableCache<A> {
+    /// Follows the last step of a session. The last table goes, and the trees of each area that the
+    /// step touched, and the list of the AS-external-LSAs where it changed one. It takes no memory.
+    pub(crate) fn follow(&mut self, study: &Study<A>, moved: Moved)
+        requires { HasMoved moved study.now }
+        ensures kept { routers_of self.new.trees ≡ less_touched
+            (λ area. moved_touches moved area study.now) (routers_of self.old.trees) }
+        ensures cache { IsCacheOf (state (before moved study.now)) self.old
+            → IsCacheOf (state study.now) self.new }
+        ensures table { self.new.table ≡ None }
+    {
+        self.last = None;
+        drop_externals(&mut self.externals, study, moved);
+        drop_trees(&mut self.trees, study, moved);
+    }
+}
 
 /// Drops the trees of the area in which a change of a cost was made, and keeps its graph as the
 /// spare one, after the change. Where no such change is known, no graph is spare. It takes no
@@ -30,42 +56,35 @@ fn keep_changed<A: Allocator + Copy>(trees: &mut KeptTrees<A>, alloc: A, change:
     }
 }
 
-/// Drops the trees of each area that one of the last `count` done edits touches. The graph of the
-/// area goes with them, unless this is one edit of the cost of one interface: then it is changed,
-/// and kept as the spare one. It takes no memory.
-pub(crate) fn drop_done<A: Allocator + Copy>(
-    trees: &mut KeptTrees<A>,
-    study: &Study<A>,
-    count: usize,
-)
-    requires { count ≤ length study.now.done }
+/// Drops the trees of each area that the last step of a session touched. The graph of the area goes
+/// with them, unless the step was one edit of the cost of one interface: then it is changed as the
+/// step did, and kept as the spare one. It takes no memory.
+fn drop_trees<A: Allocator + Copy>(trees: &mut KeptTrees<A>, study: &Study<A>, moved: Moved)
+    requires { HasMoved moved study.now }
     ensures areas { trees.new.areas
-        ≡ filter (λ area. not (undo_touches count area.0 study.now)) trees.old.areas }
-    ensures spare { AreOfDatabase (state (moved_back count study.now)) trees.old
+        ≡ filter (λ area. not (moved_touches moved area.0 study.now)) trees.old.areas }
+    ensures spare { AreOfDatabase (state (before moved study.now)) trees.old
         → IfSome trees.new.spare (IsSpareOf (state study.now)) }
+    ensures reached { IsReached study.now }
 {
-    keep_changed(trees, study.database().alloc(), study.done_change(count));
+    keep_changed(trees, study.database().alloc(), study.cost_change(moved));
     trees
         .areas
-        .retain(|area, _trees| !study.undo_touches(count, *area));
+        .retain(|area, _trees| !study.touches(moved, *area));
 }
 
-/// Drops the trees of each area that one of the first `count` undone edits touches. The graph of
-/// the area goes with them, unless this is one edit of the cost of one interface: then it is
-/// changed back, and kept as the spare one. It takes no memory.
-pub(crate) fn drop_undone<A: Allocator + Copy>(
-    trees: &mut KeptTrees<A>,
+/// Drops the list of the AS-external-LSAs where the last step of a session changed an LSA of AS
+/// scope. It takes no memory.
+fn drop_externals<A: Allocator + Copy>(
+    externals: &mut Option<ExternalLsas<A>>,
     study: &Study<A>,
-    count: usize,
+    moved: Moved,
 )
-    requires { count ≤ length study.now.undone }
-    ensures areas { trees.new.areas
-        ≡ filter (λ area. not (redo_touches count area.0 study.now)) trees.old.areas }
-    ensures spare { AreOfDatabase (state (moved_on count study.now)) trees.old
-        → IfSome trees.new.spare (IsSpareOf (state study.now)) }
+    requires { HasMoved moved study.now }
+    ensures { AreListedOf (lsas_of AsWide (state (before moved study.now))) externals.old
+        → AreListedOf (lsas_of AsWide (state study.now)) externals.new }
 {
-    keep_changed(trees, study.database().alloc(), study.undone_change(count));
-    trees
-        .areas
-        .retain(|area, _trees| !study.redo_touches(count, *area));
+    if study.changes_as_scope(moved) {
+        *externals = None;
+    }
 }

@@ -19,15 +19,16 @@ use Rattle.area_routes.specs.declared.entry.EntryKind.{EntryKind}
 use Rattle.area_routes.specs.declared.entry.EntryKind.TheVariants.{Border, AsbrIntra, AsbrInter}
 use Rattle.area_routes.specs.AreaResults.{area_result}
 use Rattle.area_routes.specs.Attached.{attached_areas}
-use Rattle.area_routes.specs.Best.{ways_of}
-use Rattle.area_routes.specs.Candidate.{Candidate}
+use Rattle.best_ways.specs.Best.{ways_of}
+use Rattle.best_ways.specs.Candidate.{Candidate}
 use Rattle.area_routes.specs.Entries.{bit_b, bit_e, entries_of, entry_by, flags_of, has_bit, reached_entry}
 use Rattle.area_routes.specs.EntriesOnce.{IsSameWay, StandOnce, results_of}
 use Rattle.area_routes.specs.Inter.{border_of, by_border, entries_by, entries_of_all, examined, inter_of, network_candidate, announced_network, originator_of, routes_by, same_kind, same_router, usable_metric}
-use Rattle.area_routes.specs.InWords.{AreBestWays}
+use Rattle.best_ways.specs.InWords.{AreBestWays}
 use Rattle.area_routes.specs.Reached.{ReachedValue, reached_from}
 use Rattle.area_routes.specs.Stubs.{is_lsa_of}
-use Rattle.area_routes.specs.Values.{AreaResultValue, EntryValue, RouteValue}
+use Rattle.area_routes.specs.Values.{AreaResultValue, EntryValue}
+use Rattle.best_ways.specs.Values.{RouteValue}
 use Rattle.routing_table.specs.AreaLsas.{lsas_in}
 use Rattle.routing_table.specs.Tables.{result_in, results_in}
 use Rattle.route_laws.specs.AllWays.{is_border_entry, ways_between, ways_by, ways_over}

@@ -16,14 +16,14 @@ use Rattle.lsa_codec.specs.Order.{area_cmp}
 use Rattle.area_graph.specs.Rising.{rising}
 use Rattle.next_hops.specs.Hop.{hop_cmp}
 use Rattle.next_hops.specs.declared.hop.Hop.{Hop}
-use Rattle.area_routes.specs.declared.rank.Rank.{Rank}
-use Rattle.area_routes.specs.Best.{way_to, ways_of}
-use Rattle.area_routes.specs.Candidate.{Candidate}
-use Rattle.area_routes.specs.InWords.{attains, is_candidate_to, is_some_and, AreBestWays, IsBestWay}
-use Rattle.area_routes.specs.Order.{rank_cmp}
-use Rattle.area_routes.specs.Values.{WayValue}
-use Rattle.area_routes.proofs.LeastLemmas.{not_below}
-use Rattle.area_routes.proofs.LookupLemmas.{entries_at, lookup_entries}
+use Rattle.best_ways.specs.declared.rank.Rank.{Rank}
+use Rattle.best_ways.specs.Best.{way_to, ways_of}
+use Rattle.best_ways.specs.Candidate.{Candidate}
+use Rattle.best_ways.specs.InWords.{attains, is_candidate_to, is_some_and, AreBestWays, IsBestWay}
+use Rattle.best_ways.specs.Order.{rank_cmp}
+use Rattle.best_ways.specs.Values.{WayValue}
+use Rattle.best_ways.proofs.LeastLemmas.{not_below}
+use Rattle.best_ways.proofs.LookupLemmas.{entries_at, lookup_entries}
 use Rattle.route_laws.proofs.Tests.{and_assoc, any_both, any_const, any_map, any_same, any_stronger, any_true, any_weaker}
 
 -- ---- lists of candidates that have the same best ways

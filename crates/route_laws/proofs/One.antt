@@ -2,11 +2,11 @@
 use Rattle.std.proofs.Common.{◌≡◌, List, map, ap, ◌∙◌}
 use Rattle.lsa_codec.specs.Order.{prefix_cmp}
 use Rattle.lsa_codec.specs.Prefix.{Net}
-use Rattle.area_routes.specs.Best.{ways_of}
-use Rattle.area_routes.specs.Candidate.{Candidate}
-use Rattle.area_routes.specs.InWords.{AreBestWays}
-use Rattle.area_routes.specs.Routes.{route_of, routes_of}
-use Rattle.area_routes.specs.Values.{RouteValue, WayValue}
+use Rattle.best_ways.specs.Best.{ways_of}
+use Rattle.best_ways.specs.Candidate.{Candidate}
+use Rattle.best_ways.specs.InWords.{AreBestWays}
+use Rattle.best_ways.specs.Routes.{route_of, routes_of}
+use Rattle.best_ways.specs.Values.{RouteValue, WayValue}
 use Rattle.route_laws.specs.BestRoutes.{AreBestRoutes}
 
 module _ (only : (cs : List (Candidate Net)) (ways : List (Net × WayValue)) → AreBestWays prefix_cmp cs ways → ways ≡ ways_of prefix_cmp cs) where

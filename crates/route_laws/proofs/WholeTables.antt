@@ -4,12 +4,13 @@ use Rattle.lsa_codec.specs.declared.address.RouterId.{RouterId}
 use Rattle.lsa_codec.specs.Order.{prefix_cmp}
 use Rattle.lsa_codec.specs.Prefix.{Net}
 use Rattle.lsdb.specs.Lists.{AreaHead, Lists}
-use Rattle.area_routes.specs.Best.{ways_of}
-use Rattle.area_routes.specs.Candidate.{Candidate}
+use Rattle.best_ways.specs.Best.{ways_of}
+use Rattle.best_ways.specs.Candidate.{Candidate}
 use Rattle.area_routes.specs.Inter.{inter_of}
 use Rattle.area_routes.specs.Intra.{intra_of}
-use Rattle.area_routes.specs.InWords.{AreBestWays}
-use Rattle.area_routes.specs.Values.{AreaResultValue, EntryValue, RouteValue, WayValue}
+use Rattle.best_ways.specs.InWords.{AreBestWays}
+use Rattle.area_routes.specs.Values.{AreaResultValue, EntryValue}
+use Rattle.best_ways.specs.Values.{RouteValue, WayValue}
 use Rattle.external_routes.specs.External.{externals_of}
 use Rattle.routing_table.specs.Preferring.{preferring}
 use Rattle.routing_table.specs.Tables.{results_in, routes_from}

@@ -12,18 +12,19 @@ use Rattle.lsa_codec.specs.Order.{prefix_cmp}
 use Rattle.lsa_codec.specs.Prefix.{Net}
 use Rattle.lsdb.specs.Lists.{AreaHead, Lists}
 use Rattle.area_graph.specs.Area.{used}
-use Rattle.area_routes.specs.declared.rank.PathType.TheVariants.{Intra}
-use Rattle.area_routes.specs.declared.rank.Rank.{Rank}
+use Rattle.best_ways.specs.declared.rank.PathType.TheVariants.{Intra}
+use Rattle.best_ways.specs.declared.rank.Rank.{Rank}
 use Rattle.area_routes.specs.AreaResults.{area_result}
-use Rattle.area_routes.specs.Best.{ways_of}
-use Rattle.area_routes.specs.Candidate.{Candidate}
+use Rattle.best_ways.specs.Best.{ways_of}
+use Rattle.best_ways.specs.Candidate.{Candidate}
 use Rattle.area_routes.specs.Intra.{intra_candidate, intra_candidates, intra_of}
-use Rattle.area_routes.specs.InWords.{AreBestWays}
+use Rattle.best_ways.specs.InWords.{AreBestWays}
 use Rattle.area_routes.specs.Offers.{best_offers, offer_candidate, offer_of}
-use Rattle.area_routes.specs.Order.{rank_cmp}
+use Rattle.best_ways.specs.Order.{rank_cmp}
 use Rattle.area_routes.specs.Reached.{reached_from}
-use Rattle.area_routes.specs.Values.{OfferValue, WayValue}
-use Rattle.area_routes.proofs.WayLemmas.{ways_have}
+use Rattle.area_routes.specs.Values.{OfferValue}
+use Rattle.best_ways.specs.Values.{WayValue}
+use Rattle.best_ways.proofs.WayLemmas.{ways_have}
 use Rattle.routing_table.specs.AreaLsas.{lsas_in}
 use Rattle.routing_table.specs.Tables.{result_in, results_in}
 use Rattle.route_laws.specs.AllWays.{all_offers, ways_in, ways_within}

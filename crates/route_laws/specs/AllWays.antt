@@ -8,14 +8,15 @@ use Rattle.lsdb.specs.declared.section.Section.TheVariants.{Area}
 use Rattle.lsdb.specs.Lists.{AreaHead, Lists, lsas_of}
 use Rattle.area_graph.specs.Area.{used}
 use Rattle.area_routes.specs.declared.entry.EntryKind.TheVariants.{Border}
-use Rattle.area_routes.specs.Candidate.{Candidate}
+use Rattle.best_ways.specs.Candidate.{Candidate}
 use Rattle.area_routes.specs.Inter.{by_border, examined, inter_of, announced_network, originator_of, same_kind, same_router, usable_metric}
 use Rattle.area_routes.specs.Intra.{intra_candidate}
 use Rattle.area_routes.specs.Networks.{network_offers}
 use Rattle.area_routes.specs.Reached.{ReachedValue, reached_from}
-use Rattle.area_routes.specs.Routes.{routes_of}
+use Rattle.best_ways.specs.Routes.{routes_of}
 use Rattle.area_routes.specs.Stubs.{stub_offers}
-use Rattle.area_routes.specs.Values.{AreaResultValue, EntryValue, OfferValue, RouteValue}
+use Rattle.area_routes.specs.Values.{AreaResultValue, EntryValue, OfferValue}
+use Rattle.best_ways.specs.Values.{RouteValue}
 use Rattle.routing_table.specs.AreaLsas.{lsas_in}
 use Rattle.routing_table.specs.Preferring.{preferring}
 use Rattle.routing_table.specs.Tables.{results_in}

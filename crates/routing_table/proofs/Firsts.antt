@@ -13,9 +13,9 @@ use Rattle.std.proofs.lemmas.List.Kept.{IsStrictlySortedBy-dedup}
 use Rattle.lsa_codec.specs.Order.{prefix_cmp}
 use Rattle.lsa_codec.specs.Prefix.{Net}
 use Rattle.lsa_codec.proofs.OrderLemmas.{prefix_exact, prefix_total}
-use Rattle.area_routes.specs.Routes.{AreSortedRoutes, nets, route_to}
-use Rattle.area_routes.specs.Values.{RouteValue}
-use Rattle.area_routes.specs.declared.rank.PathType.TheVariants as paths
+use Rattle.best_ways.specs.Routes.{AreSortedRoutes, nets, route_to}
+use Rattle.best_ways.specs.Values.{RouteValue}
+use Rattle.best_ways.specs.declared.rank.PathType.TheVariants as paths
 
 abbrev route_cmp : RouteValue → RouteValue → Ordering
 route_cmp x y = prefix_cmp x.net y.net

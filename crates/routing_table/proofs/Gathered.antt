@@ -10,7 +10,7 @@ use Rattle.lsa_codec.specs.declared.address.RouterId.{RouterId}
 use Rattle.area_graph.specs.Rising.{rising}
 use Rattle.lsa_codec.specs.Order.{router_cmp}
 use Rattle.lsa_codec.proofs.OrderLemmas.{router_exact, router_total}
-use Rattle.area_routes.proofs.RisingLemmas.{any_insert, any_rising, rising_is, sorted_insert, sorted_rising}
+use Rattle.best_ways.proofs.RisingLemmas.{any_insert, any_rising, rising_is, sorted_insert, sorted_rising}
 
 abbrev same : RouterId → RouterId → Bool
 same = eq_by_cmp router_cmp

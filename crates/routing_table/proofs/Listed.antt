@@ -25,7 +25,7 @@ use Rattle.area_graph.proofs.MemberLemmas.{Contains-from_In, In, In-filter, In-f
 use Rattle.area_graph.proofs.MemberLemmas.{filter-In, filter_map-In, flat_map-In}
 use Rattle.lsa_codec.specs.Order.{router_cmp}
 use Rattle.lsa_codec.proofs.OrderLemmas.{router_exact, router_total}
-use Rattle.area_routes.proofs.RisingLemmas.{any_rising}
+use Rattle.best_ways.proofs.RisingLemmas.{any_rising}
 use Rattle.area_routes.specs.Attached.{attached_areas, has_live_router_lsa}
 use Rattle.routing_table.specs.AreaLsas.{area_lsas, lsas_in}
 use Rattle.routing_table.specs.Routers.{attached_routers, live_router}

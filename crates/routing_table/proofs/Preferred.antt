@@ -14,11 +14,11 @@ use Rattle.std.proofs.lemmas.Bool.{or_parts}
 use Rattle.lsa_codec.specs.Prefix.{Net}
 use Rattle.area_graph.specs.Rising.{rising}
 use Rattle.lsa_codec.specs.Order.{prefix_cmp}
-use Rattle.area_routes.specs.Routes.{AreSortedRoutes, nets, route_to}
-use Rattle.area_routes.specs.Values.{RouteValue, RoutesBelow}
-use Rattle.area_routes.proofs.LookupLemmas.{entries_at, lookup_entries, same_entries, sorted_entries}
+use Rattle.best_ways.specs.Routes.{AreSortedRoutes, nets, route_to}
+use Rattle.best_ways.specs.Values.{RouteValue, RoutesBelow}
+use Rattle.best_ways.proofs.LookupLemmas.{entries_at, lookup_entries, same_entries, sorted_entries}
 use Rattle.lsa_codec.proofs.OrderLemmas.{prefix_exact, prefix_total}
-use Rattle.area_routes.proofs.RisingLemmas.{any_rising, sorted_rising}
+use Rattle.best_ways.proofs.RisingLemmas.{any_rising, sorted_rising}
 use Rattle.routing_table.specs.Preferring.{preferred_route, preferring}
 
 -- a route with its prefix

@@ -6,7 +6,8 @@ use Rattle.std.proofs.lemmas.List.{length-map, take-append-le, take_all}
 use Rattle.lsa_codec.specs.declared.address.RouterId.{RouterId}
 use Rattle.lsdb.specs.Lists.{AreaHead, Lists, areas_of}
 use Rattle.area_graph.proofs.MemberLemmas.{In, In-filter}
-use Rattle.area_routes.specs.Values.{AreaResultValue, InterValue, RouteValue}
+use Rattle.area_routes.specs.Values.{AreaResultValue, InterValue}
+use Rattle.best_ways.specs.Values.{RouteValue}
 use Rattle.area_routes.specs.Intra.{intra_of, without_offers}
 use Rattle.area_routes.specs.Inter.{inter_of}
 use Rattle.area_routes.specs.Attached.{attached_areas}

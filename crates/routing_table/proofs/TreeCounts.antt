@@ -15,14 +15,12 @@ use Rattle.lsa_codec.specs.declared.address.AreaId.{AreaId}
 use Rattle.lsa_codec.specs.declared.address.RouterId.{RouterId}
 use Rattle.lsdb.specs.Lists.{AreaHead, IsBefore, IsDatabase, Lists, areas_of, heads_of}
 use Rattle.lsdb.proofs.ListLemmas.{pairs_head, pairs_tail}
-use Rattle.area_routes.specs.Attached.{attached_areas}
+use Rattle.area_routes.specs.Attached.{attached_areas, id_of}
 use Rattle.routing_table.specs.AreaTrees.{missing}
+use Rattle.routing_table.specs.AreasTrees.{trees_in}
 use Rattle.routing_table.specs.Counting.{counted_by, CountsAtMost}
 use Rattle.routing_table.specs.KeptTrees.{GainsOnly, TreeSet, IsWithin, areas_without_tree}
 use Rattle.routing_table.proofs.TableLemmas.{among_more, attached_among, counted_twice, joins}
-
-abbrev pub id_of : AreaHead → AreaId
-id_of area = record { 0 = area.id }
 
 -- how many trees of a router some areas lack
 abbrev pub lacking : TreeSet → RouterId → List AreaHead → ℕ
@@ -39,6 +37,11 @@ lacks_both : (trees : TreeSet) (router : RouterId) (xs ys : List AreaHead) → l
 lacks_both trees router xs ys =
     ap length (filter-append (λ area. not (trees (id_of area) router)) xs ys)
     ∙ length-append (areas_without_tree trees router xs) (areas_without_tree trees router ys)
+
+-- where no trees are kept, all areas lack that of a router
+pub all_lack : (router : RouterId) (areas : List AreaHead) → areas_without_tree (trees_in (record { areas = []; spare = None })) router areas ≡ areas
+all_lack router [] = refl
+all_lack router (area ∷ areas) = ap (λ l. area ∷ l) (all_lack router areas)
 
 -- where a larger set is asked, no area lacks its tree that did not before
 pub none_lacks : (some all : TreeSet) (router : RouterId) → IsWithin some all → (areas : List AreaHead)

@@ -5,8 +5,8 @@ use Rattle.std.specs.Option.{option_or}
 use Rattle.lsa_codec.specs.Prefix.{Net}
 use Rattle.area_graph.specs.Rising.{rising}
 use Rattle.lsa_codec.specs.Order.{prefix_cmp}
-use Rattle.area_routes.specs.Routes.{nets, route_to}
-use Rattle.area_routes.specs.Values.{RouteValue}
+use Rattle.best_ways.specs.Routes.{nets, route_to}
+use Rattle.best_ways.specs.Values.{RouteValue}
 
 module _ (first second : List RouteValue) where
   -- the first list's route to a prefix, else the second's

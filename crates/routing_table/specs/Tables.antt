@@ -1,10 +1,10 @@
 -- The routing table of a router, as a function of the link state database (RFC 2328, 11 and 16).
-use Rattle.std.specs.Prelude.{◌≡◌, List, [], ◌∷◌, map, Option, None, Some}
+use Rattle.std.specs.Prelude.{◌≡◌, List, [], ◌∷◌, Option, None, Some}
 use Rattle.lsa_codec.specs.declared.address.RouterId.{RouterId}
-use Rattle.lsdb.specs.declared.section.Section.TheVariants.{Area}
-use Rattle.lsdb.specs.Lists.{AreaHead, Lists, lsas_of}
-use Rattle.area_routes.specs.Values.{AreaResultValue, InterValue, RouteValue}
-use Rattle.area_routes.specs.AreaResults.{area_result}
+use Rattle.lsdb.specs.Lists.{AreaHead, Lists}
+use Rattle.area_routes.specs.Values.{AreaResultValue, InterValue}
+use Rattle.best_ways.specs.Values.{RouteValue}
+pub use Rattle.area_routes.specs.AreaResults.{result_in, results_in}
 use Rattle.area_routes.specs.Intra.{intra_of}
 use Rattle.area_routes.specs.Inter.{inter_of}
 use Rattle.area_routes.specs.Attached.{attached_areas}
@@ -17,14 +17,6 @@ use Rattle.routing_table.specs.Preferring.{preferring}
 pub record TableValue : Type 0 where
   pub router : RouterId
   pub routes : List RouteValue
-
--- what an area gives to a router
-abbrev pub result_in : Lists → RouterId → AreaHead → AreaResultValue
-result_in db router area = area_result (record { 0 = area.id }) (lsas_of (Area (record { 0 = area.id })) db) router
-
--- what each of some areas gives
-abbrev pub results_in : Lists → RouterId → List AreaHead → List AreaResultValue
-results_in db router areas = map (result_in db router) areas
 
 -- the routes from what the areas of a router give: to each prefix the intra-area route, else the inter-area route, else the
 -- external route

@@ -10,17 +10,16 @@ ghost use Rattle.area_graph.specs.CostChanges.{AreChanged};
 ghost use Rattle.area_graph.specs.Graphs.{AreOfArea};
 ghost use Rattle.area_graph.specs.declared.vertex.Vertex.TheVariants.{Router};
 ghost use Rattle.area_routes.specs.AreaResults.{area_result};
-ghost use Rattle.spf.specs.Distances.{IsTreeOf};
+ghost use Rattle.spf.specs.Distances.{IsTreeOf, counted};
 ghost use Rattle.routing_table.specs.AreaTrees.{IsAreaOf, has_tree, missing};
 ghost use Rattle.routing_table.specs.Counting.{counted_by, CountsAtMost};
 
-use crate::results::tree_of;
 use area_graph::{CostChange, Graph, Vertex};
 use area_routes::{AreaResult, StubLinks};
 use lsa_codec::{AreaId, RouterId};
 use lsdb::Database;
 use next_hops::Hops;
-use spf::{Meter, Tree};
+use spf::{Meter, SpfFault, Tree};
 use std::alloc::{AllocError, Allocator};
 use std::collections::BTreeMap;
 use std::marker::Model;
@@ -161,5 +160,23 @@ impl<A: Allocator + Copy> AreaTrees<A> {
             &kept.hops,
             &self.stubs,
         )
+    }
+}
+
+/// The tree of a router that is in the graph. The meter counts it.
+fn tree_of<A: Allocator + Copy>(
+    alloc: A,
+    graph: &Graph<A>,
+    router: RouterId,
+    meter: &mut Meter,
+) -> Result<Tree<A>, AllocError>
+    requires { Contains graph.now.vertices (Router router) }
+    ensures tree { IfOk result (IsTreeOf graph.now (Router router)) }
+    ensures meter { meter.new ≡ counted meter.old }
+{
+    match Tree::build(alloc, graph, router, meter) {
+        Ok(tree) => Ok(tree),
+        Err(SpfFault::OutOfMemory) => Err(AllocError),
+        Err(SpfFault::NoRouter) => unreachable!(),
     }
 }

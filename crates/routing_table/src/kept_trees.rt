@@ -1,6 +1,6 @@
 //! The trees of all areas that are kept from table to table.
 
-ghost use Rattle.std.specs.Prelude.{◌≡◌, ◌≢◌, true, [], Some, None, Contains, IsSome, IsSomeAnd, MatchOption, IfOk, OnOk, OnErr, length, option_map};
+ghost use Rattle.std.specs.Prelude.{◌≡◌, ◌≢◌, true, false, [], Some, None, Contains, IsSome, IfSome, IsSomeAnd, MatchOption, IfOk, OnOk, OnErr, length, option_map};
 ghost use Rattle.std.specs.Ordering.{eq_by_cmp};
 ghost use Rattle.lsa_codec.specs.Order.{area_cmp};
 ghost use Rattle.lsa_codec.specs.declared.address.AreaId.{AreaId as AnyArea};
@@ -9,16 +9,14 @@ ghost use Rattle.lsdb.specs.declared.section.Section.TheVariants.{Area};
 ghost use Rattle.lsdb.specs.Lists.{lsas_of};
 ghost use Rattle.lsdb.specs.Slots.{lists_of};
 ghost use Rattle.area_graph.specs.declared.vertex.Vertex.TheVariants.{Router};
-ghost use Rattle.area_routes.specs.AreaResults.{area_result};
+ghost use Rattle.area_routes.specs.AreaResults.{area_result, results_of};
 ghost use Rattle.area_routes.specs.Attached.{attached_areas, is_attached};
 ghost use Rattle.routing_table.specs.AreaTrees.{IsAreaOf, graph_and_stubs, missing};
 ghost use Rattle.routing_table.specs.AreasTrees.{AreOfDatabase, trees_at, trees_in};
 ghost use Rattle.routing_table.specs.Counting.{counted_by, CountsAtMost};
 ghost use Rattle.routing_table.specs.KeptTrees.{areas_without_tree, GainsOnly, IsWithin};
-ghost use Rattle.routing_table.specs.Tables.{results_in};
 
 use crate::area_trees::AreaTrees;
-use crate::results::graph_of;
 use crate::spare_area::SpareArea;
 use area_graph::{Graph, GraphFault};
 use area_routes::{AreaResult, StubLinks, is_attached};
@@ -80,8 +78,37 @@ impl<A: Allocator + Copy> KeptTrees<A> {
         }
     }
 
+    /// The graph of an area, with the area's stub links, and without trees: the one that is spare,
+    /// or one that is made. `None` where the database lacks the area.
+    fn new_area(
+        &mut self,
+        alloc: A,
+        database: &Database<A>,
+        area: AreaId,
+    ) -> Result<Option<AreaTrees<A>>, AllocError>
+        requires { AreOfDatabase (lists_of database.now) self.old }
+        ensures graphs { AreOfDatabase (lists_of database.now) self.new }
+        ensures areas { self.new.areas ≡ self.old.areas }
+        ensures area { IfOk result (λ made. IfSome made
+            (IsAreaOf (lsas_of (Area area) (lists_of database.now)))) }
+        ensures trees { IfOk result (λ made. IfSome made (λ trees. trees.trees ≡ [])) }
+        ensures lacking { IfOk result (λ made. made ≡ None → (router : AnyRouter)
+            → is_attached (lists_of database.now) area router ≡ false) }
+    {
+        if let Some(trees) = self.take_spare(area) {
+            return Ok(Some(trees));
+        }
+        let graph = match Graph::build(alloc, database, area) {
+            Ok(graph) => graph,
+            Err(GraphFault::NoArea) => return Ok(None),
+            Err(GraphFault::OutOfMemory) => return Err(AllocError),
+        };
+        let stubs = StubLinks::of(alloc, database, area)?;
+        Ok(Some(AreaTrees::new(alloc, graph, stubs)))
+    }
+
     /// Makes the graph of an area, unless it is there, or the database lacks the area.
-    fn add_graph_of(
+    fn add_graph(
         &mut self,
         alloc: A,
         database: &Database<A>,
@@ -91,18 +118,17 @@ impl<A: Allocator + Copy> KeptTrees<A> {
         ensures graphs { AreOfDatabase (lists_of database.now) self.new }
         ensures trees { (other : AnyArea) (root : AnyRouter)
             → trees_in self.new other root ≡ trees_in self.old other root }
+        ensures there { OnOk result ((router : AnyRouter)
+            → is_attached (lists_of database.now) area router ≡ true
+            → IsSome (trees_at self.new area)) }
     {
         if self.areas.contains_key(&area) {
             return Ok(());
         }
-        let graph = match Graph::build(alloc, database, area) {
-            Ok(graph) => graph,
-            Err(GraphFault::NoArea) => return Ok(()),
-            Err(GraphFault::OutOfMemory) => return Err(AllocError),
+        let Some(trees) = self.new_area(alloc, database, area)? else {
+            return Ok(());
         };
-        let stubs = StubLinks::of(alloc, database, area)?;
-        self.areas
-            .insert(area, AreaTrees::new(alloc, graph, stubs))?;
+        self.areas.insert(area, trees)?;
         Ok(())
     }
 
@@ -115,55 +141,8 @@ impl<A: Allocator + Copy> KeptTrees<A> {
     {
         for i in 0..database.area_count() {
             let (area, _is_stub) = database.area(i);
-            self.add_graph_of(alloc, database, area)?;
+            self.add_graph(alloc, database, area)?;
         }
-        Ok(())
-    }
-
-    /// The graph of an area to which a router is attached, with the area's stub links, and without
-    /// trees: the one that is spare, or one that is made.
-    fn new_area(
-        &mut self,
-        alloc: A,
-        database: &Database<A>,
-        area: AreaId,
-        router: RouterId,
-    ) -> Result<AreaTrees<A>, AllocError>
-        requires attached { is_attached (lists_of database.now) area router ≡ true }
-        requires graphs { AreOfDatabase (lists_of database.now) self.old }
-        ensures graphs { AreOfDatabase (lists_of database.now) self.new }
-        ensures areas { self.new.areas ≡ self.old.areas }
-        ensures area { IfOk result (IsAreaOf (lsas_of (Area area) (lists_of database.now))) }
-        ensures trees { IfOk result (λ made. made.trees ≡ []) }
-    {
-        if let Some(trees) = self.take_spare(area) {
-            return Ok(trees);
-        }
-        let graph = graph_of(alloc, database, area, router)?;
-        let stubs = StubLinks::of(alloc, database, area)?;
-        Ok(AreaTrees::new(alloc, graph, stubs))
-    }
-
-    /// Makes the graph of an area to which a router is attached, unless it is there.
-    fn add_graph(
-        &mut self,
-        alloc: A,
-        database: &Database<A>,
-        area: AreaId,
-        router: RouterId,
-    ) -> Result<(), AllocError>
-        requires attached { is_attached (lists_of database.now) area router ≡ true }
-        requires graphs { AreOfDatabase (lists_of database.now) self.old }
-        ensures graphs { AreOfDatabase (lists_of database.now) self.new }
-        ensures trees { (other : AnyArea) (root : AnyRouter)
-            → trees_in self.new other root ≡ trees_in self.old other root }
-        ensures there { OnOk result (IsSome (trees_at self.new area)) }
-    {
-        if self.areas.contains_key(&area) {
-            return Ok(());
-        }
-        let trees = self.new_area(alloc, database, area, router)?;
-        self.areas.insert(area, trees)?;
         Ok(())
     }
 
@@ -225,7 +204,7 @@ impl<A: Allocator + Copy> KeptTrees<A> {
     {
         // For the order of its areas and its keys: an attached router is a vertex of the graph.
         database.assert_valid();
-        self.add_graph(alloc, database, area, router)?;
+        self.add_graph(alloc, database, area)?;
         self.grow_in(alloc, area, router, meter)
     }
 
@@ -260,8 +239,7 @@ impl<A: Allocator + Copy> KeptTrees<A> {
     ) -> Result<Vec<AreaResult<A>, A>, AllocError>
         requires { AreOfDatabase (lists_of database.now) self.old }
         ensures results { IfOk result (λ results. results.items
-            ≡ results_in (lists_of database.now) router
-            (attached_areas (lists_of database.now) router)) }
+            ≡ results_of (lists_of database.now) router) }
         ensures memory { OnErr result (attached_areas (lists_of database.now) router ≢ []) }
         ensures graphs { AreOfDatabase (lists_of database.now) self.new }
         ensures keeps { IsWithin (trees_in self.old) (trees_in self.new) }

@@ -1,9 +1,7 @@
 //! The routing table of a router (RFC 2328, 11 and 16).
 //!
-//! [`table_of`] makes it from a link state database alone. Its parts can be called one by one: what
-//! an area gives to a router ([`result_in`], or [`AreaTrees`] and [`KeptTrees`] where trees are
-//! kept), what all areas give to which it is attached ([`results_of`]), and the routes from that
-//! ([`routes_from`]).
+//! [`table_of`] makes it from a link state database alone, [`table_from`] from what the areas give
+//! to which a router is attached, as [`KeptTrees::results_of`] returns it.
 #![tactic(auto)]
 
 mod area_trees;
@@ -11,7 +9,6 @@ mod attached;
 mod kept_trees;
 mod laws;
 mod preference;
-mod results;
 mod spare_area;
 mod table;
 
@@ -19,6 +16,4 @@ pub use area_trees::AreaTrees;
 pub use attached::routers;
 pub use kept_trees::KeptTrees;
 pub use laws::{routers_are_attached, tables_are_over_all_paths};
-pub use preference::{prefer, prefer_intra};
-pub use results::{graph_of, result_in, results_of, tree_of};
-pub use table::{Table, TableFault, routes_from, table_from, table_of};
+pub use table::{Table, TableFault, table_from, table_of};

@@ -2,8 +2,8 @@
 
 ghost use Rattle.std.specs.Prelude.{◌≡◌, ◌^◌, [], IfOk, IsOk};
 ghost use Rattle.lsa_codec.specs.Prefix.{Net};
-ghost use Rattle.area_routes.specs.Routes.{AreSortedRoutes, route_to};
-ghost use Rattle.area_routes.specs.Values.{RoutesBelow};
+ghost use Rattle.best_ways.specs.Routes.{AreSortedRoutes, route_to};
+ghost use Rattle.best_ways.specs.Values.{RoutesBelow};
 ghost use Rattle.routing_table.specs.Preferring.{preferring};
 
 use area_routes::{InsideRoutes, Route, Routes};
@@ -15,7 +15,7 @@ use std::alloc::{AllocError, Allocator};
 /// # Errors
 ///
 /// Memory ran out.
-pub fn prefer<A: Allocator + Copy>(
+pub(crate) fn prefer<A: Allocator + Copy>(
     first: Routes<A>,
     second: Routes<A>,
 ) -> Result<Routes<A>, AllocError>
@@ -38,7 +38,7 @@ pub fn prefer<A: Allocator + Copy>(
 /// # Errors
 ///
 /// Memory ran out.
-pub fn prefer_intra<A: Allocator + Copy>(
+pub(crate) fn prefer_intra<A: Allocator + Copy>(
     intra: InsideRoutes<A>,
     inter: InsideRoutes<A>,
 ) -> Result<InsideRoutes<A>, AllocError>

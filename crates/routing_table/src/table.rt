@@ -4,15 +4,16 @@ ghost use Rattle.std.specs.Prelude.{◌≡◌, [], IfOk, IfErr, IsErrOf, IsSome,
 ghost use Rattle.lsdb.specs.declared.section.Section.TheVariants.{AsWide};
 ghost use Rattle.lsdb.specs.Lists.{lsas_of};
 ghost use Rattle.lsdb.specs.Slots.{lists_of};
+ghost use Rattle.area_routes.specs.AreaResults.{results_of};
 ghost use Rattle.area_routes.specs.Attached.{attached_areas};
 ghost use Rattle.external_routes.specs.ExternalLsas.{AreExternalLsasOf, AreListedOf};
 ghost use Rattle.routing_table.specs.declared.table.TableFault.TheVariants.{OutOfMemory};
 ghost use Rattle.routing_table.specs.Counting.{counted_by, CountsAtMost};
-ghost use Rattle.routing_table.specs.Tables.{results_in, table_in, routes_from, FaultMeans};
+ghost use Rattle.routing_table.specs.Tables.{table_in, routes_from, FaultMeans};
 ghost use Rattle.routing_table.specs.Fault.{code_of, name_of};
 
+use crate::kept_trees::KeptTrees;
 use crate::preference::{prefer, prefer_intra};
-use crate::results::results_of;
 use area_routes::{AreaResult, Routes, inter, take_intra};
 use external_routes::{ExternalLsas, externals};
 use lsa_codec::RouterId;
@@ -127,7 +128,8 @@ pub fn table_of<A: Allocator + Copy>(
     ensures at_most { CountsAtMost (length (attached_areas (lists_of database.now) router))
         meter.old meter.new }
 {
-    let results = results_of(alloc, database, router, meter)?;
+    let mut trees = KeptTrees::new(alloc);
+    let results = trees.results_of(alloc, database, router, meter)?;
     table_from(alloc, database, router, results, &mut None)
 }
 
@@ -156,8 +158,7 @@ pub fn table_from<A: Allocator + Copy>(
     results: Vec<AreaResult<A>, A>,
     lsas: &mut Option<ExternalLsas<A>>,
 ) -> Result<Table<A>, TableFault>
-    requires results { results.items ≡ results_in (lists_of database.now) router
-        (attached_areas (lists_of database.now) router) }
+    requires results { results.items ≡ results_of (lists_of database.now) router }
     requires lsas { AreListedOf (lsas_of AsWide (lists_of database.now)) lsas.old }
     ensures table { IfOk result (λ table. table_in (lists_of database.now) router ≡ Some table) }
     ensures fault { IfErr result (FaultMeans (table_in (lists_of database.now) router)) }
@@ -177,7 +178,7 @@ pub fn table_from<A: Allocator + Copy>(
 }
 
 /// The routes from what the areas of a router give, and from the AS-external-LSAs of the database.
-pub fn routes_from<A: Allocator + Copy>(
+fn routes_from<A: Allocator + Copy>(
     alloc: A,
     database: &Database<A>,
     lsas: &ExternalLsas<A>,

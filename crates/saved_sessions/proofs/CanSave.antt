@@ -4,11 +4,11 @@ use Rattle.std.specs.Prelude.{All, IsOk, OnOk}
 use Rattle.std.proofs.lemmas.List.{take_at, drop_at}
 use Rattle.std.proofs.lemmas.List.Elements.{All-take, All-drop}
 use Rattle.lsdb.specs.Lists.{Lists, IsDatabase}
-use Rattle.lsdb.specs.Slots.{Slots, lists_of}
+use Rattle.lsdb.specs.Slots.{Slots}
 use Rattle.edit_script.specs.declared.edit.Edit.{Edit}
 use Rattle.edit_script.specs.Spelling.{IsEditInRange}
 use Rattle.edit_history.specs.declared.fault.EditFault.{EditFault}
-use Rattle.edit_history.specs.Journal.{HistoryData, Links}
+use Rattle.edit_history.specs.Journal.{HistoryData}
 use Rattle.edit_history.specs.Session as session
 use Rattle.edit_history.specs.Session.{Session, NoneRefused, effects, most_edits}
 use Rattle.edit_history.proofs.HistoryLemmas.{done_accepted, undone_accepted, state_is}

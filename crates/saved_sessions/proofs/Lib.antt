@@ -1,3 +1,6 @@
+mod LineParts
+mod SessionParts
+mod ShortLines
 pub mod Trailing
 pub mod Failing
 pub mod Numbers

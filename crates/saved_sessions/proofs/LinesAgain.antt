@@ -1,17 +1,17 @@
 -- The lines of edits that are not refused are read again.
-use Rattle.std.proofs.Common.{◌≡◌, ℕ, suc, ◌+◌, ◌≤◌, List, [], ◌∷◌, ◌++◌, length, drop, Option, Some, Result, Ok, Err, refl, sym, ap, ◌∙◌, subst, append_assoc, arith}
+use Rattle.std.proofs.Common.{◌≡◌, ℕ, suc, ◌+◌, ◌≤◌, List, [], ◌∷◌, ◌++◌, length, Some, Result, Ok, refl, sym, ap, ◌∙◌, subst, append_assoc, arith}
 use Rattle.std.specs.Prelude.{All, IsOk}
 use Rattle.std.proofs.lemmas.List.{append-nil, drop_at, length-append}
 use Rattle.std.proofs.lemmas.List.Concat.{flat_map-cons}
 use Rattle.std.proofs.lemmas.List.Elements.{All-head, All-tail}
 use Rattle.lsdb.specs.declared.fault.DumpFault.{DumpFault}
 use Rattle.lsdb.specs.Lists.{Lists}
-use Rattle.lsdb.specs.Loading.{◌>>=◌, At, advanced}
+use Rattle.lsdb.specs.Loading.{◌>>=◌, At}
 use Rattle.edit_script.specs.declared.edit.Edit.{Edit}
 use Rattle.edit_script.specs.Spelling.{IsEditInRange}
 use Rattle.edit_history.specs.declared.fault.EditFault.{EditFault}
 use Rattle.edit_history.specs.Session.{Session, after_edits, unless_refused, effects, edited, most_edits}
-use Rattle.session_text.specs.Lines.{line_of, lines_of, edit_line}
+use Rattle.saved_sessions.specs.Lines.{line_of, lines_of, edit_line}
 use Rattle.saved_sessions.specs.Opening.{edit_found, edit_at, edit_done, line_at, lines_from}
 use Rattle.saved_sessions.proofs.Doing.{doing, edited_again, after_snoc, leads}
 use Rattle.saved_sessions.proofs.Numbers.{here}

@@ -8,7 +8,7 @@ use Rattle.edit_script.specs.declared.edit.Edit.{Edit}
 use Rattle.edit_script.specs.Spelling.{IsEditInRange}
 use Rattle.edit_history.specs.declared.fault.EditFault.{EditFault}
 use Rattle.edit_history.specs.Session.{Session, edited}
-use Rattle.session_text.specs.Lines.{line_of, lines_of, edit_line}
+use Rattle.saved_sessions.specs.Lines.{line_of, lines_of, edit_line}
 use Rattle.saved_sessions.specs.Opening.{edit_found, edit_at, edit_done, line_at, lines_from}
 use Rattle.saved_sessions.proofs.Doing.{doing, edited_is}
 use Rattle.saved_sessions.proofs.Failing.{bind_ok, ok_is}

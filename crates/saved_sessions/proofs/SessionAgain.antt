@@ -1,5 +1,5 @@
 -- A session that is saved is opened again.
-use Rattle.std.proofs.Common.{◌≡◌, ℕ, ◌+◌, ◌*◌, ◌<◌, ◌≤◌, ◌^◌, Bool, true, false, cond, List, [], ◌∷◌, ◌++◌, length, drop, Result, Ok, Err, refl, sym, ap, subst, ◌∙◌}
+use Rattle.std.proofs.Common.{◌≡◌, ℕ, ◌+◌, ◌*◌, ◌≤◌, Bool, true, false, cond, List, [], ◌++◌, length, Result, Ok, refl, sym, ap, ◌∙◌}
 use Rattle.std.proofs.Common.{append_assoc, arith}
 use Rattle.std.specs.Prelude.{All, IsOk}
 use Rattle.std.specs.Int.{w16, to_be_bytes}
@@ -15,9 +15,9 @@ use Rattle.lsdb.specs.BaseLoading.{begins_session, base_loaded}
 use Rattle.edit_script.specs.declared.edit.Edit.{Edit}
 use Rattle.edit_script.specs.Spelling.{IsEditInRange}
 use Rattle.edit_history.specs.Session.{Session, start, effects, moved_back}
-use Rattle.session_text.specs.Lines.{lines_of, longest_line}
-use Rattle.session_text.specs.Text.{history_text, session_text, IsHistory}
-use Rattle.saved_sessions.specs.Opening.{position_after, counts_at, lines_from, history_at, session_loaded, dump_loaded, opened}
+use Rattle.saved_sessions.specs.Lines.{lines_of, longest_line}
+use Rattle.saved_sessions.specs.Text.{history_text, session_text, IsHistory}
+use Rattle.saved_sessions.specs.Opening.{position_after, lines_from, history_at, session_loaded, dump_loaded, opened}
 use Rattle.saved_sessions.specs.Saved.{CanBeSaved, saved_text}
 use Rattle.saved_sessions.proofs.Doing.{doing, session_of, none_refused, back_again}
 use Rattle.saved_sessions.proofs.LinesAgain.{LineIsRead, lines_again}

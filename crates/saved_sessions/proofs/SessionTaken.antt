@@ -7,8 +7,8 @@ use Rattle.lsdb.specs.BaseText.{base_text}
 use Rattle.lsdb.specs.Loading.{◌>>=◌, At}
 use Rattle.edit_script.specs.declared.edit.Edit.{Edit}
 use Rattle.edit_history.specs.Session.{Session, start, moved_back}
-use Rattle.session_text.specs.Lines.{lines_of}
-use Rattle.session_text.specs.Text.{session_text}
+use Rattle.saved_sessions.specs.Lines.{lines_of}
+use Rattle.saved_sessions.specs.Text.{session_text}
 use Rattle.saved_sessions.specs.Opening.{position_after, counts_at, lines_from, history_at}
 use Rattle.saved_sessions.specs.Saved.{saved_text}
 use Rattle.saved_sessions.proofs.Doing.{doing}

@@ -1,3 +1,5 @@
+pub mod Lines
+pub mod Text
 pub mod Opening
 pub mod Saved
 pub mod steps

@@ -11,7 +11,7 @@ use Rattle.lsdb.specs.BaseLoading.{begins_session, base_loaded, base_front_loade
 use Rattle.edit_script.specs.declared.edit.Edit.{Edit}
 use Rattle.edit_history.specs.declared.fault.EditFault.{EditFault}
 use Rattle.edit_history.specs.Session.{Session, start, edited, moved_back, most_edits}
-use Rattle.session_text.specs.Lines.{line_feed, edit_line}
+use Rattle.saved_sessions.specs.Lines.{line_feed, edit_line}
 
 -- ---- positions
 

@@ -3,7 +3,7 @@ use Rattle.std.specs.Prelude.{ℕ, ◌+◌, ◌≤◌, List, length, All}
 use Rattle.lsdb.specs.Lists.{IsDatabase}
 use Rattle.edit_script.specs.Spelling.{IsEditInRange}
 use Rattle.edit_history.specs.Session.{Session, NoneRefused, most_edits}
-use Rattle.session_text.specs.Text.{session_text}
+use Rattle.saved_sessions.specs.Text.{session_text}
 
 -- a session that a planner can come to: no edit is refused on the way from its base, its edits are no more than may be done,
 -- and each number of an edit is in the range of its type

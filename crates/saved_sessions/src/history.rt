@@ -6,12 +6,13 @@ ghost use Rattle.saved_sessions.specs.Opening.{position_after, edit_at, has_line
 ghost use Rattle.saved_sessions.specs.steps.Reading.{Gives};
 
 use crate::fault::{ReadError, fault};
+use crate::laws::line_laws;
+use crate::line::edit_line;
 use crate::read::read_counts;
 use edit_history::EditFault;
 use edit_script::Edit;
 use lsdb::DumpFaultKind;
 use recalculate::Planner;
-use session_text::{edit_line, line_laws};
 use std::alloc::Allocator;
 
 /// Whether a line feed is among bytes.

@@ -9,9 +9,9 @@ ghost use Rattle.saved_sessions.specs.Opening.{dump_loaded, front_opened, opened
 ghost use Rattle.saved_sessions.specs.Saved.{saved_text};
 
 use crate::history::read_history;
+use crate::laws::line_laws;
 use lsdb::{Database, DumpFault, DumpFaultKind};
 use recalculate::Planner;
-use session_text::line_laws;
 use std::alloc::Allocator;
 
 /// What the dump of a session begins with: the magic and the version.

@@ -4,15 +4,15 @@ ghost use Rattle.std.specs.Prelude.{◌≡◌, ◌++◌, All, Ok, OnOk, IfOk};
 ghost use Rattle.edit_script.specs.Spelling.{IsEditInRange};
 ghost use Rattle.edit_history.specs.Session.{edits_of};
 ghost use Rattle.lsdb.specs.Lists.{IsDatabase};
-ghost use Rattle.session_text.specs.Lines.{lines_of};
-ghost use Rattle.session_text.specs.Text.{history_text};
+ghost use Rattle.saved_sessions.specs.Lines.{lines_of};
+ghost use Rattle.saved_sessions.specs.Text.{history_text};
 ghost use Rattle.saved_sessions.specs.Opening.{opened};
 ghost use Rattle.saved_sessions.specs.Saved.{CanBeSaved, saved_text};
 
 use crate::laws::sessions_open_again;
+use crate::line::put_line;
 use edit_history::Record;
 use recalculate::Planner;
-use session_text::put_line;
 use std::alloc::{AllocError, Allocator};
 
 /// Writes the lines of the edits of records.
@@ -51,7 +51,7 @@ fn put_history<A: Allocator + Copy>(
 /// The dump of a session, version 2: its base, how many edits are done and how many are undone,
 /// and the lines of the edits. [`open`](crate::open) makes the same session of it. The planner is
 /// as it was, also where memory runs out, which is the error.
-#[tactic(auto, unfolding(session_text::specs::Text::session_text))]
+#[tactic(auto, unfolding(crate::specs::Text::session_text))]
 pub fn save<A: Allocator + Copy>(planner: &mut Planner<A>) -> Result<Vec<u8, A>, AllocError>
     ensures text { IfOk result (λ bytes. bytes.items ≡ saved_text planner.old.session) }
     ensures opens { IfOk result (λ bytes. opened bytes.items ≡ Ok planner.old.session) }

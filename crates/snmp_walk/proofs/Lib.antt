@@ -1,5 +1,3 @@
-pub mod Split
-pub mod Digits
 pub mod Names
 pub mod Values
 pub mod ParsedObjects

@@ -1,5 +1,5 @@
 -- The arcs of words, one word after another.
-use Rattle.std.proofs.Common.{◌≡◌, ℕ, List, [], ◌∷◌, ◌++◌, Some, None, refl, ap, ◌∙◌}
+use Rattle.std.proofs.Common.{◌≡◌, ℕ, List, [], ◌∷◌, ◌++◌, Some, None, ap}
 use Rattle.snmp_walk.specs.Names.{◌>>=◌, arc_of, arcs_after}
 
 pub arc_read : (arcs word : List ℕ) (words : List (List ℕ)) (arc : ℕ) → arc_of word ≡ Some arc

@@ -1,10 +1,10 @@
 -- What the rest of a walk contains.
-use Rattle.std.proofs.Common.{◌≡◌, ℕ, suc, ◌+◌, ◌<◌, ◌≤◌, true, false, cond, eqb, List, [], ◌∷◌, ◌++◌, length, get_or, take, drop, Option, Some, None, refl, sym, ap, ◌∙◌, add-one, append_assoc, arith}
+use Rattle.std.proofs.Common.{◌≡◌, ℕ, ◌+◌, ◌<◌, ◌≤◌, true, false, cond, eqb, List, [], ◌∷◌}
+use Rattle.std.proofs.Common.{◌++◌, length, get_or, drop, Option, Some, None, refl, sym, ap, ◌∙◌, add-one, append_assoc}
 use Rattle.std.specs.Prelude.{map}
 use Rattle.std.specs.List.{cons_option}
 use Rattle.std.proofs.Math.Seq.{drop-cons}
 use Rattle.std.proofs.lemmas.List.{drop_all, append-nil}
-use Rattle.std.proofs.lemmas.Bool.{cases_Bool}
 use Rattle.snmp_walk.specs.declared.parsed_object.ParsedObject.{ParsedObject}
 use Rattle.snmp_walk.specs.Objects.{Object, object_at, later_objects}
 use Rattle.snmp_walk.specs.ParsedObjects.{parsed_by, parsed_in}

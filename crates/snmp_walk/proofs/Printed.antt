@@ -1,5 +1,5 @@
 -- What is printed of bytes is read as these bytes.
-use Rattle.std.proofs.Common.{◌≡◌, ℕ, Bool, true, false, eqb, cond, ◌||◌, List, [], ◌∷◌, ◌++◌, append_assoc, codes, Option, Some, None, refl, sym, ap, ◌∙◌}
+use Rattle.std.proofs.Common.{◌≡◌, ℕ, Bool, true, false, eqb, cond, ◌||◌, List, [], ◌∷◌, ◌++◌, append_assoc, codes, Some, None, refl, sym, ap, ◌∙◌}
 use Rattle.std.specs.List.{list_all}
 use Rattle.std.proofs.lemmas.List.{append-nil}
 use Rattle.hex.specs.Hex.{IsBytes, decode_of}

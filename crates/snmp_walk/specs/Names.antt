@@ -1,25 +1,12 @@
 -- The names of objects, as lists of numbers (X.660): their arcs. In place of numbers, names may have words of the MIB.
-use Rattle.std.specs.Prelude.{ℕ, ◌+◌, ◌-◌, ◌*◌, ◌==◌, ◌&&◌, nat_lt, nat_le, Bool, List, [], ◌∷◌, ◌++◌, length, codes, bytes_eq, Option, Some, None, is_some, if◌then◌else◌}
-use Rattle.std.specs.Str.{all_ascii_digits}
+use Rattle.std.specs.Prelude.{ℕ, ◌+◌, List, [], ◌∷◌, ◌++◌, codes, bytes_eq, Option, Some, None, is_some, if◌then◌else◌}
+pub use Rattle.text_words.specs.Options.{◌>>=◌}
+use Rattle.text_words.specs.Numbers.{decimal_up_to}
 use Rattle.snmp_walk.specs.Text.{after}
 
-infixl 10 ◌>>=◌
-abbrev pub ◌>>=◌ : {A B : Type 0} → Option A → (A → Option B) → Option B
-(Some x) >>= f = f x
-None >>= f = None
-
--- the value of decimal digits that follow the number n
-abbrev pub digits_after : ℕ → List ℕ → ℕ
-digits_after n [] = n
-digits_after n (digit ∷ digits) = digits_after (10 * n + (digit - 48)) digits
-
--- the same where all are digits and the value is at most max
-unfoldable pub within : ℕ → ℕ → List ℕ → Option ℕ
-within max n digits = if all_ascii_digits digits && nat_le (digits_after n digits) max then Some (digits_after n digits) else None
-
 -- a decimal number of at most 32 bits
-unfoldable pub number_of : List ℕ → Option ℕ
-number_of word = if nat_lt 0 (length word) then within 0xffffffff 0 word else None
+abbrev pub number_of : List ℕ → Option ℕ
+number_of word = decimal_up_to 0xffffffff word
 
 -- the words of the OSPF-MIB for LS types (ospfLsdbType, ospfAsLsdbType and ospfLocalLsdbType of RFC 4750)
 unfoldable pub type_named : List ℕ → Option ℕ

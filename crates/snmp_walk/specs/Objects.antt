@@ -1,5 +1,5 @@
 -- The objects of a walk: lines NAME = VALUE, and the lines that continue a value.
-use Rattle.std.specs.Prelude.{ℕ, ◌==◌, ◌&&◌, Bool, false, List, [], ◌∷◌, codes, Option, Some, None, is_some, option_map, if◌then◌else◌}
+use Rattle.std.specs.Prelude.{ℕ, ◌==◌, ◌&&◌, Bool, false, List, [], ◌∷◌, codes, Option, is_some, option_map, if◌then◌else◌}
 use Rattle.std.specs.List.{cons_option}
 use Rattle.snmp_walk.specs.Text.{line_feed, after, first_word, after_word}
 

@@ -1,8 +1,7 @@
 -- What the objects of the OSPF-MIB are about (RFC 4750).
-use Rattle.std.specs.Prelude.{ℕ, ◌+◌, ◌==◌, ◌&&◌, not, nat_lt, List, [], ◌∷◌, length, take, drop, position, Option, Some, None, if◌then◌else◌}
+use Rattle.std.specs.Prelude.{ℕ, ◌+◌, ◌==◌, not, nat_lt, List, [], ◌∷◌, take, drop, position, Option, Some, None, if◌then◌else◌}
 use Rattle.std.specs.Int.{w32, from_be_bytes}
 use Rattle.std.specs.List.{slice_split}
-use Rattle.lsa_codec.specs.declared.address.AreaId.{AreaId}
 use Rattle.lsa_codec.specs.declared.key.Key.{Key}
 use Rattle.findings.specs.declared.reported_lsa.ReportedLsa.{ReportedLsa}
 use Rattle.snmp_walk.specs.declared.subject.Subject.{Subject}

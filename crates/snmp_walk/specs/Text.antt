@@ -1,6 +1,8 @@
 -- Blanks, dots, and what follows the front of a text.
-use Rattle.std.specs.Prelude.{ℕ, ◌==◌, ◌||◌, Bool, List, length, take, drop, Option, Some, None, bytes_eq, if◌then◌else◌}
+use Rattle.std.specs.Prelude.{ℕ, ◌==◌, Bool, List, length, take, drop, Option, Some, None, bytes_eq, if◌then◌else◌}
 use Rattle.std.specs.List.{position_or_len}
+use Rattle.text_words.specs.declared.blanks.Blanks.TheVariants.{InText}
+use Rattle.text_words.specs.Words as any
 
 -- a line feed
 abbrev pub line_feed : ℕ
@@ -8,7 +10,7 @@ line_feed = 0x0a
 
 -- a space, a tab, a line feed or a carriage return
 abbrev pub is_blank : ℕ → Bool
-is_blank byte = byte == 0x20 || byte == 0x09 || byte == line_feed || byte == 0x0d
+is_blank byte = any.is_blank InText byte
 
 abbrev pub is_dot : ℕ → Bool
 is_dot byte = byte == 0x2e

@@ -3,38 +3,10 @@
 ghost use Rattle.std.specs.Prelude.{◌≡◌, ◌<◌, ◌≤◌, IfOk, IfSome, option_map, MatchOption, [], ◌∷◌, length};
 ghost use Rattle.std.specs.List.{slice_split};
 ghost use Rattle.snmp_walk.specs.Text.{is_dot};
-ghost use Rattle.snmp_walk.specs.Names.{within, number_of, type_named, arc_of, arcs_after, column_named, in_table, object_named, head_of};
+ghost use Rattle.snmp_walk.specs.Names.{type_named, arc_of, arcs_after, column_named, in_table, object_named, head_of};
 
-use crate::text::first_dot;
 use std::alloc::{AllocError, Allocator};
-
-/// The value of decimal digits, where it fits in 32 bits.
-fn digits_value(digits: &[u8]) -> Option<u32>
-    ensures { result ≡ within 0xffffffff 0 digits.now }
-{
-    let mut number = 0u64;
-    for digit in digits {
-        if !digit.is_ascii_digit() {
-            return None;
-        }
-        number = number * 10 + u64::from(*digit - b'0');
-        if number > u64::from(u32::MAX) {
-            return None;
-        }
-    }
-    Some(number as u32)
-}
-
-/// The decimal number of 32 bits that a word spells.
-#[tactic(auto, unfolding(crate::specs::Names::number_of))]
-fn number_of(word: &[u8]) -> Option<u32>
-    ensures { result ≡ number_of word.now }
-{
-    if word.is_empty() {
-        return None;
-    }
-    digits_value(word)
-}
+use text_words::{cut_at, decimal_up_to};
 
 /// The LS type that a word of the OSPF-MIB names.
 #[tactic(auto, unfolding(crate::specs::Names::type_named))]
@@ -70,24 +42,19 @@ fn type_named(word: &[u8]) -> Option<u32>
 fn arc_of(word: &[u8]) -> Option<u32>
     ensures { result ≡ arc_of word.now }
 {
-    match number_of(word) {
+    match decimal_up_to(u32::MAX, word) {
         Some(number) => Some(number),
         None => type_named(word),
     }
 }
 
 /// What stands before the first dot, and after it.
-#[tactic(auto, using(crate::proofs::Split::cut_none, crate::proofs::Split::cut_some, crate::proofs::Split::drop_one))]
 fn cut_at_dot(text: &[u8]) -> Option<(&[u8], &[u8])>
     ensures { MatchOption result (slice_split is_dot text.now ≡ text.now ∷ [])
         (λ x. (slice_split is_dot text.now ≡ x.0.now ∷ slice_split is_dot x.1.now)
         × (length x.1.now < length text.now)) }
 {
-    let Some(end) = first_dot(text) else {
-        return None;
-    };
-    let (front, back) = text.split_at(end);
-    Some((front, &back[1..]))
+    cut_at(text, b'.')
 }
 
 /// The arcs that the words between dots spell, after those that were spelled before.

@@ -19,13 +19,14 @@ use Rattle.lsa_codec.specs.Views.{net_of_summary}
 use Rattle.lsa_codec.proofs.OrderLemmas.{prefix_exact, prefix_total, router_exact, router_total}
 use Rattle.area_graph.specs.Least.{least, lesser}
 use Rattle.area_graph.specs.Rising.{rising}
-use Rattle.area_routes.specs.Best.{way_of, way_to, ways_of}
-use Rattle.area_routes.specs.Candidate.{Candidate}
+use Rattle.best_ways.specs.Best.{way_of, way_to, ways_of}
+use Rattle.best_ways.specs.Candidate.{Candidate}
 use Rattle.area_routes.specs.Inter.{asbr_entry, announced_asbr, has_asbr, inter_entries, inter_routes, named_router, announced_network, same_router}
-use Rattle.area_routes.specs.Routes.{has_route, route_of, route_to}
-use Rattle.area_routes.specs.Values.{AreaResultValue, EntryValue, RouteValue, WayValue}
-use Rattle.area_routes.proofs.LookupLemmas.{entries_at, lookup_entries}
-use Rattle.area_routes.proofs.RisingLemmas.{any_rising}
+use Rattle.best_ways.specs.Routes.{has_route, route_of, route_to}
+use Rattle.area_routes.specs.Values.{AreaResultValue, EntryValue}
+use Rattle.best_ways.specs.Values.{RouteValue, WayValue}
+use Rattle.best_ways.proofs.LookupLemmas.{entries_at, lookup_entries}
+use Rattle.best_ways.proofs.RisingLemmas.{any_rising}
 use Rattle.external_routes.specs.Choose.{is_asbr, is_intra, preference}
 use Rattle.external_routes.specs.Summaries.{is_announced_entry, is_announced_route}
 use Rattle.summary_metrics.specs.BackboneSummaries.{asbr_named, is_at, is_source, source_of, sources}

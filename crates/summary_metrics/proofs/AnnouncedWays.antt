@@ -16,14 +16,15 @@ use Rattle.lsa_codec.specs.Views.{ls_infinity, metric_of}
 use Rattle.area_graph.specs.Area.{is_live}
 use Rattle.area_graph.specs.Least.{least, lesser}
 use Rattle.area_graph.specs.Rising.{rising}
-use Rattle.area_routes.specs.declared.rank.PathType.TheVariants.{Inter}
-use Rattle.area_routes.specs.declared.rank.Rank.{Rank}
-use Rattle.area_routes.specs.Best.{joined, of_rank, way_of, way_to}
-use Rattle.area_routes.specs.Candidate.{Candidate}
+use Rattle.best_ways.specs.declared.rank.PathType.TheVariants.{Inter}
+use Rattle.best_ways.specs.declared.rank.Rank.{Rank}
+use Rattle.best_ways.specs.Best.{joined, of_rank, way_of, way_to}
+use Rattle.best_ways.specs.Candidate.{Candidate}
 use Rattle.area_routes.specs.Inter.{border_of, by_border, candidate_to, is_summary, originator_of, same_router, usable_metric}
-use Rattle.area_routes.specs.Order.{rank_cmp}
-use Rattle.area_routes.specs.Values.{AreaResultValue, EntryValue, WayValue}
-use Rattle.area_routes.proofs.WayLemmas.{All-filter_map}
+use Rattle.best_ways.specs.Order.{rank_cmp}
+use Rattle.area_routes.specs.Values.{AreaResultValue, EntryValue}
+use Rattle.best_ways.specs.Values.{WayValue}
+use Rattle.best_ways.proofs.WayLemmas.{All-filter_map}
 use Rattle.summary_metrics.specs.BackboneSummaries.{is_at, is_source, source_of, sources}
 use Rattle.summary_metrics.specs.steps.AnnouncedCosts.{cost_over, announced_cost}
 

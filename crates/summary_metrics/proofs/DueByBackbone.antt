@@ -16,17 +16,19 @@ use Rattle.lsa_codec.specs.Views.{ls_infinity, net_of_summary}
 use Rattle.lsdb.specs.declared.section.Section.TheVariants.{Area}
 use Rattle.lsdb.specs.Lists.{Lists, lsas_of}
 use Rattle.area_graph.specs.Least.{least}
-use Rattle.area_routes.specs.declared.rank.PathType.TheVariants.{Intra}
+use Rattle.best_ways.specs.declared.rank.PathType.TheVariants.{Intra}
 use Rattle.area_routes.specs.declared.entry.EntryKind.TheVariants.{AsbrInter}
 use Rattle.area_routes.specs.Attached.{attached_areas}
 use Rattle.area_routes.specs.Inter.{backbone, entries_by, entries_of_all, examined, has_asbr, inter_entries, inter_of, inter_routes, originator_of, routes_by, same_router}
 use Rattle.area_routes.specs.Intra.{intra_of}
-use Rattle.area_routes.specs.Routes.{route_to}
-use Rattle.area_routes.specs.Values.{AreaResultValue, EntryValue, RouteValue}
+use Rattle.best_ways.specs.Routes.{route_to}
+use Rattle.area_routes.specs.Values.{AreaResultValue, EntryValue}
+use Rattle.best_ways.specs.Values.{RouteValue}
 use Rattle.external_routes.specs.Choose.{is_asbr, is_asbr_intra, is_intra, preference, preferred}
 use Rattle.external_routes.specs.Summaries.{asbr_of_summary, borders, cost_of_asbr, cost_of_net, is_announced_entry, is_announced_route, is_calculated, is_covered, metric_for}
 use Rattle.routing_table.proofs.PreferenceLemmas.{route_all, route_preferring}
-use Rattle.summary_metrics.specs.Refreshed.{due_in, entries_inside, results_of, routes_inside}
+use Rattle.area_routes.specs.AreaResults.{results_of}
+use Rattle.summary_metrics.specs.Refreshed.{due_in, entries_inside, routes_inside}
 use Rattle.summary_metrics.specs.declared.sources.Source.{Source}
 use Rattle.summary_metrics.specs.BackboneSummaries.{backbone_lsas}
 use Rattle.summary_metrics.specs.SummaryMetrics.{backbone_entries}

@@ -18,20 +18,22 @@ use Rattle.lsdb.specs.declared.section.Section.TheVariants.{Area}
 use Rattle.lsdb.specs.Lists.{Lists, lsas_of}
 use Rattle.area_graph.specs.Least.{least}
 use Rattle.area_routes.specs.declared.entry.EntryKind.TheVariants.{AsbrInter}
-use Rattle.area_routes.specs.declared.rank.PathType.TheVariants.{Inter}
-use Rattle.area_routes.specs.Best.{ways_of}
-use Rattle.area_routes.specs.Candidate.{Candidate}
+use Rattle.best_ways.specs.declared.rank.PathType.TheVariants.{Inter}
+use Rattle.best_ways.specs.Best.{ways_of}
+use Rattle.best_ways.specs.Candidate.{Candidate}
 use Rattle.area_routes.specs.Inter.{asbr_candidate, asbr_entry, border_of, by_border, candidate_to, entries_by, entries_of_all, examined, inter_of, inter_routes}
 use Rattle.area_routes.specs.Inter.{named_router, network_candidate, announced_network, originator_of, routes_by, usable_metric}
 use Rattle.area_routes.specs.Intra.{intra_of}
-use Rattle.area_routes.specs.Routes.{route_of, route_to}
-use Rattle.area_routes.specs.Values.{AreaResultValue, EntryValue, RouteValue, WayValue}
-use Rattle.area_routes.proofs.WayLemmas.{All-filter_map, ways_have}
+use Rattle.best_ways.specs.Routes.{route_of, route_to}
+use Rattle.area_routes.specs.Values.{AreaResultValue, EntryValue}
+use Rattle.best_ways.specs.Values.{RouteValue, WayValue}
+use Rattle.best_ways.proofs.WayLemmas.{All-filter_map, ways_have}
 use Rattle.external_routes.specs.Choose.{is_asbr, is_asbr_intra, is_intra, preference}
 use Rattle.external_routes.specs.Summaries.{asbr_of_summary, cost_of_asbr, cost_of_net, is_announced_entry, is_announced_route, metric_for}
 use Rattle.routing_table.specs.Preferring.{preferring}
 use Rattle.routing_table.proofs.PreferenceLemmas.{route_all, route_preferring}
-use Rattle.summary_metrics.specs.Refreshed.{due_in, results_of}
+use Rattle.area_routes.specs.AreaResults.{results_of}
+use Rattle.summary_metrics.specs.Refreshed.{due_in}
 use Rattle.summary_metrics.proofs.Outside.{IsInside, is_outside, least_alike}
 use Rattle.summary_metrics.proofs.SameGraphs.{HaveSameGraphs, results_alike, stub_alike}
 

@@ -4,13 +4,13 @@ use Rattle.std.specs.List.{All, flat_map}
 use Rattle.std.proofs.lemmas.List.Elements.{All-append, All-cons, All-map, All-nil}
 use Rattle.lsa_codec.specs.Order.{prefix_cmp}
 use Rattle.lsa_codec.specs.Prefix.{Net}
-use Rattle.area_routes.specs.declared.rank.PathType.TheVariants.{Intra}
-use Rattle.area_routes.specs.Best.{ways_of}
-use Rattle.area_routes.specs.Candidate.{Candidate}
+use Rattle.best_ways.specs.declared.rank.PathType.TheVariants.{Intra}
+use Rattle.best_ways.specs.Best.{ways_of}
+use Rattle.best_ways.specs.Candidate.{Candidate}
 use Rattle.area_routes.specs.Intra.{intra_candidate, intra_candidates, intra_of}
-use Rattle.area_routes.specs.Routes.{route_of}
+use Rattle.best_ways.specs.Routes.{route_of}
 use Rattle.area_routes.specs.Values.{AreaResultValue, OfferValue}
-use Rattle.area_routes.proofs.WayLemmas.{ways_have}
+use Rattle.best_ways.proofs.WayLemmas.{ways_have}
 
 all_of_area : (r : AreaResultValue) (os : List OfferValue) → All (λ c. c.rank.path ≡ Intra) (map (intra_candidate r.area) os)
 all_of_area r [] = All-nil (λ (c : Candidate Net). c.rank.path ≡ Intra)

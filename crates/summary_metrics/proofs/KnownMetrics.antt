@@ -11,7 +11,8 @@ use Rattle.area_routes.specs.Inter.{originator_of}
 use Rattle.area_routes.specs.Values.{AreaResultValue}
 use Rattle.external_routes.specs.Summaries.{borders, is_calculated, is_covered}
 use Rattle.routing_table.specs.AreasTrees.{KeptTreesValue, AreOfDatabase}
-use Rattle.summary_metrics.specs.Refreshed.{due_in, results_of, stale_metric}
+use Rattle.area_routes.specs.AreaResults.{results_of}
+use Rattle.summary_metrics.specs.Refreshed.{due_in, stale_metric}
 use Rattle.summary_metrics.specs.BackboneSummaries.{AreAnnounced, BackboneSummariesValue, backbone_lsas}
 use Rattle.summary_metrics.specs.SummaryMetrics.{AreGiven, AreInside, AreOf, InsideValue, SummaryMetricsValue, ids_attached}
 use Rattle.summary_metrics.specs.steps.AnnouncedCosts.{due_by_backbone}

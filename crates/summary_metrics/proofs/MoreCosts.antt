@@ -17,7 +17,7 @@ use Rattle.area_graph.specs.Least.{later, least}
 use Rattle.area_routes.specs.declared.entry.EntryKind.TheVariants.{Border}
 use Rattle.area_routes.specs.Inter.{border_of, same_kind, same_router}
 use Rattle.area_routes.specs.Values.{EntriesBelow, EntryValue}
-use Rattle.area_routes.proofs.LeastLemmas.{least_push}
+use Rattle.best_ways.proofs.LeastLemmas.{least_push}
 use Rattle.summary_metrics.specs.declared.sources.Source.{Source}
 use Rattle.summary_metrics.specs.SummaryMetrics.{HasCosts}
 use Rattle.summary_metrics.specs.steps.AnnouncedCosts.{CostsBelow, cost_from, cost_over, lesser_cost, announced_cost, announced_from}

@@ -15,7 +15,7 @@ use Rattle.std.proofs.lemmas.List.{get_or-map, length-map}
 use Rattle.lsa_codec.specs.Order.{prefix_cmp}
 use Rattle.lsa_codec.specs.Prefix.{Net}
 use Rattle.lsa_codec.proofs.OrderLemmas.{prefix_total}
-use Rattle.area_routes.proofs.SearchLemmas.{found_at, not_found}
+use Rattle.best_ways.proofs.SearchLemmas.{found_at, not_found}
 
 map_same : {X : Type 0} (xs : List X) → map (λ x. x) xs ≡ xs
 map_same [] = refl

@@ -16,14 +16,13 @@ use Rattle.area_graph.specs.Area.{is_router_lsa, used}
 use Rattle.area_graph.specs.Least.{least, lesser}
 use Rattle.area_routes.specs.declared.entry.EntryKind.{EntryKind}
 use Rattle.area_routes.specs.declared.entry.EntryKind.TheVariants.{Border, AsbrInter, AsbrIntra}
-use Rattle.area_routes.specs.AreaResults.{area_result}
+use Rattle.area_routes.specs.AreaResults.{area_result, result_in, results_in}
 use Rattle.area_routes.specs.Entries.{area_entries, bit_b, bit_e, entries_of, entry_by, flags_of, has_bit, reached_entry}
 use Rattle.area_routes.specs.Inter.{backbone, entries_of_all, has_asbr, same_kind, same_router}
 use Rattle.area_routes.specs.Reached.{ReachedValue, reached_from}
 use Rattle.area_routes.specs.Stubs.{is_lsa_of}
 use Rattle.area_routes.specs.Values.{AreaResultValue, EntryValue}
 use Rattle.external_routes.specs.Choose.{is_asbr, is_asbr_intra, is_asbr_kind, preference}
-use Rattle.routing_table.specs.Tables.{result_in, results_in}
 use Rattle.summary_metrics.specs.Refreshed.{id_of}
 use Rattle.summary_metrics.specs.SummaryMetrics.{backbone_entries}
 use Rattle.summary_metrics.proofs.Outside.{is_outside}

@@ -11,7 +11,7 @@ use Rattle.std.proofs.lemmas.List.{get_or_default, get_or_read}
 use Rattle.lsa_codec.specs.declared.address.RouterId.{RouterId}
 use Rattle.lsa_codec.specs.Order.{router_cmp}
 use Rattle.lsa_codec.proofs.OrderLemmas.{router_total}
-use Rattle.area_routes.proofs.SearchLemmas.{found_at, not_found}
+use Rattle.best_ways.proofs.SearchLemmas.{found_at, not_found}
 
 module _ {X : Type 0} where
   pub sorted_same : (es fs : List (RouterId × X)) → es ≡ fs → IsStrictlySortedBy router_cmp (map (λ e. e.0) fs)

@@ -9,14 +9,13 @@ use Rattle.lsa_codec.specs.Views.{net_of_summary}
 use Rattle.lsdb.specs.declared.section.Section.TheVariants.{Area}
 use Rattle.lsdb.specs.Lists.{AreaHead, Lists, areas_of, lsas_of}
 use Rattle.area_graph.specs.Area.{is_live}
-use Rattle.area_routes.specs.AreaResults.{area_result, result_of_reached}
+use Rattle.area_routes.specs.AreaResults.{area_result, result_in, result_of_reached, results_of}
 use Rattle.area_routes.specs.Attached.{attached_areas, is_attached}
 use Rattle.area_routes.specs.Inter.{is_summary, originator_of}
 use Rattle.area_routes.specs.Reached.{reached_from}
 use Rattle.area_routes.proofs.SameGraphLemmas.{is_graph_lsa, same_live, same_used}
 use Rattle.external_routes.specs.Summaries.{is_covered, is_default, is_head_of_area, is_stub_area}
-use Rattle.routing_table.specs.Tables.{result_in}
-use Rattle.summary_metrics.specs.Refreshed.{id_of, results_of}
+use Rattle.summary_metrics.specs.Refreshed.{id_of}
 
 -- the areas are the same, and in each the router-LSAs and network-LSAs
 pub record HaveSameGraphs (db new : Lists) : Type 0 where

@@ -22,7 +22,8 @@ use Rattle.area_routes.specs.Values.{AreaResultValue}
 use Rattle.external_routes.specs.Summaries.{borders, cost_of_asbr, cost_of_net, is_calculated, is_covered, metric_for}
 use Rattle.routing_table.specs.Preferring.{preferring}
 use Rattle.summary_metrics.specs.Refreshed.{AreSettled, IsSettled, due_in, id_of, is_not_backbone, is_stale, refreshed, refreshed_areas}
-use Rattle.summary_metrics.specs.Refreshed.{refreshed_lsa, refreshed_lsas, refreshed_section, results_of}
+use Rattle.area_routes.specs.AreaResults.{results_of}
+use Rattle.summary_metrics.specs.Refreshed.{refreshed_lsa, refreshed_lsas, refreshed_section}
 use Rattle.summary_metrics.proofs.IntoBackbone.{due_of_backbone}
 use Rattle.summary_metrics.proofs.Passes.{AreAccepted, areas_kept, graph_kept, lsa_metric, lsa_reannounced, others_kept, still_accepted}
 use Rattle.summary_metrics.proofs.Reannounced.{covered_reannounced, due_reannounced}

@@ -10,10 +10,11 @@ use Rattle.lsdb.specs.declared.section.Section.TheVariants.{Area}
 use Rattle.lsdb.specs.Lists.{AreaHead, Lists, areas_of, is_section, lsas_of, lsas_or_none}
 use Rattle.area_routes.specs.Attached.{attached_areas, has_live_router_lsa, is_attached}
 use Rattle.area_routes.specs.Inter.{backbone, entries_by, entries_of_all, examined, inter_entries, inter_of, inter_routes, routes_by}
-use Rattle.area_routes.specs.Values.{AreaResultValue, RouteValue}
+use Rattle.area_routes.specs.Values.{AreaResultValue}
+use Rattle.best_ways.specs.Values.{RouteValue}
 use Rattle.external_routes.specs.Summaries.{borders, is_attached_elsewhere, is_head_of_area}
-use Rattle.routing_table.specs.Tables.{results_in}
-use Rattle.summary_metrics.specs.Refreshed.{id_of, results_of}
+use Rattle.area_routes.specs.AreaResults.{results_in, results_of}
+use Rattle.summary_metrics.specs.Refreshed.{id_of}
 
 -- ---- an area with LSAs is one of the areas
 

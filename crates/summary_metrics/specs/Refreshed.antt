@@ -6,17 +6,15 @@ use Rattle.lsa_codec.specs.declared.address.RouterId.{RouterId}
 use Rattle.lsa_codec.specs.Originating.{with_metric}
 use Rattle.lsa_codec.specs.Views.{metric_of}
 use Rattle.lsdb.specs.Lists.{AreaHead, Lists, SectionLsas}
-use Rattle.area_routes.specs.Attached.{attached_areas}
+use Rattle.area_routes.specs.AreaResults.{results_of}
+pub use Rattle.area_routes.specs.Attached.{id_of}
 use Rattle.area_routes.specs.Inter.{originator_of}
-use Rattle.area_routes.specs.Values.{AreaResultValue, EntryValue, RouteValue}
+use Rattle.area_routes.specs.Values.{EntryValue}
+use Rattle.best_ways.specs.Values.{RouteValue}
 use Rattle.external_routes.specs.Summaries.{due, is_covered}
-use Rattle.routing_table.specs.Tables.{inside, inter_result, results_in}
+use Rattle.routing_table.specs.Tables.{inside, inter_result}
 
 -- ---- the metric that an LSA should have
-
--- the results of the areas that a router is attached to
-abbrev pub results_of : Lists → RouterId → List AreaResultValue
-results_of db router = results_in db router (attached_areas db router)
 
 -- the intra-area and inter-area routes of a router
 abbrev pub routes_inside : Lists → RouterId → List RouteValue
@@ -46,9 +44,6 @@ stale_metric db area lsa = if is_stale db area lsa then Some (due_in db area lsa
 -- it is
 abbrev pub refreshed_lsa : Lists → AreaId → List ℕ → List ℕ
 refreshed_lsa db area lsa = if is_stale db area lsa then with_metric (due_in db area lsa) lsa else lsa
-
-abbrev pub id_of : AreaHead → AreaId
-id_of head = record { 0 = head.id }
 
 -- ---- the database
 

@@ -11,11 +11,13 @@ use Rattle.lsa_codec.specs.Order.{router_cmp}
 use Rattle.lsdb.specs.Lists.{Lists}
 use Rattle.area_routes.specs.Inter.{backbone, border_of, entries_of_all}
 use Rattle.area_routes.specs.Intra.{intra_of}
-use Rattle.area_routes.specs.Values.{AreaResultValue, EntryValue, RouteValue}
+use Rattle.area_routes.specs.Values.{AreaResultValue, EntryValue}
+use Rattle.best_ways.specs.Values.{RouteValue}
 use Rattle.area_routes.specs.Attached.{attached_areas}
 use Rattle.external_routes.specs.Choose.{is_asbr_kind}
 use Rattle.routing_table.specs.AreasTrees.{KeptTreesValue, AreOfDatabase}
-use Rattle.summary_metrics.specs.Refreshed.{results_of, id_of}
+use Rattle.area_routes.specs.AreaResults.{results_of}
+use Rattle.summary_metrics.specs.Refreshed.{id_of}
 use Rattle.summary_metrics.specs.BackboneSummaries.{AreAnnounced, BackboneSummariesValue, backbone_lsas}
 
 -- the intra-area routes of a router, the entries of AS boundary routers of its areas, and the costs of the area border routers of

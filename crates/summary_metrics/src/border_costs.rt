@@ -12,6 +12,7 @@ ghost use Rattle.area_routes.specs.Values.{EntryValue};
 ghost use Rattle.summary_metrics.specs.SummaryMetrics.{HasCosts, backbone_entries};
 ghost use Rattle.summary_metrics.specs.steps.AnnouncedCosts.{CostsBelow, cost_from, lesser_cost, announced_from};
 
+use crate::in_order::in_order;
 use crate::sources::Source;
 use area_routes::{AreaResult, EntryKind, RouterEntry, backbone};
 use lsa_codec::RouterId;
@@ -81,18 +82,6 @@ fn lesser(least: Option<u64>, cost: Option<u64>) -> Option<u64>
         (Some(least), _) => Some(least),
         (None, cost) => cost,
     }
-}
-
-/// The costs of a map in order of router.
-fn in_order<A: Allocator + Copy>(
-    alloc: A,
-    costs: BTreeMap<RouterId, u64, A>,
-) -> Result<Vec<(RouterId, u64), A>, AllocError>
-    ensures entries { IfOk result (λ all. all.items ≡ costs.entries) }
-    ensures sorted { IfOk result
-        (λ all. IsStrictlySortedBy router_cmp (map (λ e. e.0) all.items)) }
-{
-    costs.into_iter().collect(alloc)
 }
 
 /// The costs of the area border routers among some entries.

@@ -5,7 +5,7 @@ ghost use Rattle.lsa_codec.specs.Views.{ls_infinity, metric_of};
 ghost use Rattle.lsdb.specs.Slots.{lists_of};
 ghost use Rattle.area_routes.specs.Inter.{originator_of};
 ghost use Rattle.external_routes.specs.Summaries.{is_covered};
-ghost use Rattle.summary_metrics.specs.Refreshed.{results_of};
+ghost use Rattle.area_routes.specs.AreaResults.{results_of};
 ghost use Rattle.summary_metrics.specs.SummaryMetrics.{AreInside};
 ghost use Rattle.summary_metrics.specs.steps.AnnouncedCosts.{IsAnnouncedFor, cost_by_backbone, due_by_backbone};
 

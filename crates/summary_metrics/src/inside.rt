@@ -1,13 +1,13 @@
 //! The results of a router's areas.
 
-ghost use Rattle.std.specs.Prelude.{◌≡◌, IfOk, List, map};
+ghost use Rattle.std.specs.Prelude.{◌≡◌, IfOk, List};
 ghost use Rattle.std.specs.Option.{option_copied};
 ghost use Rattle.lsdb.specs.Lists.{Lists};
 ghost use Rattle.area_routes.specs.Inter.{entries_of_all};
-ghost use Rattle.area_routes.specs.Routes.{route_to};
+ghost use Rattle.best_ways.specs.Routes.{route_to};
 ghost use Rattle.area_routes.specs.Values.{AreaResultValue};
 ghost use Rattle.external_routes.specs.Choose.{preferred};
-ghost use Rattle.summary_metrics.specs.Refreshed.{results_of};
+ghost use Rattle.area_routes.specs.AreaResults.{results_of};
 ghost use Rattle.summary_metrics.specs.SummaryMetrics.{AreGiven, AreInside};
 ghost use Rattle.summary_metrics.specs.steps.AnnouncedCosts.{IsAnnouncedFor, asbr_cost, entry_cost, net_cost, route_cost};
 
@@ -52,13 +52,6 @@ fn route_cost<A: Allocator + Copy>(area: AreaId, route: &Route<A>) -> Option<u64
     Some(route.cost)
 }
 
-/// The prefixes of routes.
-fn nets_of<A: Allocator + Copy>(alloc: A, routes: &[Route<A>]) -> Result<Vec<Prefix, A>, AllocError>
-    ensures { IfOk result (λ nets. nets.items ≡ map (λ r. r.net) routes.now) }
-{
-    routes.iter().map(|route| route.net).collect(alloc)
-}
-
 /// The cost of an entry; none where it is of the area.
 fn entry_cost<A: Allocator + Copy>(area: AreaId, entry: &RouterEntry<A>) -> Option<u64>
     ensures { result ≡ entry_cost area entry.now }
@@ -75,7 +68,7 @@ impl<A: Allocator + Copy> Inside<A> {
         ensures { IfOk result (AreGiven results.now) }
     {
         let routes = intra(alloc, results)?;
-        let nets = nets_of(alloc, routes.as_routes().as_slice())?;
+        let nets = routes.as_routes().nets(alloc)?;
         Ok(Inside {
             nets: Nets::from_sorted(nets),
             routes,

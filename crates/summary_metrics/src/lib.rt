@@ -10,6 +10,7 @@ mod attached_areas;
 mod border_costs;
 mod by_router;
 mod due_metric;
+mod in_order;
 mod inside;
 mod laws;
 mod metrics;

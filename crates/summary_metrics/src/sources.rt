@@ -3,12 +3,12 @@
 ghost use Rattle.std.specs.Prelude.{◌≡◌, ℕ, ◌++◌, ◌∷◌, [], List, IfOk, OnOk, Some, None, map};
 ghost use Rattle.std.specs.Prelude.{if◌then◌else◌};
 ghost use Rattle.std.specs.BTreeMap.{get, Updates};
-ghost use Rattle.std.specs.List.Sorted.{IsStrictlySortedBy};
 ghost use Rattle.lsa_codec.specs.Order.{prefix_cmp, router_cmp};
 ghost use Rattle.lsa_codec.specs.Views.{net_of_summary};
 ghost use Rattle.summary_metrics.specs.BackboneSummaries.{AreAnnounced, asbr_named, is_source, source_of, sources};
 ghost use Rattle.summary_metrics.specs.steps.AnnouncedCosts.{more_sources};
 
+use crate::in_order::in_order;
 use crate::nets::Nets;
 use lsa_codec::{ASBR_SUMMARY_LSA, LS_INFINITY, Lsa, Prefix, RouterId};
 use lsdb::Lsas;
@@ -150,19 +150,7 @@ fn add_source<K: Ord + Copy + Drop, A: Allocator + Copy>(
     Ok(())
 }
 
-/// The entries of a map, in the order of their prefixes.
-fn in_order<A: Allocator + Copy>(
-    alloc: A,
-    nets: BTreeMap<Prefix, Sources<A>, A>,
-) -> Result<Vec<(Prefix, Sources<A>), A>, AllocError>
-    ensures entries { IfOk result (λ all. all.items ≡ nets.entries) }
-    ensures sorted { IfOk result
-        (λ all. IsStrictlySortedBy prefix_cmp (map (λ e. e.0) all.items)) }
-{
-    nets.into_iter().collect(alloc)
-}
-
-/// The prefixes of such entries.
+/// The prefixes of entries.
 fn nets_of<A: Allocator + Copy>(
     alloc: A,
     entries: &[(Prefix, Sources<A>)],

@@ -5,7 +5,7 @@ use Rattle.std.specs.Str.{bytes_eq}
 use Rattle.std.proofs.lemmas.Grind.{flat_map-append}
 use Rattle.std.proofs.lemmas.List.{append-nil, append_assoc, length-append, take_more}
 use Rattle.std.proofs.lemmas.List.Elements.{filter_map-append}
-use Rattle.area_routes.specs.Values.{RouteValue}
+use Rattle.best_ways.specs.Values.{RouteValue}
 use Rattle.table_report.specs.Comparing.{change}
 use Rattle.table_report.specs.Texts.{line_of, lines_text, rest_of}
 use Rattle.table_report.specs.steps.Lines.{AddsLine}

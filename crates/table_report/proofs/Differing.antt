@@ -12,9 +12,9 @@ use Rattle.std.proofs.lemmas.List.{map-append}
 use Rattle.lsa_codec.specs.Prefix.{Net}
 use Rattle.lsa_codec.specs.Order.{prefix_cmp}
 use Rattle.lsa_codec.proofs.OrderLemmas.{prefix_exact, prefix_total}
-use Rattle.area_routes.specs.Routes.{AreSortedRoutes, nets, route_to}
-use Rattle.area_routes.specs.Values.{RouteValue}
-use Rattle.area_routes.proofs.RisingLemmas.{rising_is}
+use Rattle.best_ways.specs.Routes.{AreSortedRoutes, nets, route_to}
+use Rattle.best_ways.specs.Values.{RouteValue}
+use Rattle.best_ways.proofs.RisingLemmas.{rising_is}
 use Rattle.area_graph.specs.Rising.{rising}
 use Rattle.std.proofs.lemmas.List.Folds.{list_any-append}
 

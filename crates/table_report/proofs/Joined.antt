@@ -9,7 +9,7 @@ use Rattle.lsa_codec.specs.Spelling.{address_text, prefix_text}
 use Rattle.next_hops.specs.declared.hop.Hop.{Hop}
 use Rattle.next_hops.specs.Hop.{hop_text}
 use Rattle.routing_table.specs.Tables.{TableValue}
-use Rattle.area_routes.specs.Values.{RouteValue}
+use Rattle.best_ways.specs.Values.{RouteValue}
 use Rattle.table_report.specs.Texts.{area_text, headed, hops_text, kind_text, line_of, lines_text, rest_of, table_text}
 use Rattle.table_report.specs.steps.Parts.{hop_after, paths_text, ways_text}
 use Rattle.table_report.specs.Comparing.{changes, compare_text}

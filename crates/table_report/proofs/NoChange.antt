@@ -6,8 +6,8 @@ use Rattle.std.proofs.lemmas.Slice.Eq.{bytes_eq-Decides}
 use Rattle.lsa_codec.specs.Prefix.{Net}
 use Rattle.lsa_codec.specs.Order.{prefix_cmp}
 use Rattle.area_graph.specs.Rising.{rising}
-use Rattle.area_routes.specs.Routes.{nets, route_to}
-use Rattle.area_routes.specs.Values.{RouteValue}
+use Rattle.best_ways.specs.Routes.{nets, route_to}
+use Rattle.best_ways.specs.Values.{RouteValue}
 use Rattle.table_report.specs.Comparing.{change, change_at, changes}
 use Rattle.table_report.specs.Texts.{line_of, rest_of}
 

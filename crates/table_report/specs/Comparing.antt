@@ -5,8 +5,8 @@ use Rattle.lsa_codec.specs.declared.address.RouterId.{RouterId}
 use Rattle.lsa_codec.specs.Prefix.{Net}
 use Rattle.area_graph.specs.Rising.{rising}
 use Rattle.lsa_codec.specs.Order.{prefix_cmp}
-use Rattle.area_routes.specs.Routes.{nets, route_to}
-use Rattle.area_routes.specs.Values.{RouteValue}
+use Rattle.best_ways.specs.Routes.{nets, route_to}
+use Rattle.best_ways.specs.Values.{RouteValue}
 use Rattle.routing_table.specs.Tables.{TableValue}
 use Rattle.table_report.specs.Texts.{headed, line_of, rest_of}
 

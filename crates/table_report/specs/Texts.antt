@@ -6,9 +6,9 @@ use Rattle.lsa_codec.specs.declared.address.RouterId.{RouterId}
 use Rattle.lsa_codec.specs.Spelling.{address_text, prefix_text}
 use Rattle.next_hops.specs.declared.hop.Hop.{Hop}
 use Rattle.next_hops.specs.Hop.{hop_text}
-use Rattle.area_routes.specs.declared.rank.PathType.{PathType}
-use Rattle.area_routes.specs.declared.rank.PathType.TheVariants.{Intra, Inter, Ext1, Ext2}
-use Rattle.area_routes.specs.Values.{RouteValue}
+use Rattle.best_ways.specs.declared.rank.PathType.{PathType}
+use Rattle.best_ways.specs.declared.rank.PathType.TheVariants.{Intra, Inter, Ext1, Ext2}
+use Rattle.best_ways.specs.Values.{RouteValue}
 use Rattle.routing_table.specs.Tables.{TableValue}
 
 -- ---- a route

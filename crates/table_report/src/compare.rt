@@ -5,7 +5,7 @@ ghost use Rattle.std.specs.Option.{option_copied};
 ghost use Rattle.std.specs.String.{string_bytes};
 ghost use Rattle.area_graph.specs.Rising.{rising};
 ghost use Rattle.lsa_codec.specs.Order.{prefix_cmp};
-ghost use Rattle.area_routes.specs.Routes.{AreSortedRoutes, nets, route_to};
+ghost use Rattle.best_ways.specs.Routes.{AreSortedRoutes, nets, route_to};
 ghost use Rattle.routing_table.specs.Tables.{TableValue};
 ghost use Rattle.table_report.specs.Comparing.{change, changes, compare_text};
 ghost use Rattle.table_report.specs.Texts.{line_of};
@@ -18,15 +18,6 @@ use next_hops::{Hop, hop_equality};
 use routing_table::Table;
 use std::alloc::{AllocError, Allocator};
 
-/// The prefixes of routes.
-fn nets_of<A: Allocator + Copy>(alloc: A, routes: &Routes<A>) -> Result<Vec<Prefix, A>, AllocError>
-    ensures nets { IfOk result (λ found. found.items ≡ nets routes.now) }
-    ensures sorted { AreSortedRoutes routes.now }
-{
-    let routes = routes.as_slice();
-    routes.iter().map(|route| route.net).collect(alloc)
-}
-
 /// The prefixes of both lists of routes, in order, each once.
 fn all_nets<A: Allocator + Copy>(
     alloc: A,
@@ -36,8 +27,8 @@ fn all_nets<A: Allocator + Copy>(
     ensures { IfOk result
         (λ found. found.items ≡ rising prefix_cmp (nets (before.now ++ now.now))) }
 {
-    let mut nets = nets_of(alloc, before)?;
-    let mut more = nets_of(alloc, now)?;
+    let mut nets = before.nets(alloc)?;
+    let mut more = now.nets(alloc)?;
     nets.append(&mut more)?;
     // Two lists in order: a stable sort merges them in one go.
     nets.sort()?;

@@ -15,13 +15,14 @@ use Rattle.lsdb.specs.Lists.{AreaHead, IsDatabase, Lists, areas_of, lsas_of}
 use Rattle.area_graph.specs.Area.{is_live, is_network_lsa, is_router_lsa}
 use Rattle.area_graph.proofs.GraphLemmas.{are_of_area}
 use Rattle.area_routes.specs.Attached.{attached_areas, is_attached}
-use Rattle.area_routes.specs.Best.{ways_of}
-use Rattle.area_routes.specs.Candidate.{Candidate}
+use Rattle.best_ways.specs.Best.{ways_of}
+use Rattle.best_ways.specs.Candidate.{Candidate}
 use Rattle.area_routes.specs.Inter.{asbr_candidate, asbr_entry, announced_asbr, border_of, by_border, candidate_to, entries_by, entries_of_all, examined}
 use Rattle.area_routes.specs.Inter.{inter_entries, inter_of, inter_routes, is_summary, network_candidate, announced_network, originator_of, routes_by, same_router}
 use Rattle.area_routes.specs.Intra.{intra_of}
-use Rattle.area_routes.specs.Routes.{routes_of}
-use Rattle.area_routes.specs.Values.{AreaResultValue, EntryValue, InterValue, RouteValue}
+use Rattle.best_ways.specs.Routes.{routes_of}
+use Rattle.area_routes.specs.Values.{AreaResultValue, EntryValue, InterValue}
+use Rattle.best_ways.specs.Values.{RouteValue}
 use Rattle.external_routes.specs.External.{external_candidate, externals_of}
 use Rattle.routing_table.specs.Preferring.{preferring}
 use Rattle.routing_table.specs.Tables.{inside, inter_result, result_in, results_in, routes_from, table_by, table_in}

@@ -13,9 +13,9 @@ use Rattle.edit_history.specs.Session.{Session, state}
 use Rattle.branches.specs.Branches.{Sessions}
 use Rattle.branches.specs.Replies.{Answer}
 use Rattle.whole_run.specs.Run.{answers, answers_from, sessions_after, dump_after, session_after, lines_of, begun, text_of, run_answers, run_text, final_dump, final_session}
-use Rattle.streams.specs.WholeText.{IsAll, IsLonger, AppendsPrefix}
-use Rattle.streams.specs.declared.watch.Watched.{Watched}
-use Rattle.streams.specs.Watched.{inner_of}
+use Rattle.host_io.specs.WholeText.{IsAll, IsLonger, AppendsPrefix}
+use Rattle.host_io.specs.declared.watch.Watched.{Watched}
+use Rattle.host_io.specs.Watched.{inner_of}
 use Rattle.whole_run.specs.Streams.{contents_of}
 use Rattle.whole_run.specs.Inputs.{IsAccepted, longest_script}
 use Rattle.whole_run.specs.WholeRun.{IfBoth, MayEndRun}

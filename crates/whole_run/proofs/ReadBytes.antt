@@ -13,7 +13,7 @@ use Rattle.lsdb.specs.Loading.{loaded}
 use Rattle.lsdb.specs.BaseLoading.{begins_session, most_bytes, base_loaded}
 use Rattle.edit_history.specs.Session.{Session}
 use Rattle.saved_sessions.specs.Opening.{dump_loaded, opened, session_loaded}
-use Rattle.streams.specs.WholeText.{ConsumesAtMost, ReadsAfter}
+use Rattle.host_io.specs.WholeText.{ConsumesAtMost, ReadsAfter}
 use Rattle.whole_run.specs.Inputs.{most_read}
 use Rattle.whole_run.specs.steps.Reading.{IsTooLong, most_after}
 

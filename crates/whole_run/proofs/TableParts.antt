@@ -6,8 +6,8 @@ use Rattle.std.proofs.lemmas.List.{take_more}
 use Rattle.std.proofs.lemmas.Grind.{flat_map-append}
 use Rattle.std.specs.Io.KnownBytes.{Appends}
 use Rattle.std.proofs.KnownBytes.{Appends-trans, Appends-nil}
-use Rattle.streams.specs.WholeText.{AppendsPrefix}
-use Rattle.streams.proofs.PrefixLemmas.{AppendsPrefix-after}
+use Rattle.host_io.specs.WholeText.{AppendsPrefix}
+use Rattle.host_io.proofs.PrefixLemmas.{AppendsPrefix-after}
 
 -- of the texts of a list, those before one are written; then that one is, or a prefix of it
 module _ {X : Type 0} (text : X → List ℕ) (xs : List X) (i : ℕ) (d : X) (lt : i < length xs) where

@@ -1,7 +1,7 @@
 -- In which order a run writes: its replies, then the dump, then the session, and each is flushed before the next is begun.
 use Rattle.std.specs.Prelude.{◌≡◌, true, Option}
-use Rattle.streams.specs.declared.watch.Watched.{Watched}
-use Rattle.streams.specs.Watched.{has_failed, is_flushed}
+use Rattle.host_io.specs.declared.watch.Watched.{Watched}
+use Rattle.host_io.specs.Watched.{has_failed, is_flushed}
 use Rattle.whole_run.specs.Streams.{has_any_failed, is_any_flushed}
 
 -- all three writers are flushed

@@ -1,6 +1,6 @@
 -- A whole run, where the bytes of its inputs are known.
 use Rattle.std.specs.Prelude.{◌≡◌, ℕ, List, length, count_by, Option, None, Some, IfSome}
-use Rattle.streams.specs.WholeText.{IsLonger}
+use Rattle.host_io.specs.WholeText.{IsLonger}
 use Rattle.branches.specs.Replies.{Answer}
 use Rattle.whole_run.specs.Inputs.{IsAccepted, IsRefusedDump, longest_script}
 use Rattle.whole_run.specs.declared.script.Summary.{Summary}

@@ -3,9 +3,9 @@
 ghost use Rattle.std.specs.Prelude.{◌≡◌};
 ghost use Rattle.whole_run.specs.declared.fault.RunFault.TheVariants.{OutOfMemory, Write};
 
+use host_io::WriteFault;
 use lsdb::DumpFault;
 use std::alloc::AllocError;
-use streams::WriteFault;
 
 /// Why a run ended early.
 #[derive(Clone, Copy, Debug, PartialEq, Eq)]

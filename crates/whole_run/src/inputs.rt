@@ -2,8 +2,8 @@
 
 ghost use Rattle.std.specs.Prelude.{◌≡◌, ◌≢◌, ◌↔◌, ◌<◌, ◌≤◌, ◌+◌, ◌++◌, ℕ, List, Option, true, false, Ok, vec_len, IfSome, IfOk, IfErr, OnOk};
 ghost use Rattle.std.specs.Io.KnownBytes.{IsAtEnd};
-ghost use Rattle.streams.specs.Watched.{inner_of, has_failed, has_ended};
-ghost use Rattle.streams.specs.WholeText.{IsAll, IsLonger, ConsumesAtMost};
+ghost use Rattle.host_io.specs.Watched.{inner_of, has_failed, has_ended};
+ghost use Rattle.host_io.specs.WholeText.{IsAll, IsLonger, ConsumesAtMost};
 ghost use Rattle.lsdb.specs.Limits.{longest_dump};
 ghost use Rattle.lsdb.specs.Loading.{IsFirstFault};
 ghost use Rattle.saved_sessions.specs.Opening.{opened};
@@ -14,11 +14,11 @@ ghost use Rattle.whole_run.specs.steps.Reading.{IsDumpEnd, IsScriptEnd, IsTooLon
 
 use crate::fault::RunFault;
 use branches::Branches;
+use host_io::{ReadFault, Watched, read_more, read_whole};
 use lsdb::{DumpFault, DumpFaultKind, LONGEST_DUMP, LONGEST_SESSION};
 use saved_sessions::{begins_session, open};
 use std::alloc::Allocator;
 use std::io::Read;
-use streams::{ReadFault, Watched, read_more, read_whole};
 
 /// The greatest length of a script, in bytes.
 pub(crate) const SCRIPT_LIMIT: usize = 1_048_576;

@@ -2,13 +2,13 @@
 
 ghost use Rattle.std.specs.Prelude.{◌≡◌, ◌↔◌, ◌||◌, false, true, is_some, OnOk, IsErr};
 ghost use Rattle.std.specs.Io.KnownBytes.{Appends, Keeps};
-ghost use Rattle.streams.specs.Watched.{inner_of, has_failed, is_flushed};
-ghost use Rattle.streams.specs.WholeText.{AppendsPrefix};
+ghost use Rattle.host_io.specs.Watched.{inner_of, has_failed, is_flushed};
+ghost use Rattle.host_io.specs.WholeText.{AppendsPrefix};
 ghost use Rattle.whole_run.specs.Streams.{contents_of, has_any_failed, is_any_flushed};
 ghost use Rattle.whole_run.specs.Order.{AreFlushed, RepliesBefore, OutAfter, SaveAfter};
 
+use host_io::{Watched, WriteFault, write_and_flush};
 use std::io::Write;
-use streams::{Watched, WriteFault, write_and_flush};
 
 /// Flushes the replies, then writes the dump to `out` and flushes it, and then the session to
 /// `save`, where they are given. None is begun before the one before it is flushed.

@@ -2,8 +2,8 @@
 
 ghost use Rattle.std.specs.Prelude.{◌≡◌, ◌↔◌, ◌<◌, false, true, OnOk, IfOk, IfErr};
 ghost use Rattle.std.specs.Io.KnownBytes.{Appends};
-ghost use Rattle.streams.specs.Watched.{inner_of, has_failed};
-ghost use Rattle.streams.specs.WholeText.{AppendsPrefix};
+ghost use Rattle.host_io.specs.Watched.{inner_of, has_failed};
+ghost use Rattle.host_io.specs.WholeText.{AppendsPrefix};
 ghost use Rattle.edit_history.specs.Session.{state};
 ghost use Rattle.branches.specs.Branches.{sessions_of, with_session};
 ghost use Rattle.branches.specs.Replies.{reply_text, reply_to, after, is_refusal, script_text, router_text, router_texts};
@@ -11,10 +11,10 @@ ghost use Rattle.branches.specs.Replies.{reply_text, reply_to, after, is_refusal
 use crate::fault::RunFault;
 use branches::{Branches, script_text, tables_head};
 use edit_script::{Command, ScriptFault};
+use host_io::{Watched, write_whole};
 use lsa_codec::RouterId;
 use std::alloc::Allocator;
 use std::io::Write;
-use streams::{Watched, write_whole};
 
 /// Writes the answer to a line that is no command.
 pub(crate) fn write_script_fault<A: Allocator + Copy, W: Write>(

@@ -3,8 +3,8 @@
 
 ghost use Rattle.std.specs.Prelude.{◌≡◌, ◌≢◌, ◌↔◌, ◌||◌, ◌<◌, ◌≤◌, ◌+◌, length, false, true, is_some, OnOk, IfOk, IfErr, IfSome, IsErr};
 ghost use Rattle.std.specs.Io.KnownBytes.{Appends, Keeps, IsAtEnd};
-ghost use Rattle.streams.specs.Watched.{inner_of, has_failed, has_ended};
-ghost use Rattle.streams.specs.WholeText.{AppendsPrefix, ConsumesAtMost, IsLonger};
+ghost use Rattle.host_io.specs.Watched.{inner_of, has_failed, has_ended};
+ghost use Rattle.host_io.specs.WholeText.{AppendsPrefix, ConsumesAtMost, IsLonger};
 ghost use Rattle.lsdb.specs.Text.{text};
 ghost use Rattle.edit_history.specs.Session.{state};
 ghost use Rattle.saved_sessions.specs.Opening.{opened};
@@ -24,9 +24,9 @@ use crate::leaving::{Left, Wanted, texts_left};
 use crate::output::write_ends;
 use crate::script::{Summary, answer_script};
 use branches::Branches;
+use host_io::Watched;
 use std::alloc::Allocator;
 use std::io::{Read, Write};
-use streams::Watched;
 
 /// Reads a dump, or a session, and a script, writes the reply to each line, and then the dump that
 /// branch 0 is left with to `out` and its session to `save`, where they are given.

@@ -2,8 +2,8 @@
 
 ghost use Rattle.std.specs.Prelude.{◌≡◌, ◌↔◌, ◌+◌, ◌<◌, ◌≤◌, ◌^◌, if◌then◌else◌, false, true, length, OnOk, IfOk, IfErr};
 ghost use Rattle.std.specs.Io.KnownBytes.{Appends};
-ghost use Rattle.streams.specs.Watched.{inner_of, has_failed};
-ghost use Rattle.streams.specs.WholeText.{AppendsPrefix};
+ghost use Rattle.host_io.specs.Watched.{inner_of, has_failed};
+ghost use Rattle.host_io.specs.WholeText.{AppendsPrefix};
 ghost use Rattle.edit_script.specs.Line.{meaning};
 ghost use Rattle.whole_run.specs.Inputs.{longest_script};
 ghost use Rattle.whole_run.specs.Run.{answer_to, after_line, answers, sessions_after, lines_of, text_of};
@@ -15,9 +15,9 @@ use crate::lines::first_line;
 use crate::replies::{write_reply, write_script_fault};
 use branches::Branches;
 use edit_script::{ScriptFault, parse};
+use host_io::Watched;
 use std::alloc::Allocator;
 use std::io::Write;
-use streams::Watched;
 
 /// How many lines of a script had a reply, and how many of these were refused, by `refused` or
 /// `script`.

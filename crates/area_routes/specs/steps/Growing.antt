@@ -1,7 +1,7 @@
 -- The result of an area, with more added.
 use Rattle.std.specs.Prelude.{List, ◌++◌, map}
 use Rattle.lsa_codec.specs.Prefix.{Net}
-use Rattle.area_routes.specs.Candidate.{Candidate}
+use Rattle.best_ways.specs.Candidate.{Candidate}
 use Rattle.area_routes.specs.Offers.{offer_candidate}
 use Rattle.area_routes.specs.Values.{AreaResultValue, EntryValue, OfferValue}
 

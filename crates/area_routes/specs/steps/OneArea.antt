@@ -1,21 +1,29 @@
 -- The result of one area, by the routes of a router that is attached to this area alone.
-use Rattle.std.specs.Prelude.{◌≡◌, ◌^◌, List, [], map}
+use Rattle.std.specs.Prelude.{◌≡◌, ◌<◌, ◌^◌, List, map}
 use Rattle.std.specs.List.{All}
 use Rattle.lsa_codec.specs.declared.address.AreaId.{AreaId}
 use Rattle.lsa_codec.specs.Prefix.{Net}
 use Rattle.next_hops.specs.Hop.{IsSortedHops}
-use Rattle.area_routes.specs.declared.rank.PathType.TheVariants.{Intra}
+use Rattle.best_ways.specs.declared.rank.Rank.{Rank}
+use Rattle.best_ways.specs.declared.rank.PathType.TheVariants.{Intra}
 use Rattle.area_routes.specs.Intra.{intra_route}
 use Rattle.area_routes.specs.Offers.{AreSortedOffers}
-use Rattle.area_routes.specs.Values.{AreaResultValue, EntryValue, OfferValue, ResultBelow, RouteValue, WayValue}
+use Rattle.area_routes.specs.Values.{AreaResultValue, EntryValue, OfferValue, ResultBelow}
+use Rattle.best_ways.specs.Candidate.{Candidate}
+use Rattle.best_ways.specs.Values.{RouteValue}
 
 -- the offer of a route
 abbrev pub offered : RouteValue → OfferValue
 offered r = record { net = r.net; cost = r.cost; hops = r.hops }
 
--- the way of a route, as one of candidates that lead through no area
-abbrev pub way_by : RouteValue → Net × WayValue
-way_by r = (r.net, record { rank = record { path = Intra; cost2 = 0; class = 0; cost = r.cost }; areas = []; hops = r.hops })
+-- what a way to a prefix within an area is compared by
+pub record IsIntraRank (rank : Rank) : Type 0 where
+  pub path : rank.path ≡ Intra
+  pub cost2 : rank.cost2 ≡ 0
+  pub below : rank.cost < 2 ^ 33
+
+abbrev pub IsWithinArea : Candidate Net → Type 0
+IsWithinArea c = IsIntraRank c.rank
 
 -- a route of a router that is attached to the area alone
 pub record IsIntraRoute (area : AreaId) (r : RouteValue) : Type 0 where

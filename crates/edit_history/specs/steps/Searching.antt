@@ -5,8 +5,7 @@ use Rattle.lsa_codec.specs.declared.address.RouterId.{RouterId}
 use Rattle.lsa_codec.specs.Fields.{advertising_router_of}
 use Rattle.lsa_codec.specs.Key.{key_of}
 use Rattle.lsa_codec.specs.Prefix.{Net, mask_of_len}
-use Rattle.lsdb.specs.declared.keyed_slots.KeyAt.{KeyAt}
-use Rattle.lsdb.specs.KeyRanges.{HaveWidths, is_between}
+use Rattle.lsdb.specs.KeyRanges.{HaveWidths, KeyAt, is_between}
 use Rattle.lsdb.specs.Slots.{Slots, slot_at}
 use Rattle.lsdb.specs.PrefixSlots.{prefix_of}
 use Rattle.edit_history.specs.declared.lookup.Wanted.{Wanted}

@@ -6,7 +6,8 @@ use Rattle.std.specs.Ordering.{is_lt}
 use Rattle.lsa_codec.specs.declared.address.RouterId.{RouterId}
 use Rattle.lsa_codec.specs.Order.{prefix_cmp, router_cmp}
 use Rattle.lsa_codec.specs.Prefix.{Net}
-use Rattle.area_routes.specs.Values.{EntryValue, RouteValue, EntriesBelow, RoutesBelow}
+use Rattle.area_routes.specs.Values.{EntryValue, EntriesBelow}
+use Rattle.best_ways.specs.Values.{RouteValue, RoutesBelow}
 use Rattle.external_routes.specs.Choose.{preference, preferred}
 
 -- the length of the route's prefix is at most 32, and it is marked

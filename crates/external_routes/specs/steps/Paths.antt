@@ -5,12 +5,13 @@ use Rattle.lsa_codec.specs.declared.address.RouterId.{RouterId}
 use Rattle.lsa_codec.specs.Prefix.{Net}
 use Rattle.next_hops.specs.declared.hop.Hop.{Hop}
 use Rattle.next_hops.specs.Hop.{extended}
-use Rattle.area_routes.specs.declared.rank.PathType.TheVariants.{Ext1, Ext2}
-use Rattle.area_routes.specs.declared.rank.Rank.{Rank}
-use Rattle.area_routes.specs.Values.{EntryValue, RouteValue}
-use Rattle.area_routes.specs.Candidate.{Candidate}
+use Rattle.best_ways.specs.declared.rank.PathType.TheVariants.{Ext1, Ext2}
+use Rattle.best_ways.specs.declared.rank.Rank.{Rank}
+use Rattle.area_routes.specs.Values.{EntryValue}
+use Rattle.best_ways.specs.Values.{RouteValue}
+use Rattle.best_ways.specs.Candidate.{Candidate}
 use Rattle.area_routes.specs.Inter.{same_router}
-use Rattle.area_routes.specs.Routes.{has_route}
+use Rattle.best_ways.specs.Routes.{has_route}
 use Rattle.external_routes.specs.declared.external_lsas.ExternalLsa.{ExternalLsa}
 use Rattle.external_routes.specs.Choose.{entry_class, forward_match, preferred, route_class}
 

@@ -1,5 +1,5 @@
 -- Counts of LSAs that come and go.
-use Rattle.std.specs.Prelude.{ℕ, ◌+◌, ◌-◌, ◌^◌, ◌<◌, ◌≤◌}
+use Rattle.std.specs.Prelude.{◌+◌, ◌-◌, ◌^◌, ◌<◌, ◌≤◌}
 use Rattle.lsdb.specs.declared.counts.LsaCounts.{LsaCounts}
 
 abbrev pub with_counts : LsaCounts → LsaCounts → LsaCounts

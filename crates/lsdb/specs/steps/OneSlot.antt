@@ -1,5 +1,5 @@
 -- One slot: its LSA, its bytes, and the first that passes a test.
-use Rattle.std.specs.Prelude.{◌≡◌, Bool, false, ℕ, List, length, Some, None, IsSome}
+use Rattle.std.specs.Prelude.{◌≡◌, Bool, false, ℕ, List, length, Option, Some, None, IsSome}
 use Rattle.std.specs.List.{find}
 use Rattle.lsa_codec.specs.declared.key.Key.{Key}
 use Rattle.lsa_codec.specs.Making.{IsRewriteOf}
@@ -9,6 +9,11 @@ use Rattle.lsdb.specs.Slots.{Slot, item_at, full}
 abbrev pub slot_has_key : Key → Slot → Bool
 slot_has_key key None = false
 slot_has_key key (Some lsa) = has_key key lsa
+
+-- and where there may be no such slot
+abbrev pub some_has_key : Key → Option Slot → Bool
+some_has_key key None = false
+some_has_key key (Some slot) = slot_has_key key slot
 
 -- the bytes that a slot takes in the dump
 abbrev pub slot_size : Slot → ℕ

@@ -1,13 +1,10 @@
 -- The files in what clap found.
-use Rattle.std.specs.Prelude.{◌≡◌, List, [], codes, map, option_map, unwrap_or}
-use Rattle.clap.specs.Words.{Text, count_of, first_value, matched_of, raw_values, rows_of}
+use Rattle.std.specs.Prelude.{◌≡◌, codes, map, option_map}
+use Rattle.clap.specs.Words.{count_of, first_value, rows_of}
 use Rattle.clap.specs.declared.parser.matches.Found.{Found}
+use Rattle.host_arguments.specs.Commands.{values_in}
 use Rattle.ospf_capture.specs.CommandLine.{kept_where}
 use Rattle.ospf_capture.specs.declared.arguments.Options.{Options}
-
--- the values of an id in what clap found, and none where it is not there
-abbrev pub values_in : Found → Text → List Text
-values_in found id = unwrap_or (option_map raw_values (matched_of found id)) []
 
 -- each field has the values of its id in what clap found
 pub record IsRead (found : Found) (o : Options) : Type 0 where

@@ -15,12 +15,13 @@ use Rattle.lsdb.specs.Lists.{Lists}
 use Rattle.area_graph.specs.Least.{least}
 use Rattle.area_routes.specs.Inter.{border_of, entries_of_all, originator_of, same_router}
 use Rattle.area_routes.specs.Intra.{intra_of}
-use Rattle.area_routes.specs.Routes.{route_to}
-use Rattle.area_routes.specs.Values.{AreaResultValue, EntryValue, RouteValue}
+use Rattle.best_ways.specs.Routes.{route_to}
+use Rattle.area_routes.specs.Values.{AreaResultValue, EntryValue}
+use Rattle.best_ways.specs.Values.{RouteValue}
 use Rattle.external_routes.specs.Choose.{preferred}
 use Rattle.external_routes.specs.Summaries.{asbr_of_summary, is_among, metric_for}
 use Rattle.summary_metrics.specs.declared.sources.Source.{Source}
-use Rattle.summary_metrics.specs.Refreshed.{results_of}
+use Rattle.area_routes.specs.AreaResults.{results_of}
 use Rattle.summary_metrics.specs.BackboneSummaries.{AreAnnounced, BackboneSummariesValue, asbr_named, backbone_lsas, sources, sources_or_none}
 use Rattle.summary_metrics.specs.SummaryMetrics.{backbone_entries}
 

@@ -2,7 +2,7 @@
 use Rattle.std.specs.Prelude.{ℕ, List, ◌∷◌, ◌++◌, codes, decimal}
 use Rattle.next_hops.specs.declared.hop.Hop.{Hop}
 use Rattle.next_hops.specs.Hop.{hop_text}
-use Rattle.area_routes.specs.Values.{RouteValue}
+use Rattle.best_ways.specs.Values.{RouteValue}
 use Rattle.table_report.specs.Texts.{area_text, hops_text, kind_text}
 
 -- the type of the paths and their costs, and a space

@@ -1,6 +1,6 @@
 use Rattle.std.proofs.Common.{◌≡◌, ◌++◌, ◌<◌, ◌^◌, take, sym, ap, subst, ◌∙◌}
 use Rattle.area_routes.specs.Values.{ResultBelow, EntriesBelow, EntryValue}
-use Rattle.area_routes.proofs.Bounds.{All-flat_map, All-taken}
+use Rattle.best_ways.proofs.WayLemmas.{All-flat_map, All-taken}
 use Rattle.area_routes.proofs.AddsLemmas.{adds_step, flat_map_adds}
 use Rattle.area_routes.proofs.all_entries.all_entries.Goals as goal
 

@@ -2,7 +2,7 @@ use Rattle.std.proofs.Common.{◌≡◌, ◌++◌, [], Some, Option, subst, sym,
 use Rattle.std.specs.List.{cons_option}
 use Rattle.std.specs.Option.{option_and_then}
 use Rattle.lsa_codec.specs.declared.address.RouterId.{RouterId}
-use Rattle.area_routes.specs.Best.{Gathers}
+use Rattle.best_ways.specs.Best.{Gathers}
 use Rattle.area_routes.specs.Inter.{announced_asbr, candidate_to}
 use Rattle.area_routes.proofs.inter_area.add_asbr_candidate.Goals as goal
 

@@ -1,6 +1,6 @@
 use Rattle.std.proofs.Common.{map}
 use Rattle.std.specs.List.{filter_map}
-use Rattle.area_routes.specs.Best.{Gathers}
+use Rattle.best_ways.specs.Best.{Gathers}
 use Rattle.area_routes.specs.Inter.{asbr_candidate}
 use Rattle.area_routes.proofs.inter_area.inter_entries.Given as goal
 

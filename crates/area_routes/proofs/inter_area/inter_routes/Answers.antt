@@ -3,8 +3,8 @@ use Rattle.std.specs.List.{filter_map}
 use Rattle.std.proofs.lemmas.Iterator.Consumers.{YieldsList-end, YieldsList-from_first}
 use Rattle.std.proofs.lemmas.List.{map-append}
 use Rattle.lsa_codec.specs.Prefix.{Net}
-use Rattle.area_routes.specs.Best.{Gathers}
-use Rattle.area_routes.specs.Candidate.{Candidate}
+use Rattle.best_ways.specs.Best.{Gathers}
+use Rattle.best_ways.specs.Candidate.{Candidate}
 use Rattle.area_routes.specs.Inter.{network_candidate}
 use Rattle.area_routes.proofs.Costs.{networks_below}
 use Rattle.area_routes.proofs.AddsLemmas.{filter_map_adds}

@@ -1,11 +1,11 @@
 use Rattle.std.proofs.Common.{◌++◌, [], ◌∷◌, List, Some, OnOk, ap, subst, ◌∙◌}
 use Rattle.lsa_codec.specs.Prefix.{Net}
 use Rattle.next_hops.specs.declared.hop.Hop.{Hop}
-use Rattle.area_routes.specs.declared.rank.PathType.TheVariants.{Intra}
-use Rattle.area_routes.specs.Best.{Gathers}
-use Rattle.area_routes.specs.Candidate.{Candidate}
+use Rattle.best_ways.specs.declared.rank.PathType.TheVariants.{Intra}
+use Rattle.best_ways.specs.Best.{Gathers}
+use Rattle.best_ways.specs.Candidate.{Candidate}
 use Rattle.area_routes.specs.Intra.{intra_candidate}
-use Rattle.area_routes.specs.Values.{RouteValue}
+use Rattle.best_ways.specs.Values.{RouteValue}
 use Rattle.area_routes.specs.steps.OneArea.{offered}
 use Rattle.area_routes.proofs.intra_area.add_intra_candidate.Goals as goal
 
@@ -20,4 +20,4 @@ returns g c =
           Some c.args.area;
       hops = hops;
     } in
-    subst P (ap with_hops c.as_slice.ensures.hops ∙ ap (λ (r : RouteValue). intra_candidate c.args.area (offered r)) c.route.view_is) c.add_candidate.ensures
+    subst P (ap with_hops c.as_slice.ensures.hops ∙ ap (λ (r : RouteValue). intra_candidate c.args.area (offered r)) c.route.view_is) c.add_candidate.ensures.added

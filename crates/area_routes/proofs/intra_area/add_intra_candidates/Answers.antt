@@ -1,10 +1,10 @@
 use Rattle.std.proofs.Common.{◌++◌, ◌∷◌, [], ◌∙◌, List, ap, map, subst}
 use Rattle.lsa_codec.specs.declared.address.AreaId.{AreaId}
 use Rattle.lsa_codec.specs.Prefix.{Net}
-use Rattle.area_routes.specs.Best.{Gathers}
-use Rattle.area_routes.specs.Candidate.{Candidate}
+use Rattle.best_ways.specs.Best.{Gathers}
+use Rattle.best_ways.specs.Candidate.{Candidate}
 use Rattle.area_routes.specs.Intra.{intra_candidate}
-use Rattle.area_routes.specs.Values.{RouteValue}
+use Rattle.best_ways.specs.Values.{RouteValue}
 use Rattle.area_routes.specs.steps.OneArea.{offered}
 use Rattle.area_routes.proofs.AddsLemmas.{adds_all, adds_more, map_adds}
 use Rattle.area_routes.proofs.OneArea.{candidates_by}

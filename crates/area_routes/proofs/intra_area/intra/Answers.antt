@@ -3,12 +3,12 @@ use Rattle.std.specs.List.{All, flat_map}
 use Rattle.std.proofs.lemmas.List.{take_all}
 use Rattle.std.proofs.lemmas.List.Elements.{All-map}
 use Rattle.lsa_codec.specs.Prefix.{Net}
-use Rattle.area_routes.specs.Best.{Gathers}
-use Rattle.area_routes.specs.Candidate.{Candidate}
+use Rattle.best_ways.specs.Best.{Gathers}
+use Rattle.best_ways.specs.Candidate.{Candidate}
 use Rattle.area_routes.specs.Intra.{intra_candidate, intra_candidates, intra_of}
-use Rattle.area_routes.specs.Values.{AreaResultValue, ResultBelow, RoutesBelow}
-use Rattle.area_routes.proofs.Bounds.{All-flat_map, All-taken}
-use Rattle.area_routes.proofs.Made.{wider_routes}
+use Rattle.area_routes.specs.Values.{AreaResultValue, ResultBelow}
+use Rattle.best_ways.specs.Values.{RoutesBelow}
+use Rattle.best_ways.proofs.WayLemmas.{All-flat_map, All-taken, wider_routes}
 use Rattle.area_routes.proofs.AddsLemmas.{adds_step, flat_map_adds}
 use Rattle.area_routes.proofs.intra_area.intra.Goals as goal
 

@@ -1,6 +1,6 @@
 use Rattle.std.proofs.Common.{◌^◌, take}
 use Rattle.std.specs.List.{All, flat_map}
-use Rattle.area_routes.specs.Best.{Gathers}
+use Rattle.best_ways.specs.Best.{Gathers}
 use Rattle.area_routes.specs.Intra.{intra_candidates}
 use Rattle.area_routes.specs.Values.{ResultBelow}
 use Rattle.area_routes.proofs.intra_area.intra.Given as goal

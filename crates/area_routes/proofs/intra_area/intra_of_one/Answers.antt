@@ -1,7 +1,7 @@
 use Rattle.std.proofs.Common.{◌^◌, sym, subst, ◌∙◌}
-use Rattle.area_routes.specs.Routes.{AreSortedRoutes}
-use Rattle.area_routes.specs.Values.{RoutesBelow}
-use Rattle.area_routes.proofs.Made.{wider_routes}
+use Rattle.best_ways.specs.Routes.{AreSortedRoutes}
+use Rattle.best_ways.specs.Values.{RoutesBelow}
+use Rattle.best_ways.proofs.WayLemmas.{wider_routes}
 use Rattle.area_routes.proofs.OneArea.{below_by, routes_of_one, sorted_by}
 use Rattle.area_routes.proofs.intra_area.intra_of_one.Goals as goal
 

@@ -1,6 +1,6 @@
 use Rattle.std.proofs.Common.{◌≡◌, ◌<◌, ap, refl, false, get_or, length, Err, arith, rules}
 use Rattle.std.proofs.lemmas.List.Elements.{All-set}
-use Rattle.streams.specs.Watched.{has_failed}
+use Rattle.host_io.specs.Watched.{has_failed}
 use Rattle.capture_report.specs.Runs.{known}
 use Rattle.capture_report.specs.steps.Inputs.{IsReadEnd}
 use Rattle.capture_report.proofs.Inputs.{IfErr-same, read_end, rest_more, parsed_more, unfailed_by_err, unfailed_by_ok}

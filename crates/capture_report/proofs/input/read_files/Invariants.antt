@@ -1,7 +1,7 @@
 use Rattle.std.proofs.Common.{◌≡◌, false, take, drop}
 use Rattle.std.specs.Prelude.{All}
 use Rattle.capture_report.specs.Runs.{AreParsed, known}
-use Rattle.streams.specs.Watched.{has_failed}
+use Rattle.host_io.specs.Watched.{has_failed}
 use Rattle.capture_report.proofs.input.read_files.Given as goal
 
 abbrev pub invariant-loop-file : goal.invariant-loop-file

@@ -1,6 +1,6 @@
 use Rattle.std.proofs.Common.{◌∙◌, ◌++◌, List, ap}
 use Rattle.std.proofs.lemmas.Iterator.Consumers.{YieldsList-end, YieldsList-from_first}
-use Rattle.lsdb.specs.declared.router_slots.SlotOfRouter.{SlotOfRouter}
+use Rattle.lsdb.specs.RouterSlots.{SlotOfRouter}
 use Rattle.lsdb.specs.declared.section.Section.{Section}
 use Rattle.lsdb.specs.Slots.{slots_in}
 use Rattle.edit_history.specs.Effect.{router_fate}

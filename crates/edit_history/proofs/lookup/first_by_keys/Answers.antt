@@ -1,7 +1,7 @@
 use Rattle.std.proofs.Common.{List, subst, sym, ◌∙◌}
 use Rattle.std.proofs.lemmas.Iterator.Consumers.{YieldsList-end, YieldsList-from_first}
 use Rattle.std.proofs.lemmas.List.{map-id}
-use Rattle.lsdb.specs.declared.keyed_slots.KeyAt.{KeyAt}
+use Rattle.lsdb.specs.KeyRanges.{KeyAt}
 use Rattle.edit_history.proofs.Candidates.{IsLeast, least_hit, least_miss, none_first, first_slot}
 use Rattle.edit_history.proofs.lookup.first_by_keys.Goals as goal
 

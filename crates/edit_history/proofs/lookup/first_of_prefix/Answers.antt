@@ -1,6 +1,6 @@
 use Rattle.std.proofs.Common.{sym, ◌∙◌, List}
 use Rattle.std.proofs.lemmas.Iterator.Consumers.{YieldsList-end, YieldsList-from_first, YieldsList-so_far, YieldsList-turn}
-use Rattle.lsdb.specs.declared.prefix_slots.SlotOfPrefix.{SlotOfPrefix}
+use Rattle.lsdb.specs.PrefixSlots.{SlotOfPrefix}
 use Rattle.edit_history.proofs.OfPrefix.{none_more, hit_next, miss_all}
 use Rattle.edit_history.proofs.lookup.first_of_prefix.Goals as goal
 

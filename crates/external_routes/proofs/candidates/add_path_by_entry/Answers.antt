@@ -1,10 +1,10 @@
 use Rattle.std.proofs.Common.{◌++◌, [], ◌∷◌, List, ℕ, None, OnOk, ap, subst, ◌∙◌}
 use Rattle.lsa_codec.specs.Prefix.{Net}
 use Rattle.next_hops.specs.declared.hop.Hop.{Hop}
-use Rattle.area_routes.specs.Best.{Gathers}
-use Rattle.area_routes.specs.Candidate.{Candidate}
+use Rattle.best_ways.specs.Best.{Gathers}
+use Rattle.best_ways.specs.Candidate.{Candidate}
 use Rattle.area_routes.specs.Values.{EntryValue}
-use Rattle.area_routes.specs.declared.rank.Rank.{Rank}
+use Rattle.best_ways.specs.declared.rank.Rank.{Rank}
 use Rattle.external_routes.specs.Choose.{entry_class}
 use Rattle.external_routes.specs.steps.Paths.{path}
 use Rattle.external_routes.proofs.candidates.add_path_by_entry.Goals as goal
@@ -19,4 +19,4 @@ returns g c =
     (ap (λ (rank : Rank). at (lsa.net) rank c.as_slice.result.now) c.rank-rank.ensures
     ∙ ap (λ (hops : List Hop). path lsa c.entry_class.result c.entry.inside.cost hops) c.as_slice.ensures.hops
     ∙ ap (λ (class : ℕ). path lsa class c.entry.inside.cost c.entry.inside.hops) c.entry_class.ensures
-    ∙ ap (λ (e : EntryValue). path lsa (entry_class c.args.entry.now) e.cost e.hops) c.entry.view_is) c.add_candidate.ensures
+    ∙ ap (λ (e : EntryValue). path lsa (entry_class c.args.entry.now) e.cost e.hops) c.entry.view_is) c.add_candidate.ensures.added

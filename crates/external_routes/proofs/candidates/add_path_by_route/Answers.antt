@@ -3,10 +3,10 @@ use Rattle.lsa_codec.specs.Prefix.{Net}
 use Rattle.lsa_codec.specs.declared.address.Addr.{Addr}
 use Rattle.next_hops.specs.Hop.{extended}
 use Rattle.next_hops.specs.declared.hop.Hop.{Hop}
-use Rattle.area_routes.specs.Best.{Gathers}
-use Rattle.area_routes.specs.Candidate.{Candidate}
-use Rattle.area_routes.specs.Values.{RouteValue}
-use Rattle.area_routes.specs.declared.rank.Rank.{Rank}
+use Rattle.best_ways.specs.Best.{Gathers}
+use Rattle.best_ways.specs.Candidate.{Candidate}
+use Rattle.best_ways.specs.Values.{RouteValue}
+use Rattle.best_ways.specs.declared.rank.Rank.{Rank}
 use Rattle.external_routes.specs.Choose.{route_class}
 use Rattle.external_routes.specs.steps.Paths.{path}
 use Rattle.external_routes.proofs.candidates.add_path_by_route.Goals as goal
@@ -23,4 +23,4 @@ returns g c =
     ∙ ap (λ (hops : List Hop). path lsa c.route_class.result c.route.inside.cost (on lsa.forward hops)) c.as_slice.ensures.hops
     ∙ ap (λ (class : ℕ). path lsa class c.route.inside.cost (on lsa.forward c.route.inside.hops)) c.route_class.ensures
     ∙ ap (λ (r : RouteValue). path lsa (route_class c.args.route.now) r.cost (on lsa.forward r.hops)) c.route.view_is)
-    c.add_candidate_onward.ensures
+    c.add_candidate_onward.ensures.added

@@ -1,6 +1,6 @@
 use Rattle.std.proofs.Common.{rules, sym, ap, ◌∙◌}
 use Rattle.std.proofs.lemmas.List.Sorted.{answers_always}
-use Rattle.area_routes.specs.Routes.{has_route}
+use Rattle.best_ways.specs.Routes.{has_route}
 use Rattle.external_routes.proofs.Places.{no_route_found, route_found}
 use Rattle.external_routes.proofs.place.has_route_near.Goals as goal
 

@@ -2,7 +2,7 @@ use Rattle.std.proofs.Common.{true, None, ap}
 use Rattle.std.specs.Option.{option_map_or}
 use Rattle.std.specs.Ordering.{is_lt}
 use Rattle.lsa_codec.specs.Order.{prefix_cmp}
-use Rattle.area_routes.specs.Values.{RouteValue}
+use Rattle.best_ways.specs.Values.{RouteValue}
 use Rattle.external_routes.proofs.Items.{item_found}
 use Rattle.external_routes.proofs.place.is_ahead.Goals as goal
 

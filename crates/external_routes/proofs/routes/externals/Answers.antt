@@ -4,7 +4,7 @@ use Rattle.std.proofs.lemmas.Result.{IfOk-weaker}
 use Rattle.lsdb.specs.declared.section.Section.TheVariants.{AsWide}
 use Rattle.lsdb.specs.Lists.{lsas_of}
 use Rattle.lsdb.specs.Slots.{lists_of}
-use Rattle.area_routes.specs.Values.{RouteValue, RoutesBelow}
+use Rattle.best_ways.specs.Values.{RouteValue, RoutesBelow}
 use Rattle.external_routes.specs.ExternalLsas.{AreExternalLsasOf}
 use Rattle.external_routes.specs.steps.Lookup.{WaysBelow}
 use Rattle.external_routes.proofs.Small.{candidates_small}

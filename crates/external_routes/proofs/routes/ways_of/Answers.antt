@@ -2,8 +2,8 @@ use Rattle.std.proofs.Common.{List, [], ◌++◌, subst, ◌∙◌}
 use Rattle.std.specs.List.{cons_option, filter_map}
 use Rattle.std.proofs.lemmas.List.{take_all}
 use Rattle.lsa_codec.specs.Prefix.{Net}
-use Rattle.area_routes.specs.Best.{Gathers}
-use Rattle.area_routes.specs.Candidate.{Candidate}
+use Rattle.best_ways.specs.Best.{Gathers}
+use Rattle.best_ways.specs.Candidate.{Candidate}
 use Rattle.area_routes.proofs.AddsLemmas.{adds_step, filter_map_adds}
 use Rattle.external_routes.specs.declared.external_lsas.ExternalLsa.{ExternalLsa}
 use Rattle.external_routes.specs.steps.Lookup.{WaysInside}

@@ -1,6 +1,6 @@
 use Rattle.std.proofs.Common.{◌≡◌, take}
 use Rattle.std.specs.List.{filter_map}
-use Rattle.area_routes.specs.Best.{Gathers}
+use Rattle.best_ways.specs.Best.{Gathers}
 use Rattle.external_routes.specs.steps.Paths.{candidate_of}
 use Rattle.external_routes.proofs.routes.ways_of.Given as goal
 

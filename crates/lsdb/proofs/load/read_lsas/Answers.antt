@@ -1,9 +1,11 @@
 use Rattle.std.proofs.Common.{[], ◌∷◌, Some, length, length-append, arith, ◌++◌, ◌∙◌, ap, sym, subst, map, List, ℕ, ◌≡◌, ◌≢◌, option_map}
-use Rattle.std.specs.Prelude.{AllPairs}
+use Rattle.std.specs.Prelude.{All, AllPairs}
 use Rattle.lsa_codec.specs.Key.{key_of}
 use Rattle.lsdb.proofs.SectionText.{apart_push}
 use Rattle.std.proofs.lemmas.Bool.{not-false, not-true}
+use Rattle.std.proofs.lemmas.List.Elements.{All-nil, All-cons, All-append}
 use Rattle.std.proofs.lemmas.Result.{err_from_is_err_and}
+use Rattle.lsdb.specs.KeyRanges.{HaveWidths}
 use Rattle.lsdb.specs.Slots.{full}
 use Rattle.lsdb.specs.steps.View.{head_of}
 use Rattle.lsdb.specs.steps.Reading.{at_of}
@@ -23,7 +25,7 @@ returns-in_err-lsa-clause-lsas g c =
 pub returns-then-not-branch-clause-lsas : goal.returns-then-not-branch-clause-lsas
 returns-then-not-branch-clause-lsas g c =
     let seen = full c.loop.slots.items in
-    let reported = inserted c.loop.keys seen c.in_ok-lsa.lsa c.key.result c.in_ok-insert.field-0 c.loop.invariant.keys c.key.ensures c.in_ok-insert.ensures.added in
+    let reported = inserted c.loop.keys seen c.in_ok-lsa.lsa c.key_of.result c.in_ok-insert.field-0 c.loop.invariant.keys c.key_of.ensures.key c.in_ok-insert.ensures.added in
     let again = not-false (has_key_of seen c.in_ok-lsa.lsa) (sym reported ∙ c.if-not-branch.true) in
     rw c.fault.ensures (lsas_twice (option_map head_of c.args.area) c.args.count c.loop.counter seen (at_of c.loop.at)
     (at_of c.in_ok-lsa.after) c.in_ok-lsa.lsa _ c.loop-test.true c.in_ok-lsa.ensures.lsa again c.loop.invariant.reading)
@@ -31,7 +33,7 @@ returns-then-not-branch-clause-lsas g c =
 pub loop-preserved : goal.loop-preserved
 loop-preserved g c =
     let seen = full c.loop.slots.items in
-    let reported = inserted c.loop.keys seen c.in_ok-lsa.lsa c.key.result c.in_ok-insert.field-0 c.loop.invariant.keys c.key.ensures c.in_ok-insert.ensures.added in
+    let reported = inserted c.loop.keys seen c.in_ok-lsa.lsa c.key_of.result c.in_ok-insert.field-0 c.loop.invariant.keys c.key_of.ensures.key c.in_ok-insert.ensures.added in
     let new = not-true (has_key_of seen c.in_ok-lsa.lsa) (sym reported ∙ c.if-not-branch.false) in
     let pushed : full c.push.new.self.items ≡ seen ++ c.in_ok-lsa.lsa ∷ [] =
     ap full c.in_ok-push.ensures.items ∙ full-push c.loop.slots.items c.in_ok-lsa.lsa in
@@ -41,8 +43,12 @@ loop-preserved g c =
           (at_of c.in_ok-lsa.after) c.in_ok-lsa.lsa _ c.loop-test.true c.in_ok-lsa.ensures.lsa new c.loop.invariant.reading);
       keys =
           rw pushed
-          (keys_push c.loop.keys c.insert.new.self seen c.in_ok-lsa.lsa c.key.result c.loop.invariant.keys c.key.ensures c.in_ok-insert.ensures.updates);
+          (keys_push c.loop.keys c.insert.new.self seen c.in_ok-lsa.lsa c.key_of.result c.loop.invariant.keys c.key_of.ensures.key c.in_ok-insert.ensures.updates);
       apart = subst (λ (xs : List (List ℕ)). AllPairs (λ a b. a ≢ b) (map key_of xs)) (sym pushed) (apart_push seen c.in_ok-lsa.lsa c.loop.invariant.apart new);
+      widths =
+          subst (λ (xs : List (List ℕ)). All HaveWidths xs) (sym pushed)
+          (All-append HaveWidths seen (c.in_ok-lsa.lsa ∷ []) c.loop.invariant.widths
+          (All-cons HaveWidths c.in_ok-lsa.lsa [] c.key_of.ensures.widths (All-nil HaveWidths)));
       same = λ e. absurd (omega (arith, e));
       first =
           λ lt.

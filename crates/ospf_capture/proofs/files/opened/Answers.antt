@@ -1,7 +1,7 @@
 use Rattle.std.proofs.Common.{◌≡◌, false, subst, sym}
 use Rattle.std.specs.Prelude.{All}
 use Rattle.std.proofs.lemmas.List.Elements.{All-push}
-use Rattle.streams.specs.Watched.{has_failed}
+use Rattle.host_io.specs.Watched.{has_failed}
 use Rattle.ospf_capture.proofs.files.opened.Goals as goal
 
 pub opening-preserved : goal.opening-preserved

@@ -1,6 +1,6 @@
 use Rattle.std.proofs.Common.{◌≡◌, false}
 use Rattle.std.specs.Prelude.{All}
-use Rattle.streams.specs.Watched.{has_failed}
+use Rattle.host_io.specs.Watched.{has_failed}
 use Rattle.ospf_capture.proofs.files.opened.Given as goal
 
 abbrev pub invariant-opening : goal.invariant-opening

@@ -9,7 +9,7 @@ returns-clause-given c =
     IsGiven-from_read _ c.in_ok-matches.matches _
     (subst (λ (app : App). HasMatchesOf app (map string_bytes c.args.words.now) c.in_ok-matches.matches) c.in_ok-command.ensures
     c.in_ok-matches.ensures.matches)
-    c.in_ok-named_files.ensures
+    c.named_files.ensures
 
 -- clap gives matches only where it finds no fault
 pub returns-clause-accepted : goal.returns-clause-accepted

@@ -1,8 +1,8 @@
 use Rattle.std.proofs.Common.{◌≡◌, rules, subst, sym, ap, ◌∙◌}
 use Rattle.std.specs.List.{dedup}
 use Rattle.std.proofs.lemmas.Fn.{always_returns_same, dedup_same}
-use Rattle.area_routes.specs.Routes.{AreSortedRoutes, route_to}
-use Rattle.area_routes.specs.Values.{RouteValue}
+use Rattle.best_ways.specs.Routes.{AreSortedRoutes, route_to}
+use Rattle.best_ways.specs.Values.{RouteValue}
 use Rattle.routing_table.proofs.Firsts.{route_firsts, same_net, sorted_firsts}
 use Rattle.routing_table.proofs.preference.first_of_each.Goals as goal
 

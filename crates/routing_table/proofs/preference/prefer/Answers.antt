@@ -1,7 +1,7 @@
 use Rattle.std.proofs.Common.{◌≡◌, ◌^◌, List, [], length, ◌∙◌, ap, subst, sym}
 use Rattle.std.proofs.lemmas.Bool.{eqb-true}
-use Rattle.area_routes.specs.Routes.{AreSortedRoutes}
-use Rattle.area_routes.specs.Values.{RouteValue, RoutesBelow}
+use Rattle.best_ways.specs.Routes.{AreSortedRoutes}
+use Rattle.best_ways.specs.Values.{RouteValue, RoutesBelow}
 use Rattle.routing_table.specs.Preferring.{preferring}
 use Rattle.routing_table.proofs.Preferred.{firsts_are, firsts_small, nothing_in, preferring_alone}
 use Rattle.routing_table.proofs.preference.prefer.Goals as goal

@@ -1,7 +1,8 @@
 use Rattle.std.proofs.Common.{◌≡◌, IfOk, List, ◌∙◌, ap, subst}
 use Rattle.lsdb.specs.Slots.{lists_of}
 use Rattle.area_routes.specs.Intra.{intra_of}
-use Rattle.area_routes.specs.Values.{AreaResultValue, InterValue, RouteValue}
+use Rattle.area_routes.specs.Values.{AreaResultValue, InterValue}
+use Rattle.best_ways.specs.Values.{RouteValue}
 use Rattle.routing_table.specs.Preferring.{preferring}
 use Rattle.routing_table.proofs.Tabled.{if_routes, inter_after}
 use Rattle.routing_table.proofs.table.routes_from.Goals as goal

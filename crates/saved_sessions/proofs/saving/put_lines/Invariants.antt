@@ -2,7 +2,7 @@ use Rattle.std.proofs.Common.{◌≡◌, ◌++◌, take}
 use Rattle.std.specs.Prelude.{All}
 use Rattle.edit_script.specs.Spelling.{IsEditInRange}
 use Rattle.edit_history.specs.Session.{edits_of}
-use Rattle.session_text.specs.Lines.{lines_of}
+use Rattle.saved_sessions.specs.Lines.{lines_of}
 use Rattle.saved_sessions.proofs.saving.put_lines.Given as goal
 
 abbrev pub invariant-loop-record : goal.invariant-loop-record

@@ -3,9 +3,9 @@ use Rattle.std.proofs.lemmas.List.{map-append}
 use Rattle.std.proofs.lemmas.List.Filters.{dedup_is}
 use Rattle.area_graph.specs.Rising.{rising}
 use Rattle.lsa_codec.specs.Order.{prefix_cmp}
-use Rattle.area_routes.specs.Routes.{nets}
+use Rattle.best_ways.specs.Routes.{nets}
 use Rattle.lsa_codec.proofs.OrderLemmas.{prefix_exact, prefix_total}
-use Rattle.area_routes.proofs.RisingLemmas.{dedup_rising}
+use Rattle.best_ways.proofs.RisingLemmas.{dedup_rising}
 use Rattle.table_report.proofs.Differing.{same_prefix}
 use Rattle.table_report.proofs.compare.all_nets.Goals as goal
 

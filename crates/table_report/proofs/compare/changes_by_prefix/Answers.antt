@@ -2,7 +2,7 @@ use Rattle.std.proofs.Common.{◌∙◌, take, subst, arith}
 use Rattle.std.specs.Option.{option_copied}
 use Rattle.std.specs.String.{string_bytes}
 use Rattle.std.proofs.lemmas.List.{length-take-le}
-use Rattle.area_routes.specs.Routes.{route_to}
+use Rattle.best_ways.specs.Routes.{route_to}
 use Rattle.table_report.specs.Comparing.{change, change_at}
 use Rattle.table_report.specs.steps.Lines.{AddsLine}
 use Rattle.table_report.proofs.Added.{count_added, count_same, lines_are, no_more}

@@ -4,8 +4,8 @@ use Rattle.std.specs.String.{string_bytes}
 use Rattle.std.proofs.lemmas.List.{get_or-map, length-map, length-take-le, take_all, take_more}
 use Rattle.std.proofs.lemmas.Option.{slice_get_read}
 use Rattle.lsa_codec.specs.Prefix.{Net}
-use Rattle.area_routes.specs.Routes.{nets, route_to}
-use Rattle.area_routes.specs.Values.{RouteValue}
+use Rattle.best_ways.specs.Routes.{nets, route_to}
+use Rattle.best_ways.specs.Values.{RouteValue}
 use Rattle.table_report.specs.Comparing.{change, change_at}
 use Rattle.table_report.specs.Texts.{lines_text}
 use Rattle.table_report.specs.steps.Lines.{AddsLine}

@@ -1,7 +1,7 @@
 use Rattle.std.proofs.Common.{◌≡◌, length, take}
 use Rattle.std.specs.List.{filter_map}
 use Rattle.std.specs.String.{string_bytes}
-use Rattle.area_routes.specs.Routes.{nets}
+use Rattle.best_ways.specs.Routes.{nets}
 use Rattle.table_report.specs.Comparing.{change_at}
 use Rattle.table_report.specs.Texts.{lines_text}
 use Rattle.table_report.proofs.compare.changes_in_place.Given as goal

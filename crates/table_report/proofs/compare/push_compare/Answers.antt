@@ -1,6 +1,6 @@
 use Rattle.std.proofs.Common.{◌++◌, ◌∙◌, List, ap, codes, length}
 use Rattle.std.specs.String.{string_bytes}
-use Rattle.area_routes.specs.Values.{RouteValue}
+use Rattle.best_ways.specs.Values.{RouteValue}
 use Rattle.table_report.specs.Texts.{lines_text}
 use Rattle.table_report.specs.Comparing.{changes}
 use Rattle.table_report.proofs.Joined.{compare_text_is, headed_pushed, on_ok}

@@ -1,7 +1,7 @@
 use Rattle.std.proofs.Common.{◌≡◌, ◌∙◌, Some, ap, rules, sym}
 use Rattle.std.specs.List.{slice_get}
 use Rattle.std.proofs.lemmas.Option.{slice_get-get_or}
-use Rattle.area_routes.specs.Routes.{route_to}
+use Rattle.best_ways.specs.Routes.{route_to}
 use Rattle.table_report.proofs.Differing.{route_at}
 use Rattle.table_report.proofs.compare.route_near.Goals as goal
 

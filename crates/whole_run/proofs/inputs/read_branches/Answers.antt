@@ -1,5 +1,5 @@
-use Rattle.streams.specs.Watched.{inner_of}
-use Rattle.streams.specs.WholeText.{IsAll}
+use Rattle.host_io.specs.Watched.{inner_of}
+use Rattle.host_io.specs.WholeText.{IsAll}
 use Rattle.std.proofs.Common.{ap, Err}
 use Rattle.whole_run.proofs.KnownInputs.{known_first}
 use Rattle.whole_run.proofs.ReadBytes.{if_too_long}

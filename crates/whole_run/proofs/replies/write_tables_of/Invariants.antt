@@ -1,6 +1,6 @@
 use Rattle.std.proofs.Common.{◌≡◌, false, take}
 use Rattle.std.specs.Io.KnownBytes.{Appends}
-use Rattle.streams.specs.Watched.{inner_of, has_failed}
+use Rattle.host_io.specs.Watched.{inner_of, has_failed}
 use Rattle.edit_history.specs.Session.{state}
 use Rattle.branches.specs.Branches.{sessions_of}
 use Rattle.branches.specs.Replies.{router_texts}

@@ -1,6 +1,6 @@
 use Rattle.std.proofs.lemmas.Result.{IfErr-weaker, IfOk-weaker, on_ok_weaker}
-use Rattle.streams.specs.Watched.{inner_of}
-use Rattle.streams.specs.WholeText.{AppendsPrefix}
+use Rattle.host_io.specs.Watched.{inner_of}
+use Rattle.host_io.specs.WholeText.{AppendsPrefix}
 use Rattle.std.specs.Io.KnownBytes.{Appends}
 use Rattle.whole_run.specs.Run.{text_of}
 use Rattle.whole_run.specs.WholeRun.{IsSummaryOf}

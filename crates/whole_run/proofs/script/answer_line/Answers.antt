@@ -1,6 +1,6 @@
 use Rattle.std.proofs.Common.{◌+◌, ◌∙◌, ap, subst, sym, rules}
 use Rattle.std.specs.Io.KnownBytes.{Appends}
-use Rattle.streams.specs.WholeText.{AppendsPrefix}
+use Rattle.host_io.specs.WholeText.{AppendsPrefix}
 use Rattle.edit_script.specs.Line.{meaning}
 use Rattle.branches.specs.Branches.{sessions_of}
 use Rattle.whole_run.proofs.ScriptLines.{fault_answered}

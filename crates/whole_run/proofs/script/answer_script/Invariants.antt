@@ -1,5 +1,5 @@
 use Rattle.std.proofs.Common.{◌≡◌, ◌+◌, false, length}
-use Rattle.streams.specs.Watched.{inner_of, has_failed}
+use Rattle.host_io.specs.Watched.{inner_of, has_failed}
 use Rattle.branches.specs.Branches.{sessions_of}
 use Rattle.whole_run.specs.Run.{lines_of, answers}
 use Rattle.whole_run.specs.steps.Lines.{lines_left}

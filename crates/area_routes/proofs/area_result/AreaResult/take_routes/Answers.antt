@@ -2,7 +2,8 @@ use Rattle.std.proofs.Common.{List, map, sym, ap, subst, ◌∙◌}
 use Rattle.std.specs.List.{All}
 use Rattle.next_hops.specs.Hop.{IsSortedHops}
 use Rattle.area_routes.specs.Intra.{intra_route}
-use Rattle.area_routes.specs.Values.{AreaResultValue, RouteValue}
+use Rattle.area_routes.specs.Values.{AreaResultValue}
+use Rattle.best_ways.specs.Values.{RouteValue}
 use Rattle.area_routes.specs.steps.OneArea.{IsResultBy}
 use Rattle.area_routes.proofs.OneArea.{hops_by_offers, nothing_by, routes_by_offers}
 use Rattle.area_routes.proofs.area_result.AreaResult.take_routes.Goals as goal

@@ -1,38 +1,24 @@
-use Rattle.std.proofs.Common.{◌≡◌, ◌<◌, ◌^◌, List, map, sym, ap, subst, ◌∙◌}
-use Rattle.std.specs.List.{All}
-use Rattle.std.proofs.lemmas.List.Elements.{All-map}
-use Rattle.std.proofs.lemmas.Result.{IfOk-weaker}
+use Rattle.std.proofs.Common.{◌≡◌, Some, List, map, sym, ap, subst, ◌∙◌}
 use Rattle.lsa_codec.specs.Order.{prefix_cmp}
 use Rattle.lsa_codec.specs.Prefix.{Net}
-use Rattle.lsa_codec.proofs.OrderLemmas.{prefix_exact, prefix_total}
-use Rattle.area_routes.specs.Best.{ways_of}
-use Rattle.area_routes.specs.Candidate.{Candidate}
+use Rattle.best_ways.specs.Best.{ways_of}
+use Rattle.best_ways.specs.Candidate.{Candidate}
 use Rattle.area_routes.specs.Offers.{AreSortedOffers, offer_of}
-use Rattle.area_routes.specs.Values.{OfferValue, OffersBelow}
-use Rattle.area_routes.proofs.Bounds.{ways_have}
-use Rattle.area_routes.proofs.Reordered.{reordered}
-use Rattle.area_routes.proofs.Routed.{sorted_offers}
+use Rattle.area_routes.proofs.Routed.{intra_by, offers_below, offers_by, sorted_offers}
 use Rattle.area_routes.proofs.area_ways.AreaWays.into_routes.Goals as goal
 
 pub returns-clause-offers : goal.returns-clause-offers
 returns-clause-offers g c =
-    let given : List (Candidate Net) = c.self.inside.ways.items in
-    let sorted : List (Candidate Net) = c.in_ok-in_order.field-0.items in
-    let same : ways_of prefix_cmp c.deref.result.now ≡ ways_of prefix_cmp c.args.self =
-    ap (λ (cs : List (Candidate Net)). ways_of prefix_cmp cs) c.deref.ensures.value
-    ∙ reordered prefix_total prefix_exact given sorted c.in_ok-in_order.ensures.same
-    ∙ ap (λ (cs : List (Candidate Net)). ways_of prefix_cmp cs) c.self.view_is in
-    IfOk-weaker c.routes_in_order.result _ _ (λ routes is. is ∙ ap (map offer_of) same) c.routes_in_order.ensures.offers
+    offers_by c.args.area c.self.inside.ways c.self.invariant _ (c.into_vec.ensures.routes ∙ c.in_ok-into_routes_through.ensures)
+    ∙ ap (λ (cs : List (Candidate Net)). map offer_of (ways_of prefix_cmp cs)) c.self.view_is
+
+pub returns-clause-intra : goal.returns-clause-intra
+returns-clause-intra g c =
+    intra_by c.args.area c.self.inside.ways c.self.invariant _ (c.into_vec.ensures.routes ∙ c.in_ok-into_routes_through.ensures)
 
 pub returns-clause-below : goal.returns-clause-below
 returns-clause-below g c =
-    let below : All (λ (x : Candidate Net). x.rank.cost < 2 ^ 33) c.args.self =
-    subst (λ (cs : List (Candidate Net)). All (λ (x : Candidate Net). x.rank.cost < 2 ^ 33) cs) c.self.view_is c.self.invariant in
-    IfOk-weaker c.routes_in_order.result _ _
-    (λ routes is. subst (OffersBelow (2 ^ 33)) (sym is)
-    (All-map (λ (o : OfferValue). o.cost < 2 ^ 33) offer_of (ways_of prefix_cmp c.args.self) (ways_have (λ r. r.cost < 2 ^ 33) prefix_cmp c.args.self below)))
-    (returns-clause-offers g c)
+    offers_below c.args.area c.self.inside.ways c.self.invariant _ (c.into_vec.ensures.routes ∙ c.in_ok-into_routes_through.ensures)
 
 pub returns-clause-sorted : goal.returns-clause-sorted
-returns-clause-sorted g c =
-    IfOk-weaker c.routes_in_order.result _ _ (λ routes is. subst AreSortedOffers (sym is) (sorted_offers c.args.self)) (returns-clause-offers g c)
+returns-clause-sorted g c = subst AreSortedOffers (sym (returns-clause-offers g c)) (sorted_offers c.args.self)

@@ -4,7 +4,7 @@ use Rattle.std.specs.Option.{option_copied}
 use Rattle.area_routes.specs.declared.entry.EntryKind.TheVariants.{Border}
 use Rattle.area_routes.specs.Inter.{same_kind, same_router}
 use Rattle.area_routes.specs.Values.{EntryValue}
-use Rattle.area_routes.proofs.Bounds.{found_has}
+use Rattle.best_ways.proofs.WayLemmas.{found_has}
 use Rattle.area_routes.proofs.indexed_area.IndexedArea.border.Goals as goal
 
 -- what holds of the value holds of the value of the reference

@@ -1,5 +1,5 @@
 use Rattle.std.proofs.Common.{◌≡◌, false, get_or, ap, sym, ◌∙◌}
-use Rattle.area_routes.specs.Routes.{has_route}
+use Rattle.best_ways.specs.Routes.{has_route}
 use Rattle.external_routes.specs.steps.Lookup.{WaysInside}
 use Rattle.external_routes.proofs.UnmarkedLengths.{unmarked_no_route}
 use Rattle.external_routes.proofs.inside.Inside.has_route.Goals as goal

@@ -1,6 +1,6 @@
 use Rattle.std.proofs.Common.{List, length, refl, subst, arith}
 use Rattle.std.proofs.lemmas.List.Elements.{All-replicate}
-use Rattle.area_routes.specs.Values.{RouteValue}
+use Rattle.best_ways.specs.Values.{RouteValue}
 use Rattle.external_routes.specs.steps.Lookup.{IsPreferred, MarksLengths}
 use Rattle.external_routes.proofs.Remembered.{none_preferred}
 use Rattle.external_routes.proofs.inside.Inside.new.Goals as goal

@@ -1,7 +1,7 @@
 use Rattle.std.proofs.Common.{rules, ap, ◌∙◌}
 use Rattle.std.proofs.lemmas.List.Sorted.{answers_always}
 use Rattle.lsa_codec.proofs.OrderLemmas.{router_total}
-use Rattle.area_routes.proofs.SearchLemmas.{found_at, not_found}
+use Rattle.best_ways.proofs.SearchLemmas.{found_at, not_found}
 use Rattle.forwarding.specs.Graphs.{step_at}
 use Rattle.forwarding.proofs.graph.ForwardingGraph.step.Goals as goal
 

@@ -1,4 +1,4 @@
-use Rattle.std.proofs.Common.{◌+◌, ◌∙◌, arith, ap, sym}
+use Rattle.std.proofs.Common.{arith}
 use Rattle.lsdb.proofs.CountedLsas.{counts_more, more_few}
 use Rattle.lsdb.proofs.counts.LsaCounts.of_slots.Goals as goal
 

@@ -1,120 +1,64 @@
-use Rattle.std.proofs.Common.{◌≡◌, ◌∙◌, ◌++◌, List, [], ◌∷◌, length, vec_len, ap, sym, arith, refl, rules}
-use Rattle.lsdb.proofs.KeyedSlotLists.{keyed_kept, keyed_open}
+use Rattle.std.proofs.Common.{◌≡◌, ◌∙◌, ◌++◌, ℕ, List, [], ◌∷◌, None, length, map, vec_len, ap, sym, subst, arith, rules}
+use Rattle.std.specs.Prelude.{All}
+use Rattle.lsa_codec.specs.Key.{key_of}
 use Rattle.lsdb.specs.declared.transit_filters.TransitFilter.{TransitFilter}
+use Rattle.lsdb.specs.Counts.{counts_of}
+use Rattle.lsdb.specs.KeyRanges.{HaveWidths}
+use Rattle.lsdb.specs.Lists.{AreDistinct}
+use Rattle.lsdb.specs.Slots.{Slot, full}
 use Rattle.lsdb.specs.steps.Filtering.{filters_of}
-use Rattle.lsdb.specs.steps.PrefixIndex as prefix
-use Rattle.lsdb.specs.steps.RouterIndex as router
+use Rattle.lsdb.specs.steps.Indexes.{AreIndexes}
 use Rattle.lsdb.proofs.Filters.{filters_opened}
-use Rattle.lsdb.proofs.SlotIndexes.{indexed_kept, indexed_open}
+use Rattle.lsdb.proofs.Full.{full-skip}
 use Rattle.lsdb.proofs.keyed_slots.KeyedSlots.push_empty.Goals as goal
 
 pub invariant_of-self-2 : goal.invariant_of-self-2
 invariant_of-self-2 g c =
-    let sized : vec_len c.self.inside.slots ≡ length c.self.inside.slots.items = search rules in
+    let ps = c.self.inside.slots.items in
+    let sized : vec_len c.self.inside.slots ≡ length ps = search rules in
+    let opened : c.push.new.self.items ≡ ps ++ None ∷ [] = c.in_ok-push.ensures.items in
+    let same : full ps ≡ full c.push.new.self.items = sym (ap (λ (qs : List Slot). full qs) opened ∙ full-skip ps) in
     record {
+      apart = subst (λ (xs : List (List ℕ)). AreDistinct (map key_of xs)) same c.self.invariant.apart;
+      widths = subst (λ (xs : List (List ℕ)). All HaveWidths xs) same c.self.invariant.widths;
+      counted = c.self.invariant.counted ∙ ap counts_of same;
       filters =
-          filters_opened c.self.inside.slots.items c.push.new.self.items c.self.inside.filters.items c.push_reserved.new.self.items
+          filters_opened ps c.push.new.self.items c.self.inside.filters.items c.push_reserved.new.self.items
           c.self.invariant.filters c.in_ok-push.ensures.items
-          (c.push_reserved.ensures.items ∙ ap (λ (filters : List TransitFilter). filters ++ c.empty.result ∷ []) c.reserve-3.ensures.items
+          (c.push_reserved.ensures.items ∙ ap (λ (filters : List TransitFilter). filters ++ c.empty.result ∷ []) c.reserve.ensures.items
           ∙ ap (λ (filter : TransitFilter). c.self.inside.filters.items ++ filter ∷ []) c.empty.ensures);
-      keyed =
-          rw (c.reserve.ensures.items, c.reserve-2.ensures.items) (keyed_open c.self.inside.slots.items c.push.new.self.items c.self.inside.keys.items c.self.inside.latest.items _
-          c.self.inside.counts
-          c.in_ok-push.ensures.items
-          (omega (
-            arith,
-            sized,
-            c.len.ensures,
-            c.len-2.ensures,
-            c.saturating_sub-wanted.ensures,
-            c.in_ok-reserve.ensures.ok,
-            c.reserve.ensures.len,
-          ))
-          c.self.invariant.keyed.sound c.self.invariant.keyed.widths c.self.invariant.keyed.counted);
-      routers =
-          indexed_open router.slot_cmp router.router_at (λ i. refl) c.self.inside.slots.items c.push.new.self.items c.self.inside.routers.noted.items
-          c.self.inside.routers.latest.items
-          c.reserve_for.new.self.noted.items c.reserve_for.new.self.latest.items _ _ c.in_ok-push.ensures.items c.reserve_for.ensures.same c.reserve_for.ensures.latest
-          (omega (arith, sized, c.len-5.ensures, c.in_ok-reserve_for.ensures.room))
-          (omega (arith, sized, c.len-5.ensures, c.in_ok-reserve_for.ensures.narrow)) c.self.invariant.routers;
-      prefixes =
-          indexed_open prefix.slot_cmp prefix.prefix_at (λ i. refl) c.self.inside.slots.items c.push.new.self.items c.self.inside.prefixes.noted.items
-          c.self.inside.prefixes.latest.items
-          c.reserve_for-2.new.self.noted.items c.reserve_for-2.new.self.latest.items _ _ c.in_ok-push.ensures.items c.reserve_for-2.ensures.same c.reserve_for-2.ensures.latest
-          (omega (arith, sized, c.len-6.ensures, c.in_ok-reserve_for-2.ensures.room))
-          (omega (arith, sized, c.len-6.ensures, c.in_ok-reserve_for-2.ensures.narrow)) c.self.invariant.prefixes;
+      indexed =
+          subst (λ (qs : List Slot). AreIndexes qs c.reserve_for.new.self) (sym opened)
+          (c.in_ok-reserve_for.ensures.opened ps (omega (arith, sized, c.len.ensures)) c.self.invariant.indexed);
     }
 
 pub invariant_of-self-in_err-push : goal.invariant_of-self-in_err-push
 invariant_of-self-in_err-push g c =
-    let sized : vec_len c.self.inside.slots ≡ length c.self.inside.slots.items = search rules in
+    let ps = c.self.inside.slots.items in
+    let same : ps ≡ c.push.new.self.items = sym c.in_err-push.ensures.items in
     record {
-      filters = c.reserve-3.ensures.items ∙ c.self.invariant.filters ∙ ap filters_of (sym c.in_err-push.ensures.items);
-      keyed =
-          keyed_kept c.self.inside.slots.items c.push.new.self.items c.self.inside.keys.items c.self.inside.latest.items _ _ _ c.self.inside.counts
-          c.in_err-push.ensures.items c.reserve.ensures.items c.reserve-2.ensures.items (omega (arith, c.reserve.ensures.capacity, c.self.invariant.keyed.fits))
-          c.self.invariant.keyed.sound c.self.invariant.keyed.widths c.self.invariant.keyed.counted;
-      routers =
-          indexed_kept router.slot_cmp router.router_at c.self.inside.slots.items c.push.new.self.items c.self.inside.routers.noted.items
-          c.self.inside.routers.latest.items
-          c.reserve_for.new.self.noted.items c.reserve_for.new.self.latest.items _ _ c.in_err-push.ensures.items c.reserve_for.ensures.same c.reserve_for.ensures.latest
-          (omega (arith, c.reserve_for.ensures.kept, c.self.invariant.routers.fits)) c.self.invariant.routers;
-      prefixes =
-          indexed_kept prefix.slot_cmp prefix.prefix_at c.self.inside.slots.items c.push.new.self.items c.self.inside.prefixes.noted.items
-          c.self.inside.prefixes.latest.items
-          c.reserve_for-2.new.self.noted.items c.reserve_for-2.new.self.latest.items _ _ c.in_err-push.ensures.items c.reserve_for-2.ensures.same c.reserve_for-2.ensures.latest
-          (omega (arith, c.reserve_for-2.ensures.kept, c.self.invariant.prefixes.fits)) c.self.invariant.prefixes;
+      apart = subst (λ (qs : List Slot). AreDistinct (map key_of (full qs))) same c.self.invariant.apart;
+      widths = subst (λ (qs : List Slot). All HaveWidths (full qs)) same c.self.invariant.widths;
+      counted = c.self.invariant.counted ∙ ap (λ (qs : List Slot). counts_of (full qs)) same;
+      filters = c.reserve.ensures.items ∙ c.self.invariant.filters ∙ ap filters_of same;
+      indexed =
+          subst (λ (qs : List Slot). AreIndexes qs c.reserve_for.new.self) same (c.reserve_for.ensures.kept ps c.self.invariant.indexed);
     }
 
-pub invariant_of-self-in_err-reserve_for : goal.invariant_of-self-in_err-reserve_for
-invariant_of-self-in_err-reserve_for g c = record {
+pub invariant_of-self : goal.invariant_of-self
+invariant_of-self g c = record {
+  apart = c.self.invariant.apart;
+  widths = c.self.invariant.widths;
+  counted = c.self.invariant.counted;
   filters = c.self.invariant.filters;
-  keyed =
-      keyed_kept c.self.inside.slots.items c.self.inside.slots.items c.self.inside.keys.items c.self.inside.latest.items _ _ _ c.self.inside.counts refl
-      c.reserve.ensures.items c.reserve-2.ensures.items (omega (arith, c.reserve.ensures.capacity, c.self.invariant.keyed.fits))
-      c.self.invariant.keyed.sound c.self.invariant.keyed.widths c.self.invariant.keyed.counted;
-  routers =
-      indexed_kept router.slot_cmp router.router_at c.self.inside.slots.items c.self.inside.slots.items c.self.inside.routers.noted.items
-      c.self.inside.routers.latest.items
-      c.reserve_for.new.self.noted.items c.reserve_for.new.self.latest.items _ _ refl c.reserve_for.ensures.same c.reserve_for.ensures.latest
-      (omega (arith, c.reserve_for.ensures.kept, c.self.invariant.routers.fits)) c.self.invariant.routers;
-  prefixes = c.self.invariant.prefixes;
+  indexed = c.reserve_for.ensures.kept c.self.inside.slots.items c.self.invariant.indexed;
 }
 
-pub invariant_of-self-in_err-reserve_for-2 : goal.invariant_of-self-in_err-reserve_for-2
-invariant_of-self-in_err-reserve_for-2 g c = record {
-  filters = c.self.invariant.filters;
-  keyed =
-      keyed_kept c.self.inside.slots.items c.self.inside.slots.items c.self.inside.keys.items c.self.inside.latest.items _ _ _ c.self.inside.counts refl
-      c.reserve.ensures.items c.reserve-2.ensures.items (omega (arith, c.reserve.ensures.capacity, c.self.invariant.keyed.fits))
-      c.self.invariant.keyed.sound c.self.invariant.keyed.widths c.self.invariant.keyed.counted;
-  routers =
-      indexed_kept router.slot_cmp router.router_at c.self.inside.slots.items c.self.inside.slots.items c.self.inside.routers.noted.items
-      c.self.inside.routers.latest.items
-      c.reserve_for.new.self.noted.items c.reserve_for.new.self.latest.items _ _ refl c.reserve_for.ensures.same c.reserve_for.ensures.latest
-      (omega (arith, c.reserve_for.ensures.kept, c.self.invariant.routers.fits)) c.self.invariant.routers;
-  prefixes =
-      indexed_kept prefix.slot_cmp prefix.prefix_at c.self.inside.slots.items c.self.inside.slots.items c.self.inside.prefixes.noted.items
-      c.self.inside.prefixes.latest.items
-      c.reserve_for-2.new.self.noted.items c.reserve_for-2.new.self.latest.items _ _ refl c.reserve_for-2.ensures.same c.reserve_for-2.ensures.latest
-      (omega (arith, c.reserve_for-2.ensures.kept, c.self.invariant.prefixes.fits)) c.self.invariant.prefixes;
-}
-
-pub invariant_of-self-in_err-reserve-3 : goal.invariant_of-self-in_err-reserve-3
-invariant_of-self-in_err-reserve-3 g c = record {
-  filters = c.reserve-3.ensures.items ∙ c.self.invariant.filters;
-  keyed =
-      keyed_kept c.self.inside.slots.items c.self.inside.slots.items c.self.inside.keys.items c.self.inside.latest.items _ _ _ c.self.inside.counts refl
-      c.reserve.ensures.items c.reserve-2.ensures.items (omega (arith, c.reserve.ensures.capacity, c.self.invariant.keyed.fits))
-      c.self.invariant.keyed.sound c.self.invariant.keyed.widths c.self.invariant.keyed.counted;
-  routers =
-      indexed_kept router.slot_cmp router.router_at c.self.inside.slots.items c.self.inside.slots.items c.self.inside.routers.noted.items
-      c.self.inside.routers.latest.items
-      c.reserve_for.new.self.noted.items c.reserve_for.new.self.latest.items _ _ refl c.reserve_for.ensures.same c.reserve_for.ensures.latest
-      (omega (arith, c.reserve_for.ensures.kept, c.self.invariant.routers.fits)) c.self.invariant.routers;
-  prefixes =
-      indexed_kept prefix.slot_cmp prefix.prefix_at c.self.inside.slots.items c.self.inside.slots.items c.self.inside.prefixes.noted.items
-      c.self.inside.prefixes.latest.items
-      c.reserve_for-2.new.self.noted.items c.reserve_for-2.new.self.latest.items _ _ refl c.reserve_for-2.ensures.same c.reserve_for-2.ensures.latest
-      (omega (arith, c.reserve_for-2.ensures.kept, c.self.invariant.prefixes.fits)) c.self.invariant.prefixes;
+pub invariant_of-self-in_err-reserve : goal.invariant_of-self-in_err-reserve
+invariant_of-self-in_err-reserve g c = record {
+  apart = c.self.invariant.apart;
+  widths = c.self.invariant.widths;
+  counted = c.self.invariant.counted;
+  filters = c.reserve.ensures.items ∙ c.self.invariant.filters;
+  indexed = c.reserve_for.ensures.kept c.self.inside.slots.items c.self.invariant.indexed;
 }

@@ -1,45 +1,44 @@
-use Rattle.std.proofs.Common.{◌∙◌, None, ap, subst, option_map}
+use Rattle.std.proofs.Common.{◌∙◌, ap, subst}
 use Rattle.edit_history.specs.Effect.{edit_touches}
 use Rattle.edit_history.specs.Session.{edit, state}
-use Rattle.recalculate.specs.Calls.{CarriedOut}
+use Rattle.recalculate.proofs.CallsSpare.{caches_follow, carries_out, edit_taken, less_kept_by, others_stay, shown, took}
+use Rattle.recalculate.proofs.Touches.{edit_step}
+use Rattle.routing_table.specs.AreasTrees.{routers_of}
 use Rattle.routing_table.specs.KeptTrees.{less_touched}
-use Rattle.recalculate.specs.Planning.{KeptTables, PlannerValue, router_of, without_last}
-use Rattle.recalculate.proofs.Bases.{edited_base, goes_on}
-use Rattle.recalculate.proofs.CallsSpare.{carries_out, edit_taken, shown, took}
-use Rattle.recalculate.proofs.Touches.{edited_kept, one_done}
+use Rattle.recalculate.specs.Calls.{CarriedOut}
+use Rattle.recalculate.specs.Planning.{PlannerValue, without_last}
 use Rattle.recalculate.proofs.planner.Planner.edit.Goals as goal
 
-pub drop_done-requires : goal.drop_done-requires
-drop_done-requires g c = one_done c.self.inside.study c.edit.new.self c.args.edit.now c.in_ok-edit.ensures.ok
+pub follow-requires : goal.follow-requires
+follow-requires g c = (edit_step c.self.inside.study c.edit.new.self c.args.edit.now c.in_ok-edit.ensures.ok).enough
 
 pub invariant_of-self-2 : goal.invariant_of-self-2
 invariant_of-self-2 g c =
-    goes_on c.self.inside.study c.edit.new.self c.self.inside.trees c.drop_done.new.trees c.self.inside.first_trees
-    (option_map (λ table. table.value) c.self.inside.first_table) (option_map (λ table. table.value) c.self.inside.last_table)
-    (edited_base c.self.inside.study c.edit.new.self c.args.edit.now c.in_ok-edit.ensures.ok)
-    (edited_kept c.self.inside.trees c.drop_done.new.trees c.self.inside.study c.edit.new.self c.self.invariant.now
-    c.args.edit.now c.in_ok-edit.ensures.reached c.in_ok-edit.ensures.ok c.drop_done.ensures.areas c.drop_done.ensures.spare).graphs
-    c.self.invariant
+    let step = edit_step c.self.inside.study c.edit.new.self c.args.edit.now c.in_ok-edit.ensures.ok in
+    caches_follow _ _ _ _ step c.self.inside.present c.follow.new.self c.self.inside.baseline c.follow.ensures.cache c.self.invariant
 
 pub returns-clause-kept : goal.returns-clause-kept
 returns-clause-kept g c =
-    (edited_kept c.self.inside.trees c.drop_done.new.trees c.self.inside.study c.edit.new.self c.self.invariant.now
-    c.args.edit.now c.in_ok-edit.ensures.reached c.in_ok-edit.ensures.ok c.drop_done.ensures.areas c.drop_done.ensures.spare).shown
+    let step = edit_step c.self.inside.study c.edit.new.self c.args.edit.now c.in_ok-edit.ensures.ok in
+    less_kept_by _ _ _ _ step c.self.inside.present c.follow.new.self c.follow.ensures.kept
     ∙ ap (λ (p : PlannerValue). less_touched (λ area. edit_touches area (state p.session) c.args.edit.now) p.kept) c.self.view_is
+
+pub returns-clause-others : goal.returns-clause-others
+returns-clause-others g c =
+    others_stay c.self.inside.study c.edit.new.self c.self.inside.meter c.self.inside.present c.follow.new.self c.self.inside.baseline
+    c.self.inside.asked c.follow.ensures.table
+    ∙ ap (λ (p : PlannerValue). record p {
+      session = c.edit.new.self;
+      kept = routers_of c.follow.new.self.trees;
+      tables = without_last p.tables;
+    }) c.self.view_is
 
 pub returns-clause-step : goal.returns-clause-step
 returns-clause-step g c =
-    let tables : KeptTables = record {
-      last = None;
-      first = router_of (option_map (λ table. table.value) c.self.inside.first_table);
-      asked = c.self.inside.asked;
-    } in
-    subst (λ (p : PlannerValue). CarriedOut (edit c.args.edit.now) p (shown c.edit.new.self c.self.inside.meter c.drop_done.new.trees c.self.inside.first_trees tables)) c.self.view_is
-    (carries_out (edit c.args.edit.now) c.self.inside.study c.edit.new.self c.self.inside.meter c.self.inside.trees c.drop_done.new.trees c.self.inside.first_trees _ tables
+    let step = edit_step c.self.inside.study c.edit.new.self c.args.edit.now c.in_ok-edit.ensures.ok in
+    subst (λ (p : PlannerValue). CarriedOut (edit c.args.edit.now) p
+    (shown c.edit.new.self c.self.inside.meter c.follow.new.self c.self.inside.baseline c.self.inside.asked)) c.self.view_is
+    (carries_out _ _ _ _ step c.self.inside.present c.follow.new.self c.self.inside.meter c.self.inside.baseline c.self.inside.asked
+    c.follow.ensures.kept
     (took c.self.inside.study c.edit.new.self c.args.edit.now c.in_ok-edit.ensures.ok)
-    (edit_taken c.self.inside.study c.edit.new.self c.args.edit.now c.in_ok-edit.ensures.ok) c.in_ok-edit.ensures.reached
-    (edited_kept c.self.inside.trees c.drop_done.new.trees c.self.inside.study c.edit.new.self c.self.invariant.now
-    c.args.edit.now c.in_ok-edit.ensures.reached c.in_ok-edit.ensures.ok c.drop_done.ensures.areas c.drop_done.ensures.spare))
-
-pub returns-clause-tables : goal.returns-clause-tables
-returns-clause-tables g c = ap (λ (p : PlannerValue). without_last p.tables) c.self.view_is
+    (edit_taken c.self.inside.study c.edit.new.self c.args.edit.now c.in_ok-edit.ensures.ok) c.in_ok-edit.ensures.reached)

@@ -1,21 +1,14 @@
-use Rattle.std.proofs.Common.{◌≡◌, ◌∙◌, Option, Some, IfSome, ap, option_map, rules, subst, sym}
-use Rattle.lsa_codec.specs.declared.address.RouterId.{RouterId}
-use Rattle.routing_table.specs.AreasTrees.{routers_of}
-use Rattle.routing_table.specs.Tables.{TableValue}
-use Rattle.recalculate.specs.Planning.{IsTableOver, PlannerValue, router_of}
-use Rattle.recalculate.proofs.Bases.{kept_of}
+use Rattle.std.proofs.Common.{◌≡◌, Some, IfSome, subst}
+use Rattle.recalculate.specs.Planning.{IsTableOver, PlannerValue}
+use Rattle.recalculate.proofs.Caches.{over_by}
 use Rattle.recalculate.proofs.planner.Planner.first_table_of.Goals as goal
 
-pub returns-in-Some-clause-table : goal.returns-in-Some-clause-table
-returns-in-Some-clause-table g c =
-    let same : c.in-Some.table.value.router ≡ c.args.router = search rules in
-    let there = subst (λ (o : Option TableValue). IfSome o (λ table. IsTableOver c.self.inside.study.base (routers_of c.self.inside.first_trees) table.router table))
-    (ap (option_map (λ table. table.value)) c.in-Some.is) c.self.invariant.table in
-    subst (λ (p : PlannerValue). IsTableOver p.session.base p.first_kept c.args.router c.in-Some.table.value) c.self.view_is
-    (kept_of _ _ c.args.router c.in-Some.table.value same there)
+pub returns-clause-table : goal.returns-clause-table
+returns-clause-table g c =
+    subst (λ (p : PlannerValue). IfSome c.kept_table.result (λ table. IsTableOver p.session.base p.first_kept c.args.router table.now.value)) c.self.view_is
+    (over_by c.self.inside.study.base (λ table. table.now.value) c.args.router c.self.inside.baseline c.kept_table.result
+    c.kept_table.ensures.table c.self.invariant.baseline)
 
-pub returns-in-Some-clause-first : goal.returns-in-Some-clause-first
-returns-in-Some-clause-first g c =
-    let same : c.in-Some.table.value.router ≡ c.args.router = search rules in
-    ap (λ (p : PlannerValue). p.tables.first) (sym c.self.view_is)
-    ∙ ap router_of (ap (option_map (λ table. table.value)) c.in-Some.is) ∙ ap (λ (r : RouterId). Some r) same
+pub returns-clause-first : goal.returns-clause-first
+returns-clause-first g c =
+    subst (λ (p : PlannerValue). IfSome c.kept_table.result (λ table. p.tables.first ≡ Some c.args.router)) c.self.view_is c.kept_table.ensures.some

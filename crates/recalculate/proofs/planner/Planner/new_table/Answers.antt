@@ -1,40 +1,40 @@
-use Rattle.std.proofs.Common.{◌≡◌, ◌∙◌, Some, ap, subst, sym}
-use Rattle.edit_history.specs.Session.{Session, state}
-use Rattle.routing_table.specs.Tables.{TableValue, table_in}
+use Rattle.std.proofs.Common.{◌≡◌, ◌∙◌, Some, IfErr, IfOk, ap, subst, sym}
+use Rattle.lsdb.specs.Lists.{Lists}
+use Rattle.edit_history.specs.Session.{state}
 use Rattle.routing_table.specs.AreasTrees.{routers_of}
-use Rattle.routing_table.specs.KeptTrees.{IsWithin, KeptRouters, is_kept}
-use Rattle.recalculate.specs.Asking.{HasTrees}
-use Rattle.recalculate.specs.Planning.{IsTableOver, PlannerValue}
-use Rattle.recalculate.proofs.Bases.{keeps_last, may_be_kept}
-use Rattle.recalculate.proofs.Staying.{stayed_from}
+use Rattle.routing_table.specs.Tables.{FaultMeans, table_in}
+use Rattle.recalculate.specs.CallsForTables.{CalculatesTrees}
+use Rattle.recalculate.specs.Planning.{IsCacheOf, PlannerValue}
+use Rattle.recalculate.proofs.Caches.{with_present}
+use Rattle.recalculate.proofs.Calculated.{gains_by}
 use Rattle.recalculate.proofs.planner.Planner.new_table.Goals as goal
 
-pub invariant_of-self-2 : goal.invariant_of-self-2
-invariant_of-self-2 g c =
-    let session = ap (λ (p : PlannerValue). p.session) c.self-2.view_is ∙ c.table.ensures.session in
-    let kept = ap (λ (p : PlannerValue). p.kept) c.self-2.view_is in
-    let shows = subst (λ (s : Session). table_in (state s) c.args.router ≡ Some c.in_ok-table.table) (sym session) c.in_ok-table.ensures.table in
-    let trees = subst (λ (s : Session). HasTrees (state s) c.args.router (routers_of c.self-2.inside.trees)) (sym (ap (λ (p : PlannerValue). p.session) c.self-2.view_is))
-    (subst (λ (k : KeptRouters). HasTrees (state c.table.new.self.session) c.args.router k) (sym kept)
-    (subst (λ (s : Session). HasTrees (state s) c.args.router c.table.new.self.kept) (sym c.table.ensures.session) c.in_ok-table.ensures.kept)) in
-    keeps_last _ _ _ _ _ (Some c.in_ok-clone.field-0.value)
-    (subst (λ (table : TableValue). IsTableOver (state c.self-2.inside.study) (routers_of c.self-2.inside.trees) table.router table)
-    (sym c.in_ok-table-2.ensures ∙ sym c.in_ok-clone.ensures.cases)
-    (may_be_kept (state c.self-2.inside.study) c.args.router (routers_of c.self-2.inside.trees) c.in_ok-table.table shows trees))
-    c.self-2.invariant
+pub new_table-requires : goal.new_table-requires
+new_table-requires g c = subst (λ (db : Lists). IsCacheOf db c.self.inside.present) (sym c.database.ensures.state) c.self.invariant.present
 
-pub returns-in_err-table-clause-step : goal.returns-in_err-table-clause-step
-returns-in_err-table-clause-step g c = stayed_from _ _ c.table.new.self c.self.view_is c.table.ensures.session c.table.ensures.keeps
+pub invariant_of-self : goal.invariant_of-self
+invariant_of-self g c = with_present _ _ _ _ _ c.database.ensures.state c.new_table.ensures.cache c.self.invariant
 
-pub returns-in_err-table-2-clause-step : goal.returns-in_err-table-2-clause-step
-returns-in_err-table-2-clause-step g c = stayed_from _ _ c.table.new.self c.self.view_is c.table.ensures.session c.table.ensures.keeps
+pub returns-clause-table : goal.returns-clause-table
+returns-clause-table g c =
+    subst (λ (db : Lists). IfOk c.new_table.result (λ table. table_in db c.args.router ≡ Some table.value))
+    (c.database.ensures.state ∙ ap (λ (p : PlannerValue). state p.session) c.self.view_is) c.new_table.ensures.table
 
-pub returns-in_err-clone-clause-step : goal.returns-in_err-clone-clause-step
-returns-in_err-clone-clause-step g c = stayed_from _ _ c.table.new.self c.self.view_is c.table.ensures.session c.table.ensures.keeps
+pub returns-clause-fault : goal.returns-clause-fault
+returns-clause-fault g c =
+    subst (λ (db : Lists). IfErr c.new_table.result (FaultMeans (table_in db c.args.router)))
+    (c.database.ensures.state ∙ ap (λ (p : PlannerValue). state p.session) c.self.view_is) c.new_table.ensures.fault
+
+pub returns-clause-trees : goal.returns-clause-trees
+returns-clause-trees g c =
+    subst (λ (p : PlannerValue). CalculatesTrees (state p.session) c.args.router c.new_table.result (p.kept, p.runs)
+    (routers_of c.new_table.new.self.trees, c.new_table.new.meter)) c.self.view_is
+    (subst (λ (db : Lists). CalculatesTrees db c.args.router c.new_table.result (routers_of c.self.inside.present.trees, c.self.inside.meter)
+    (routers_of c.new_table.new.self.trees, c.new_table.new.meter)) c.database.ensures.state c.new_table.ensures.trees)
 
 pub returns-clause-step : goal.returns-clause-step
 returns-clause-step g c = record {
-  session = ap (λ (p : PlannerValue). p.session) c.self-2.view_is ∙ c.table.ensures.session ∙ ap (λ (p : PlannerValue). p.session) c.self.view_is;
-  keeps = subst (λ (p : PlannerValue). IsWithin (is_kept c.args.self.now.kept) (is_kept p.kept)) (sym c.self-2.view_is)
-      (stayed_from _ _ c.table.new.self c.self.view_is c.table.ensures.session c.table.ensures.keeps).keeps;
+  session = ap (λ (p : PlannerValue). p.session) c.self.view_is;
+  keeps = (gains_by (state c.args.self.now.session) c.args.router c.new_table.result (c.args.self.now.kept, c.args.self.now.runs)
+      (routers_of c.new_table.new.self.trees, c.new_table.new.meter) (returns-clause-trees g c)).keeps;
 }

@@ -40,7 +40,6 @@ invariant_of-self-2 g c =
       );
       loaded = subst (λ (h : HistoryData). IfSome c.self.inside.loaded (λ slots. lists_of slots ≡ (session_of c.apply.new.database h).base)) (sym now)
           (subst (λ (db : Lists). IfSome c.self.inside.loaded (λ slots. lists_of slots ≡ db)) (sym more.base) c.self.invariant.loaded);
-      externals = c.drop_over_edit.ensures c.self.inside.database c.args.edit.now c.in_ok-record.ensures.applied c.self.invariant.externals;
     }
 
 pub returns-clause-ok : goal.returns-clause-ok

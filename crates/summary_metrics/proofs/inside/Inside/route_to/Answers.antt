@@ -1,5 +1,5 @@
 use Rattle.std.proofs.Common.{map, sym, ap, ◌∙◌}
-use Rattle.area_routes.specs.Routes.{route_to}
+use Rattle.best_ways.specs.Routes.{route_to}
 use Rattle.summary_metrics.proofs.NearPlaces.{found_by_net, missing_by_net}
 use Rattle.summary_metrics.proofs.inside.Inside.route_to.Goals as goal
 

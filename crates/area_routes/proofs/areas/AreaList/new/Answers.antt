@@ -1,5 +1,0 @@
-use Rattle.area_routes.proofs.Rises.{none_rise}
-use Rattle.area_routes.proofs.areas.AreaList.new.Goals as goal
-
-pub invariant_of-result : goal.invariant_of-result
-invariant_of-result g c = none_rise

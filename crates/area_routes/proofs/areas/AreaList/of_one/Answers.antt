@@ -1,7 +1,0 @@
-use Rattle.std.proofs.Common.{[], ◌∷◌}
-use Rattle.lsa_codec.proofs.OrderLemmas.{area_total}
-use Rattle.area_routes.proofs.RisingLemmas.{sorted_rising}
-use Rattle.area_routes.proofs.areas.AreaList.of_one.Goals as goal
-
-pub invariant_of-result : goal.invariant_of-result
-invariant_of-result g c = sorted_rising area_total (c.args.area ∷ [])

@@ -1,7 +1,0 @@
-use Rattle.std.proofs.Common.{subst, sym}
-use Rattle.area_routes.specs.Routes.{AreSortedRoutes}
-use Rattle.area_routes.proofs.Sorted.{no_routes_sorted}
-use Rattle.area_routes.proofs.route_list.Routes.new.Goals as goal
-
-pub invariant_of-result : goal.invariant_of-result
-invariant_of-result g c = subst AreSortedRoutes (sym c.new.ensures.items) no_routes_sorted

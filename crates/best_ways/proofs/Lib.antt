@@ -1,0 +1,13 @@
+pub mod RankOrders
+pub mod RisingLemmas
+pub mod Rises
+pub mod LeastLemmas
+pub mod LookupLemmas
+pub mod Merging
+pub mod Fronts
+pub mod Words
+pub mod Reordered
+pub mod Bounds
+pub mod Sorted
+pub mod SearchLemmas
+pub mod WayLemmas

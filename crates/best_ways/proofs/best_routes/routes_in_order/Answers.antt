@@ -1,0 +1,31 @@
+use Rattle.std.proofs.Common.{◌≡◌, [], ◌∷◌, ◌++◌, List, drop, map, sym, ap, ◌∙◌, append_assoc}
+use Rattle.std.proofs.lemmas.List.{append-nil}
+use Rattle.lsa_codec.specs.Order.{prefix_cmp}
+use Rattle.lsa_codec.specs.Prefix.{Net}
+use Rattle.best_ways.specs.Best.{ways_of}
+use Rattle.best_ways.specs.Routes.{route_through}
+use Rattle.best_ways.specs.Values.{RouteValue, WayValue}
+use Rattle.best_ways.proofs.Fronts.{no_more}
+use Rattle.best_ways.proofs.best_routes.routes_in_order.Goals as goal
+
+pub loop-place-init : goal.loop-place-init
+loop-place-init g c =
+    ap (λ (l : List RouteValue). l ++ map (route_through c.args.area) (ways_of prefix_cmp c.args.candidates.now)) (sym c.in_ok-routes.ensures.items)
+
+pub loop-place-preserved : goal.loop-place-preserved
+loop-place-preserved g c =
+    let through = route_through c.args.area in
+    let routes = c.loop-place.routes.items in
+    let left = map through (ways_of prefix_cmp (drop c.in_ok-next.next.end c.args.candidates.now)) in
+    c.loop-place.invariant
+    ∙ ap (λ (l : List (Net × WayValue)). routes ++ map through l) c.in_ok-next.ensures.way
+    ∙ ap (λ (r : RouteValue). routes ++ r ∷ left) (sym c.route_through.ensures)
+    ∙ sym (append_assoc routes (c.route_through.result ∷ []) left) ∙ ap (λ (l : List RouteValue). l ++ left) (sym c.in_ok-push.ensures.items)
+
+pub returns : goal.returns
+returns g c =
+    let through = route_through c.args.area in
+    let routes = c.loop-place.routes.items in
+    sym (c.loop-place.invariant
+    ∙ ap (λ (l : List (Net × WayValue)). routes ++ map through l) (no_more prefix_cmp c.args.candidates.now c.loop-place.place c.loop-place-test.false)
+    ∙ append-nil routes)

@@ -1,7 +1,0 @@
-use Rattle.std.proofs.Common.{◌≡◌}
-use Rattle.edited_databases.specs.Filled.{with_opaque}
-use Rattle.edited_databases.proofs.filled.add_opaque.Given as goal
-
--- the LSAs so far
-abbrev pub invariant-loop-number : goal.invariant-loop-number
-invariant-loop-number l = l.lsas ≡ with_opaque l.kind l.number l.initial.lsas

@@ -1,3 +1,0 @@
-mod LineParts
-mod SessionParts
-mod ShortLines

@@ -1,9 +1,0 @@
-use Rattle.session_text.proofs.SessionParts.{one_session}
-use Rattle.session_text.proofs.ShortLines.{short_session}
-use Rattle.session_text.proofs.laws.session_laws.Goals as goal
-
-pub returns-clause-one_text : goal.returns-clause-one_text
-returns-clause-one_text c = one_session c.base_laws.ensures.complete c.line_laws.ensures.again
-
-pub returns-clause-short : goal.returns-clause-short
-returns-clause-short c = λ base done undone. short_session base done undone (c.base_laws.ensures.length base)

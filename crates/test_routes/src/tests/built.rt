@@ -1,0 +1,42 @@
+//! Graphs and trees that tests build. These functions have no clauses, so that the prover knows
+//! nothing of what they answer, and the tests are proved soon.
+
+use area_graph::{Graph, GraphFault};
+use lsa_codec::{AreaId, RouterId};
+use lsdb::Database;
+use spf::{Meter, SpfFault, Tree};
+use std::alloc::{Allocator, Global};
+use std::test::*;
+use test_support::{SAMPLE, network_of_three};
+
+/// The graph of area 0.0.0.0.
+pub(super) fn graph_of<A: Allocator + Copy>(alloc: A, dump: &[u8]) -> Result<Graph<A>, Fail> {
+    let database = Database::load(alloc, dump)?;
+    Ok(Graph::build(alloc, &database, AreaId(0))?)
+}
+
+/// The graph of the sample.
+pub(super) fn sample_graph<A: Allocator + Copy>(alloc: A) -> Result<Graph<A>, Fail> {
+    graph_of(alloc, SAMPLE)
+}
+
+/// The graph of the network of three routers.
+pub(super) fn three_graph(alloc: Global) -> Result<Graph, Fail> {
+    graph_of(alloc, &network_of_three(alloc)?)
+}
+
+/// Why the sample has no graph of an area.
+pub(super) fn graph_fault(alloc: Global, area: u32) -> Result<Option<GraphFault>, Fail> {
+    let database = Database::load(alloc, SAMPLE)?;
+    Ok(Graph::build(alloc, &database, AreaId(area)).err())
+}
+
+/// The tree of a router.
+pub(super) fn tree_of<A: Allocator + Copy>(
+    alloc: A,
+    graph: &Graph<A>,
+    root: u32,
+    meter: &mut Meter,
+) -> Result<Tree<A>, SpfFault> {
+    Tree::build(alloc, graph, RouterId(root), meter)
+}

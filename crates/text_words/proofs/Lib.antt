@@ -1,0 +1,8 @@
+pub mod Split
+pub mod Spelled
+pub mod OptionLemmas
+pub mod PartLemmas
+pub mod NumberLemmas
+pub mod HexLemmas
+pub mod AddressLemmas
+pub mod WordLemmas

@@ -1,0 +1,4 @@
+pub mod Options
+pub mod Words
+pub mod Numbers
+pub mod Addresses
