@@ -15,7 +15,7 @@ mod trees;
 
 // What an area gives, and routes.
 mod attached;
-mod best_ways;
+mod best_of_many;
 mod summarized;
 
 // Which entry of an AS boundary router counts.
