@@ -17,12 +17,12 @@ use Rattle.area_graph.specs.Area.{is_router_lsa, used}
 use Rattle.area_graph.proofs.MemberLemmas.{Contains-from_In, In, In-cases, In-left, Some-same, flat_map-In, map-In}
 use Rattle.area_routes.specs.declared.entry.EntryKind.{EntryKind}
 use Rattle.area_routes.specs.declared.entry.EntryKind.TheVariants.{Border, AsbrIntra, AsbrInter}
-use Rattle.area_routes.specs.AreaResults.{area_result}
+use Rattle.area_routes.specs.AreaResults.{area_result, results_of}
 use Rattle.area_routes.specs.Attached.{attached_areas}
 use Rattle.best_ways.specs.Best.{ways_of}
 use Rattle.best_ways.specs.Candidate.{Candidate}
 use Rattle.area_routes.specs.Entries.{bit_b, bit_e, entries_of, entry_by, flags_of, has_bit, reached_entry}
-use Rattle.area_routes.specs.EntriesOnce.{IsSameWay, StandOnce, results_of}
+use Rattle.area_routes.specs.EntriesOnce.{IsSameWay, StandOnce}
 use Rattle.area_routes.specs.Inter.{border_of, by_border, entries_by, entries_of_all, examined, inter_of, network_candidate, announced_network, originator_of, routes_by, same_kind, same_router, usable_metric}
 use Rattle.best_ways.specs.InWords.{AreBestWays}
 use Rattle.area_routes.specs.Reached.{ReachedValue, reached_from}
