@@ -70,8 +70,7 @@ fn of_room(alloc: Global, history: &mut History<&FailingAlloc>) -> Result<Answer
     }
     match answer {
         Ok(()) => Ok(Some(Vec::new(alloc))),
-        Err(EditFault::OutOfMemory) => Ok(None),
-        Err(fault) => Err(fault)?,
+        Err(AllocError) => Ok(None),
     }
 }
 
