@@ -144,12 +144,7 @@ impl Question for CostsThatStay {
     ) -> Result<bool, Fail> {
         put_costs(planner, 11..21)?;
         failing.set_remaining(0);
-        Ok(
-            stays(planner)
-                && goes_back(planner)
-                && goes_on(planner)
-                && goes_back_at_once(planner),
-        )
+        Ok(stays(planner) && goes_back(planner) && goes_on(planner) && goes_back_at_once(planner))
     }
 }
 
