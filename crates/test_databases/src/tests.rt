@@ -9,11 +9,13 @@ mod support;
 // LSAs, and what they speak of.
 mod metrics;
 mod prefixes;
+mod samples;
 mod texts;
 mod views;
 
 // Databases.
 mod bases;
+mod dumps;
 mod filters;
 mod noted;
 mod slots;
@@ -25,7 +27,6 @@ mod lines;
 mod changes;
 mod edited;
 mod growths;
-mod limits;
 mod nets;
 mod records;
 mod refreshes;

@@ -1,6 +1,7 @@
 //! What planners do, on small networks, and the lines of saved sessions.
 
 // What is called.
+mod acts;
 mod calls;
 
 // Planners.

@@ -6,7 +6,8 @@
 //! makes, by definitions of its own, and how many bytes the readers and writers move. How
 //! [`dump_of_text`] reads the text of a database is only tested.
 //!
-//! [`growths_of`] makes a call with each number of growths that is too few for it.
+//! [`growths_of`] makes a call with each number of growths that is too few for it, and
+//! [`first_wrong`] each call of a list.
 #![tactic(auto)]
 
 // LSAs and dumps.
@@ -33,5 +34,5 @@ pub use link::{RouterLink, to_network, to_router, to_stub};
 pub use list::{LsaList, dump_of};
 pub use lsa::Header;
 pub use network_bytes::NETWORK;
-pub use refusals::{Answer, FallibleCall, Outcome, growths_of};
+pub use refusals::{Answer, FallibleCall, Outcome, first_wrong, growths_of, growths_or_wrong};
 pub use text::{TextFault, dump_of_text};

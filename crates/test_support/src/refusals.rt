@@ -80,28 +80,67 @@ const MANY: u64 = 10_000;
 
 /// The number of growths with which a call answers as with ample memory. With fewer, it reports
 /// that memory ran out, what it was lent is as before, and the same call then answers as with ample
-/// memory. Where the call may be done already, what it was lent may also be as after the call.
+/// memory. Where the call may be done already, what it was lent may also be as after the call. If it
+/// behaves otherwise, or reports that memory ran out with each number of growths below 10,000, the
+/// inner `Err` says how. No clause can state this.
 ///
 /// # Errors
 ///
-/// The call behaves otherwise, or reports that memory ran out with each number of growths below
-/// 10,000. No clause can state this.
-pub fn growths_of<G: FallibleCall>(alloc: Global, call: &G) -> Result<u64, Fail>
-    ensures { IfOk result (λ growths. growths < 10000) }
+/// The call fails for another reason.
+pub fn growths_or_wrong<G: FallibleCall>(
+    alloc: Global,
+    call: &G,
+) -> Result<Result<u64, &'static str>, Fail>
+    ensures { IfOk result (λ found. IfOk found (λ growths. growths < 10000)) }
 {
     let ample = outcome_with(alloc, call, u64::MAX)?;
     for growths in 0..MANY {
         let outcome = outcome_with(alloc, call, growths)?;
         if outcome.first.is_some() {
-            return if outcome.first == ample.first && outcome.between == ample.between {
+            let same = outcome.first == ample.first && outcome.between == ample.between;
+            return Ok(if same {
                 Ok(growths)
             } else {
-                Err("another answer")?
-            };
+                Err("another answer")
+            });
         }
         if let Some(wrong) = wrong_refusal(call, &outcome, &ample) {
-            return Err(wrong)?;
+            return Ok(Err(wrong));
         }
     }
-    Err("no answer with 10,000 growths")?
+    Ok(Err("no answer with 10,000 growths"))
+}
+
+/// The same number, where the call behaves so.
+///
+/// # Errors
+///
+/// The call behaves otherwise, or fails for another reason.
+pub fn growths_of<G: FallibleCall>(alloc: Global, call: &G) -> Result<u64, Fail>
+    ensures { IfOk result (λ growths. growths < 10000) }
+{
+    match growths_or_wrong(alloc, call)? {
+        Ok(growths) => Ok(growths),
+        Err(wrong) => Err(wrong)?,
+    }
+}
+
+/// The place of the first call of a list that asks for no growth or behaves otherwise, and how; or
+/// `None`, where each asks for growths and behaves as [`growths_or_wrong`] says.
+///
+/// # Errors
+///
+/// A call fails for another reason.
+pub fn first_wrong<G: FallibleCall>(
+    alloc: Global,
+    calls: &[G],
+) -> Result<Option<(usize, &'static str)>, Fail> {
+    for (place, call) in calls.iter().enumerate() {
+        match growths_or_wrong(alloc, call)? {
+            Ok(growths) if 0 < growths => {}
+            Ok(_) => return Ok(Some((place, "no growth"))),
+            Err(wrong) => return Ok(Some((place, wrong))),
+        }
+    }
+    Ok(None)
 }

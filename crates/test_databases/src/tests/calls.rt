@@ -1,15 +1,16 @@
 //! Calls that answer something new: each of their growths refused in turn.
 
 use super::nets::{NETS, edit_of};
+use super::samples::SUMMARY;
 use edit_script::{Edit, print};
 use lsa_codec::{Addr, Lsa, LsaFault, MakeFault, Prefix, RouterId};
 use lsdb::{Database, DumpFault, DumpFaultKind};
 use std::alloc::{AllocError, Global};
 use std::test::*;
-use test_support::{Answer, FailingAlloc, FallibleCall, Outcome, growths_of};
+use test_support::{Answer, FailingAlloc, FallibleCall, Outcome, first_wrong};
 
 /// What is called.
-#[derive(Clone, Copy, Debug)]
+#[derive(Clone, Copy)]
 enum Call {
     Decode,
     CopyLsa,
@@ -53,12 +54,6 @@ const ROUTER: &[u8] = &[
     0x00, 0x01, 0x02, 0x01, 0x01, 0x01, 0x01, 0x01, 0x01, 0x01, 0x01, 0x01, 0x80, 0x00, 0x00, 0x01,
     0x36, 0xbe, 0x00, 0x30, 0x00, 0x00, 0x00, 0x02, 0x02, 0x02, 0x02, 0x02, 0x0a, 0x00, 0x00, 0x01,
     0x01, 0x00, 0x00, 0x0a, 0x0a, 0x05, 0x00, 0x03, 0x0a, 0x05, 0x00, 0x01, 0x02, 0x00, 0x00, 0x0a,
-];
-
-/// A summary-LSA of 10.8.0.0/16 with metric 7.
-const SUMMARY: &[u8] = &[
-    0x00, 0x01, 0x02, 0x03, 0x0a, 0x08, 0x00, 0x00, 0x02, 0x02, 0x02, 0x02, 0x80, 0x00, 0x00, 0x01,
-    0x92, 0xa9, 0x00, 0x1c, 0xff, 0xff, 0x00, 0x00, 0x00, 0x00, 0x00, 0x07,
 ];
 
 /// The base of a session: an area without LSAs.
@@ -225,22 +220,13 @@ fn outcome_on<'a>(
 }
 
 impl FallibleCall for Call {
-    fn outcome(
-        &self,
-        alloc: Global,
-        failing: &FailingAlloc,
-        growths: u64,
-    ) -> Result<Outcome, Fail> {
-        let lent = lend(failing)?;
-        outcome_on(alloc, failing, &lent, *self, growths)
+    fn outcome(&self, alloc: Global, failing: &FailingAlloc, left: u64) -> Result<Outcome, Fail> {
+        outcome_on(alloc, failing, &lend(failing)?, *self, left)
     }
 }
 
 #[test]
 fn each_growth_of_a_call_refused(rt: HostRuntime) -> Result<(), Fail> {
-    for call in CALLS {
-        let growths = growths_of(rt.alloc(), call)?;
-        assert!(rt; 0 < growths, "{call:?}");
-    }
+    assert_eq!(rt; first_wrong(rt.alloc(), CALLS)?, None);
     Ok(())
 }

@@ -1,75 +1,76 @@
 //! The one LSA that the last edit, or taking one back, has changed.
 
-ghost use Rattle.edit_history.specs.Journal.{Links};
-
 use super::edited::{back, edited};
 use super::nets::NETS;
-use edit_history::{Change, History, Moved};
-use lsdb::Database;
+use edit_history::{Change, Moved};
 use std::alloc::Global;
 use std::test::*;
 
-/// The section and the index of the slot that changed, and the bytes of the LSA that stood there.
-type Seen<'a> = Option<(usize, usize, &'a [u8])>;
+/// The router-LSA of 1.1.1.1 in `NETS`.
+const LOADED: &[u8] = &[
+    0x00, 0x01, 0x02, 0x01, 0x01, 0x01, 0x01, 0x01, 0x01, 0x01, 0x01, 0x01, 0x80, 0x00, 0x00, 0x01,
+    0xc4, 0xe7, 0x00, 0x48, 0x00, 0x00, 0x00, 0x04, 0x02, 0x02, 0x02, 0x02, 0x0a, 0x00, 0x00, 0x01,
+    0x01, 0x00, 0x00, 0x0a, 0x02, 0x02, 0x02, 0x02, 0x0a, 0x00, 0x01, 0x01, 0x01, 0x00, 0x00, 0x0a,
+    0x0a, 0x01, 0x00, 0x00, 0xff, 0xff, 0x00, 0x00, 0x03, 0x00, 0x00, 0x01, 0x0a, 0x05, 0x00, 0x03,
+    0x0a, 0x05, 0x00, 0x01, 0x02, 0x00, 0x00, 0x0a,
+];
 
-fn seen<'a>(change: Option<Change<'a>>) -> Seen<'a> {
-    let Change { slot, before } = change?;
-    Some((slot.section, slot.index, before.bytes()))
+/// The same with another metric of its last link.
+const EDITED: &[u8] = &[
+    0x00, 0x01, 0x02, 0x01, 0x01, 0x01, 0x01, 0x01, 0x01, 0x01, 0x01, 0x01, 0x80, 0x00, 0x00, 0x01,
+    0x22, 0x8d, 0x00, 0x48, 0x00, 0x00, 0x00, 0x04, 0x02, 0x02, 0x02, 0x02, 0x0a, 0x00, 0x00, 0x01,
+    0x01, 0x00, 0x00, 0x0a, 0x02, 0x02, 0x02, 0x02, 0x0a, 0x00, 0x01, 0x01, 0x01, 0x00, 0x00, 0x0a,
+    0x0a, 0x01, 0x00, 0x00, 0xff, 0xff, 0x00, 0x00, 0x03, 0x00, 0x00, 0x01, 0x0a, 0x05, 0x00, 0x03,
+    0x0a, 0x05, 0x00, 0x01, 0x02, 0x00, 0x00, 0x07,
+];
+
+/// The cost of the link of 1.1.1.1 to the network.
+const COST: &str = "cost 0.0.0.0 1.1.1.1 4 7";
+
+/// An edit of two LSAs.
+const FAIL_LINK: &str = "fail-link 0.0.0.0 2.2.2.2 1.1.1.1";
+
+/// Edits of `NETS`, how many edits are then taken back, the LSA that the last done edit is reported
+/// to have changed, and the one that the first undone edit is.
+const CHANGES: &[(&str, usize, Option<&[u8]>, Option<&[u8]>)] = &[
+    (COST, 0, Some(LOADED), None),
+    (COST, 1, None, Some(EDITED)),
+    (FAIL_LINK, 0, None, None),
+    (FAIL_LINK, 1, None, None),
+];
+
+/// Whether a change is reported at the first slot of the backbone, of an LSA with these bytes; or
+/// none, where there are no bytes.
+fn is_change_so(change: Option<Change<'_>>, lsa: Option<&[u8]>) -> bool {
+    match change {
+        Some(Change { slot, before }) => {
+            (slot.section, slot.index) == (0, 0) && Some(before.bytes()) == lsa
+        }
+        None => lsa.is_none(),
+    }
 }
 
-/// The changes of the last done edit and of the first undone one.
-fn changes(history: &History) -> (Seen<'_>, Seen<'_>) {
-    (
-        seen(history.one_change(Moved::On(1))),
-        seen(history.one_change(Moved::Back(1))),
+/// Whether these changes are reported after an edit, when this number of edits is taken back.
+fn are_reported(
+    alloc: Global,
+    line: &str,
+    count: usize,
+    last: Option<&[u8]>,
+    next: Option<&[u8]>,
+) -> Result<bool, Fail> {
+    let (mut database, mut history) = edited(alloc, NETS, &[line])?;
+    back(&mut database, &mut history, count)?;
+    Ok(
+        is_change_so(history.one_change(Moved::On(1)), last)
+            && is_change_so(history.one_change(Moved::Back(1)), next),
     )
 }
 
-/// The router-LSA of 1.1.1.1 in `NETS`.
-fn loaded_lsa() -> Option<&'static [u8]> {
-    NETS.get(13..85)
-}
-
-/// Whether the last edit is reported to have changed the router-LSA of 1.1.1.1, and no other one
-/// is.
-fn reports_the_last(history: &History) -> bool {
-    let (last, next) = changes(history);
-    last == loaded_lsa().map(|lsa| (0, 0, lsa)) && next.is_none()
-}
-
-/// Whether the edit that was taken back is reported to have left the router-LSA of 1.1.1.1 with
-/// another metric, and no other one is.
-fn reports_the_next(history: &History) -> bool {
-    let (last, next) = changes(history);
-    let Some((0, 0, edited)) = next else {
-        return false;
-    };
-    last.is_none() && edited.len() == 72 && edited.get(68..) == Some(&[2, 0, 0, 7])
-}
-
-/// Whether a cost of the link of 1.1.1.1 to the network is reported while it is done, and when it
-/// is taken back.
-fn reports_a_cost(alloc: Global) -> Result<bool, Fail> {
-    let (mut database, mut history) = edited(alloc, NETS, &["cost 0.0.0.0 1.1.1.1 4 7"])?;
-    let reported = reports_the_last(&history);
-    back(&mut database, &mut history, 1)?;
-    Ok(reported && reports_the_next(&history))
-}
-
 #[test]
-fn reports_the_lsa_that_an_edit_changed(rt: HostRuntime) -> Result<(), Fail> {
-    assert!(rt; reports_a_cost(rt.alloc())?);
-    Ok(())
-}
-
-/// Whether an edit of two LSAs is reported to have changed no one LSA.
-fn reports_none_of_two(alloc: Global) -> Result<bool, Fail> {
-    let (_database, history) = edited(alloc, NETS, &["fail-link 0.0.0.0 2.2.2.2 1.1.1.1"])?;
-    Ok(changes(&history) == (None, None))
-}
-
-#[test]
-fn reports_none_of_two_lsas(rt: HostRuntime) -> Result<(), Fail> {
-    assert!(rt; reports_none_of_two(rt.alloc())?);
+fn reports_the_one_lsa_that_an_edit_changed(rt: HostRuntime) -> Result<(), Fail> {
+    for (line, count, last, next) in CHANGES {
+        let reported = are_reported(rt.alloc(), line, *count, *last, *next)?;
+        assert!(rt; reported, "{line}, {count} taken back");
+    }
     Ok(())
 }

@@ -1,204 +1,185 @@
-//! Growths: each refused in turn, and how many an edit asks for.
+//! Growths: each refused in turn, and how many a change of a database or a history asks for.
 
-use super::edited::{apply_and_push, edited};
-use super::nets::{BACKBONE, NETS, TEN_EDITS, edit_of, is_after};
-use crate::filled::area_of;
+use super::dumps::{Dump, bytes_of};
+use super::nets::{BACKBONE, edit_of};
+use super::records::EDITS;
 use edit_history::{EditFault, History, apply};
-use edit_script::Edit;
 use lsdb::{Database, SlotFault};
-use std::alloc::{Allocator, Global};
+use std::alloc::{AllocError, Global};
 use std::test::*;
-use test_support::FailingAlloc;
+use test_support::{Answer, FailingAlloc, FallibleCall, Outcome, growths_or_wrong};
 
-/// More growths than anything here asks for.
-const MANY: u64 = 100;
-
-/// How many growths it takes to load a database, and to carry an edit of it out.
+/// A change.
 #[derive(Clone, Copy)]
-pub(super) struct Growths {
-    pub(super) loading: u64,
-    pub(super) editing: u64,
+enum Change {
+    /// The edit of a line is carried out.
+    Edit(&'static str),
+    /// A slot is opened at the end of the backbone.
+    Slot,
+    /// The database is copied, and the copy is left.
+    Copy,
+    /// A history without edits gets room for a record.
+    Room,
 }
 
-/// The growths of a dump and of an edit of its database.
-pub(super) fn growths_of(alloc: Global, dump: &[u8], edit: &Edit) -> Result<Growths, Fail> {
-    let counted = FailingAlloc::new(alloc, u64::MAX);
-    let mut database = Database::load(&counted, dump)?;
-    let loaded = counted.remaining();
-    let _record = apply(&mut database, edit)?;
-    Ok(Growths {
-        loading: u64::MAX - loaded,
-        editing: loaded.saturating_sub(counted.remaining()),
+/// A change of the database of a dump, or of a history of it.
+#[derive(Clone, Copy)]
+struct Case {
+    dump: Dump,
+    change: Change,
+}
+
+/// The answer that is the dump of a database.
+fn of_dump(
+    alloc: Global,
+    failing: &FailingAlloc,
+    database: &Database<&FailingAlloc>,
+) -> Result<Answer, Fail> {
+    failing.set_remaining(u64::MAX);
+    Ok(Some(Vec::from_slice(alloc, &database.dump()?)?))
+}
+
+/// The answer that is the database after the edit of a line.
+fn of_edit(
+    alloc: Global,
+    failing: &FailingAlloc,
+    database: &mut Database<&FailingAlloc>,
+    line: &str,
+) -> Result<Answer, Fail> {
+    match apply(database, &edit_of(line)?) {
+        Ok(_record) => of_dump(alloc, failing, database),
+        Err(EditFault::OutOfMemory) => Ok(None),
+        Err(fault) => Err(fault)?,
+    }
+}
+
+/// The answer that is the index of a slot that is opened.
+fn of_slot(alloc: Global, database: &mut Database<&FailingAlloc>) -> Result<Answer, Fail> {
+    match database.open_slot(BACKBONE) {
+        Ok(slot) => Ok(Some(Vec::from_slice(alloc, &slot.index.to_be_bytes())?)),
+        Err(SlotFault::OutOfMemory) => Ok(None),
+        Err(fault) => Err(fault)?,
+    }
+}
+
+/// The answer that is nothing, where a history without edits has room.
+fn of_room(alloc: Global, history: &mut History<&FailingAlloc>) -> Result<Answer, Fail> {
+    let answer = history.reserve();
+    if history.done() != 0 || history.undone() != 0 {
+        return Err("the history has changed")?;
+    }
+    match answer {
+        Ok(()) => Ok(Some(Vec::new(alloc))),
+        Err(AllocError) => Ok(None),
+    }
+}
+
+/// What a change answers.
+fn answer(
+    alloc: Global,
+    failing: &FailingAlloc,
+    database: &mut Database<&FailingAlloc>,
+    history: &mut History<&FailingAlloc>,
+    change: Change,
+) -> Result<Answer, Fail> {
+    match change {
+        Change::Edit(line) => of_edit(alloc, failing, database, line),
+        Change::Slot => of_slot(alloc, database),
+        Change::Copy => match database.clone_of() {
+            Ok(copy) => of_dump(alloc, failing, &copy),
+            Err(AllocError) => Ok(None),
+        },
+        Change::Room => of_room(alloc, history),
+    }
+}
+
+/// What is seen of a change with this number of growths, and, where it is refused, of the same
+/// change with ample memory.
+fn outcome_on(
+    alloc: Global,
+    failing: &FailingAlloc,
+    database: &mut Database<&FailingAlloc>,
+    history: &mut History<&FailingAlloc>,
+    change: Change,
+    growths: u64,
+) -> Result<Outcome, Fail> {
+    let before = Vec::from_slice(alloc, &database.dump()?)?;
+    failing.set_remaining(growths);
+    let first = answer(alloc, failing, database, history, change)?;
+    failing.set_remaining(u64::MAX);
+    let between = Vec::from_slice(alloc, &database.dump()?)?;
+    let then = if first.is_some() {
+        None
+    } else {
+        answer(alloc, failing, database, history, change)?
+    };
+    Ok(Outcome {
+        first,
+        then,
+        before,
+        between,
     })
 }
 
-/// Whether an edit of `NETS` is refused so with this many growths, and changes nothing.
-pub(super) fn is_refused_with(
-    alloc: Global,
-    growths: u64,
-    edit: &Edit,
-    fault: EditFault,
-) -> Result<bool, Fail> {
-    let failing = FailingAlloc::new(alloc, growths);
-    let mut database = Database::load(&failing, NETS)?;
-    let refusal = apply(&mut database, edit).err();
-    Ok(refusal == Some(fault) && is_after(alloc, &database, &[])?)
-}
-
-/// Whether an edit of a line is refused for want of memory with this number of growths, changes
-/// nothing, and is then carried out with ample memory.
-fn is_refused_and_then_done<A: Allocator + Copy>(
-    alloc: Global,
-    failing: &FailingAlloc,
-    database: &mut Database<A>,
-    growths: u64,
-    line: &str,
-) -> Result<bool, Fail> {
-    let edit = edit_of(line)?;
-    failing.set_remaining(growths);
-    let refusal = apply(database, &edit).err();
-    failing.set_remaining(u64::MAX);
-    let stays = refusal == Some(EditFault::OutOfMemory) && is_after(alloc, database, &[])?;
-    let _record = apply(database, &edit)?;
-    Ok(stays && is_after(alloc, database, &[line])?)
-}
-
-/// The same of an edit of `NETS`.
-fn goes_on_with(alloc: Global, growths: u64, line: &str) -> Result<bool, Fail> {
-    let failing = FailingAlloc::new(alloc, u64::MAX);
-    let mut database = Database::load(&failing, NETS)?;
-    is_refused_and_then_done(alloc, &failing, &mut database, growths, line)
-}
-
-/// Whether an edit asks for few growths, and the refusal of each in turn leaves the database as it
-/// was, for the edit to be carried out.
-fn refuses_growths(alloc: Global, line: &str) -> Result<bool, Fail> {
-    let growths = growths_of(alloc, NETS, &edit_of(line)?)?;
-    for left in 0..growths.editing {
-        if !goes_on_with(alloc, left, line)? {
-            return Ok(false);
-        }
+impl FallibleCall for Case {
+    fn outcome(&self, alloc: Global, failing: &FailingAlloc, left: u64) -> Result<Outcome, Fail> {
+        let dump = bytes_of(alloc, self.dump)?;
+        let mut database = Database::load(failing, &dump)?;
+        let mut history = History::new(failing);
+        outcome_on(
+            alloc,
+            failing,
+            &mut database,
+            &mut history,
+            self.change,
+            left,
+        )
     }
-    Ok(0 < growths.editing && growths.editing <= 16)
 }
+
+/// What is wrong with a change that asks for at least and at most these numbers of growths, where
+/// the refusal of each in turn is to change nothing; empty, where nothing is.
+fn wrong_growths(alloc: Global, case: Case, least: u64, most: u64) -> Result<&'static str, Fail> {
+    Ok(match growths_or_wrong(alloc, &case)? {
+        Ok(growths) if least <= growths && growths <= most => "",
+        Ok(_) => "another number of growths",
+        Err(wrong) => wrong,
+    })
+}
+
+#[test]
+fn refused_growths_of_edits_change_nothing(rt: HostRuntime) -> Result<(), Fail> {
+    for (line, _, _, _) in EDITS {
+        let (dump, change) = (Dump::Nets, Change::Edit(*line));
+        let wrong = wrong_growths(rt.alloc(), Case { dump, change }, 1, 16)?;
+        assert_eq!(rt; wrong, "", "{line}");
+    }
+    Ok(())
+}
+
+/// A cost in an area of a hundred LSAs.
+const COST: Change = Change::Edit("cost 0.0.0.0 1.1.1.1 1 7");
+
+/// Dumps and changes, and at least and at most how many growths each asks for. A list of LSAs that
+/// was loaded has room for a power of two, and each of its three indexes and the list of its filters
+/// for all of them. A cost and the room for its record together ask for 16 growths at most, and a
+/// copy for more.
+const CHANGES: &[(Dump, Change, u64, u64)] = &[
+    (Dump::Stale, Change::Edit("refresh"), 1, 10_000),
+    (Dump::Area(7), Change::Slot, 4, 4),
+    (Dump::Area(8), Change::Slot, 5, 5),
+    (Dump::Area(16), Change::Slot, 5, 5),
+    (Dump::Nets, Change::Room, 1, 1),
+    (Dump::Area(100), COST, 1, 15),
+    (Dump::Area(100), Change::Copy, 100, 10_000),
+];
 
 #[test]
 fn refused_growths_change_nothing(rt: HostRuntime) -> Result<(), Fail> {
-    for line in TEN_EDITS {
-        assert!(rt; refuses_growths(rt.alloc(), line)?, "{line}");
+    for (number, (dump, change, least, most)) in CHANGES.iter().enumerate() {
+        let (dump, change) = (*dump, *change);
+        let wrong = wrong_growths(rt.alloc(), Case { dump, change }, *least, *most)?;
+        assert_eq!(rt; wrong, "", "row {number}");
     }
-    assert!(rt; refuses_growths(rt.alloc(), "fail-router 2.2.2.2")?);
-    Ok(())
-}
-
-/// Whether a slot is opened at the end of the backbone with this number of growths. Where none is,
-/// the database stays that of its dump, and the same call then opens it with ample memory.
-fn is_opened<A: Allocator + Copy>(
-    failing: &FailingAlloc,
-    database: &mut Database<A>,
-    dump: &[u8],
-    growths: u64,
-) -> Result<bool, Fail> {
-    failing.set_remaining(growths);
-    let refusal = database.open_slot(BACKBONE).err();
-    failing.set_remaining(u64::MAX);
-    if database.dump()?.as_slice() != dump {
-        return Err("the database has changed")?;
-    }
-    if refusal != Some(SlotFault::OutOfMemory) {
-        return Ok(true);
-    }
-    let _slot = database.open_slot(BACKBONE)?;
-    Ok(false)
-}
-
-/// The same of the database of the dump.
-fn is_opened_with(alloc: Global, dump: &[u8], growths: u64) -> Result<bool, Fail> {
-    let failing = FailingAlloc::new(alloc, u64::MAX);
-    let mut database = Database::load(&failing, dump)?;
-    is_opened(&failing, &mut database, dump, growths)
-}
-
-/// How many growths it takes to open a slot at the end of the backbone of a dump.
-fn growths_of_opening(alloc: Global, dump: &[u8]) -> Result<u64, Fail> {
-    for growths in 0..MANY {
-        if is_opened_with(alloc, dump, growths)? {
-            return Ok(growths);
-        }
-    }
-    Err("a slot")?
-}
-
-/// A list of LSAs that was loaded has room for a power of two, and each of its three indexes and
-/// the list of its filters for all of them.
-#[test]
-fn a_refused_slot_changes_nothing(rt: HostRuntime) -> Result<(), Fail> {
-    for (lsas, growths) in [(7, 4), (8, 5), (16, 5)] {
-        let dump = area_of(rt.alloc(), lsas)?;
-        assert_eq!(rt;
-            growths_of_opening(rt.alloc(), &dump)?,
-            growths,
-            "{lsas} LSAs"
-        );
-    }
-    Ok(())
-}
-
-/// How many growths the room for a first record takes. With fewer there is none, and the same call
-/// then makes it.
-fn growths_of_room(alloc: Global) -> Result<u64, Fail> {
-    for growths in 0..MANY {
-        let failing = FailingAlloc::new(alloc, u64::MAX);
-        let mut history = History::new(&failing);
-        failing.set_remaining(growths);
-        let refused = history.reserve().is_err();
-        if !refused {
-            return Ok(growths);
-        }
-        if history.done() != 0 || history.undone() != 0 || failing.remaining() != 0 {
-            return Err("the history has changed")?;
-        }
-        failing.set_remaining(u64::MAX);
-        history.reserve()?;
-    }
-    Err("room")?
-}
-
-#[test]
-fn refused_room_changes_nothing(rt: HostRuntime) -> Result<(), Fail> {
-    assert_eq!(rt; growths_of_room(rt.alloc())?, 1);
-    Ok(())
-}
-
-/// How many growths a cost asks for, with the room for its record.
-fn growths_of_cost(alloc: Global, dump: &[u8]) -> Result<u64, Fail> {
-    let edit = edit_of("cost 0.0.0.0 1.1.1.1 1 7")?;
-    let counted = FailingAlloc::new(alloc, u64::MAX);
-    let (mut database, mut history) = edited(&counted, dump, &[])?;
-    let loaded = counted.remaining();
-    apply_and_push(&mut database, &mut history, &edit)?;
-    Ok(loaded.saturating_sub(counted.remaining()))
-}
-
-/// How many LSAs the backbone has, and how many growths a copy of the database asks for.
-fn growths_of_copy(alloc: Global, dump: &[u8]) -> Result<(usize, u64), Fail> {
-    let counted = FailingAlloc::new(alloc, u64::MAX);
-    let database = Database::load(&counted, dump)?;
-    let loaded = counted.remaining();
-    let _copy = database.clone_of()?;
-    Ok((
-        database.count(BACKBONE),
-        loaded.saturating_sub(counted.remaining()),
-    ))
-}
-
-#[test]
-fn a_cost_among_a_hundred_lsas_grows_little(rt: HostRuntime) -> Result<(), Fail> {
-    let dump = area_of(rt.alloc(), 100)?;
-    let growths = growths_of_cost(rt.alloc(), &dump)?;
-    assert!(rt; 0 < growths && growths <= 16, "{growths}");
-    let (lsas, growths) = growths_of_copy(rt.alloc(), &dump)?;
-    assert_eq!(rt; lsas, 100);
-    assert!(rt; growths > 16, "{growths}");
     Ok(())
 }

@@ -95,8 +95,8 @@ fn printed(alloc: Global, line: &str) -> Result<String, Fail> {
 #[test]
 fn reads_edits_and_prints_them(rt: HostRuntime) -> Result<(), Fail> {
     for (line, said) in EDITS {
-        assert_eq!(rt; meaning(rt.alloc(), line)?.as_str(), *said);
-        assert_eq!(rt; printed(rt.alloc(), line)?.as_str(), *line);
+        assert_eq!(rt; meaning(rt.alloc(), line)?.as_str(), *said, "{line}");
+        assert_eq!(rt; printed(rt.alloc(), line)?.as_str(), *line, "{line}");
     }
     Ok(())
 }

@@ -1,14 +1,10 @@
-//! `refresh`: how many LSAs it rewrites, and each of its growths refused.
+//! `refresh`: how many LSAs it rewrites.
 
-use super::growths::growths_of;
-use super::nets::{BACKBONE, edit_of};
-use crate::edited::is_after;
-use edit_history::{EditFault, apply};
-use lsa_codec::AreaId;
-use lsdb::{Database, Section};
-use std::alloc::{Allocator, Global};
+use super::nets::edit_of;
+use edit_history::apply;
+use lsdb::Database;
+use std::alloc::AllocError;
 use std::test::*;
-use test_support::FailingAlloc;
 
 /// Area 0.0.0.0: 1.1.1.1 (bit E) with links to 2.2.2.2 of cost 5 and to 4.4.4.4 of cost 3, and a
 /// stub link for 10.1.0.0/16 of cost 2; the links back; a summary-LSA of 2.2.2.2 for 10.3.0.0/16.
@@ -16,7 +12,7 @@ use test_support::FailingAlloc;
 /// of cost 1; summary-LSAs of 2.2.2.2 for 10.1.0.0/16 and for the AS boundary router 1.1.1.1.
 /// Area 0.0.0.2: 4.4.4.4, and its summary-LSA for 10.3.0.0/16. Three summary-LSAs are stale, one
 /// in each area; the one for 10.1.0.0/16 is not.
-const STALE: &[u8] = &[
+pub(super) const STALE: &[u8] = &[
     0x4f, 0x53, 0x57, 0x50, 0x01, 0x03, 0x00, 0x00, 0x00, 0x00, 0x00, 0x00, 0x04, 0x00, 0x01, 0x02,
     0x01, 0x01, 0x01, 0x01, 0x01, 0x01, 0x01, 0x01, 0x01, 0x80, 0x00, 0x00, 0x01, 0x07, 0xde, 0x00,
     0x3c, 0x02, 0x00, 0x00, 0x03, 0x02, 0x02, 0x02, 0x02, 0x0a, 0x00, 0x00, 0x01, 0x01, 0x00, 0x00,
@@ -43,60 +39,18 @@ const STALE: &[u8] = &[
     0x22, 0x00, 0x1c, 0xff, 0xff, 0x00, 0x00, 0x00, 0x00, 0x00, 0x13, 0x00, 0x00,
 ];
 
-const SECTIONS: &[Section] = &[
-    BACKBONE,
-    Section::Area(AreaId(1)),
-    Section::Area(AreaId(2)),
-    Section::AsWide,
-];
-
-/// Whether a database has the LSAs of `STALE`.
-fn is_loaded<A: Allocator + Copy>(alloc: Global, database: &Database<A>) -> Result<bool, Fail> {
-    is_after(alloc, database, STALE, &[], SECTIONS)
+/// Whether a database is that of `STALE`.
+fn is_loaded(database: &Database) -> Result<bool, AllocError> {
+    Ok(database.dump()?.as_slice() == STALE)
 }
 
 #[test]
 fn a_refresh_rewrites_three_metrics_and_then_none(rt: HostRuntime) -> Result<(), Fail> {
     let refresh = edit_of("refresh")?;
     let mut database = Database::load(rt.alloc(), STALE)?;
-    assert!(rt; is_loaded(rt.alloc(), &database)?);
-    let record = apply(&mut database, &refresh)?;
-    assert_eq!(rt; record.len(), 3);
-    assert!(rt; !is_loaded(rt.alloc(), &database)?);
-    let record = apply(&mut database, &refresh)?;
-    assert_eq!(rt; record.len(), 0);
-    Ok(())
-}
-
-/// Whether a refresh is refused for want of memory with this many growths, changes nothing, and is
-/// then carried out with ample memory.
-fn is_refused_and_then_done<A: Allocator + Copy>(
-    alloc: Global,
-    failing: &FailingAlloc,
-    database: &mut Database<A>,
-    growths: u64,
-) -> Result<bool, Fail> {
-    let refresh = edit_of("refresh")?;
-    failing.set_remaining(growths);
-    let refusal = apply(database, &refresh).err();
-    failing.set_remaining(u64::MAX);
-    let stays = refusal == Some(EditFault::OutOfMemory) && is_loaded(alloc, database)?;
-    Ok(stays && apply(database, &refresh)?.len() == 3)
-}
-
-/// The same of `STALE`.
-fn is_refused_with(alloc: Global, growths: u64) -> Result<bool, Fail> {
-    let failing = FailingAlloc::new(alloc, u64::MAX);
-    let mut database = Database::load(&failing, STALE)?;
-    is_refused_and_then_done(alloc, &failing, &mut database, growths)
-}
-
-#[test]
-fn each_refused_growth_of_a_refresh_changes_nothing(rt: HostRuntime) -> Result<(), Fail> {
-    let growths = growths_of(rt.alloc(), STALE, &edit_of("refresh")?)?;
-    assert!(rt; 0 < growths.editing);
-    for left in 0..growths.editing {
-        assert!(rt; is_refused_with(rt.alloc(), left)?, "{left}");
-    }
+    assert!(rt; is_loaded(&database)?);
+    assert_eq!(rt; apply(&mut database, &refresh)?.len(), 3);
+    assert!(rt; !is_loaded(&database)?);
+    assert_eq!(rt; apply(&mut database, &refresh)?.len(), 0);
     Ok(())
 }

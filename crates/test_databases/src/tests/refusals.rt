@@ -1,9 +1,13 @@
-//! Refused edits where no memory is left: what an edit is refused for comes before want of memory.
+//! Refused edits where no memory is left: what an edit is refused for comes before want of memory,
+//! also a limit of LSAs.
 
-use super::growths::{growths_of, is_refused_with};
+use super::dumps::{Dump, bytes_of};
 use super::nets::{NETS, edit_of};
-use edit_history::EditFault;
+use edit_history::{EditFault, apply};
+use lsdb::Database;
+use std::alloc::Global;
 use std::test::*;
+use test_support::FailingAlloc;
 
 /// Edits of `NETS`, and what each is refused for.
 const REFUSED: &[(&str, EditFault)] = &[
@@ -63,13 +67,46 @@ const REFUSED: &[(&str, EditFault)] = &[
     ("drop-external 1.1.1.1 10.91.0.0/16", EditFault::NoExternal),
 ];
 
+/// The limits of LSAs: edits of databases that are full, or have room for one LSA, and what each is
+/// refused for.
+const AT_LIMITS: &[(Dump, &str, EditFault)] = &[
+    (Dump::Area(8191), ADD_SUMMARY, EditFault::OutOfMemory),
+    (Dump::Area(8192), ADD_SUMMARY, EditFault::Full),
+    (Dump::AsList(65_534), ADD_EXTERNAL, EditFault::OutOfMemory),
+    (Dump::AsList(65_535), ADD_EXTERNAL, EditFault::Full),
+];
+
+const ADD_SUMMARY: &str = "add-summary 0.0.0.0 2.2.2.2 10.8.0.0/16 7";
+
+const ADD_EXTERNAL: &str = "add-external 2.2.2.2 10.9.0.0/16 2 20 0.0.0.0 0";
+
+/// Whether an edit is refused so where no growth is left, and changes nothing.
+fn is_refused_so(alloc: Global, dump: &[u8], line: &str, fault: EditFault) -> Result<bool, Fail> {
+    let edit = edit_of(line)?;
+    let failing = FailingAlloc::new(alloc, u64::MAX);
+    let mut database = Database::load(&failing, dump)?;
+    failing.set_remaining(0);
+    let refusal = apply(&mut database, &edit).err();
+    failing.set_remaining(u64::MAX);
+    Ok(refusal == Some(fault) && database.dump()?.as_slice() == dump)
+}
+
 #[test]
 fn a_refusal_comes_before_want_of_memory(rt: HostRuntime) -> Result<(), Fail> {
-    let granted = edit_of("cost 0.0.0.0 1.1.1.1 3 7")?;
-    let growths = growths_of(rt.alloc(), NETS, &granted)?;
     for (line, fault) in REFUSED {
-        let refused = is_refused_with(rt.alloc(), growths.loading, &edit_of(line)?, *fault)?;
-        assert!(rt; refused, "{line}");
+        assert!(rt; is_refused_so(rt.alloc(), NETS, line, *fault)?, "{line}");
+    }
+    Ok(())
+}
+
+#[test]
+fn a_limit_comes_before_want_of_memory(rt: HostRuntime) -> Result<(), Fail> {
+    for (number, (dump, line, fault)) in AT_LIMITS.iter().enumerate() {
+        let dump = bytes_of(rt.alloc(), *dump)?;
+        assert!(rt;
+            is_refused_so(rt.alloc(), &dump, line, *fault)?,
+            "row {number}"
+        );
     }
     Ok(())
 }

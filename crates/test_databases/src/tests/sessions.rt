@@ -11,13 +11,6 @@ use std::alloc::{Allocator, Global};
 use std::test::*;
 use test_support::FailingAlloc;
 
-/// How many growths the ten edits take.
-fn growths_of_ten(alloc: Global) -> Result<u64, Fail> {
-    let counted = FailingAlloc::new(alloc, u64::MAX);
-    let _edited = edited(&counted, NETS, TEN_EDITS)?;
-    Ok(u64::MAX - counted.remaining())
-}
-
 /// Whether the ten edits go back and come again, one at a time.
 fn go_one_by_one<A: Allocator + Copy>(
     alloc: Global,
@@ -61,13 +54,13 @@ fn one_more_is_refused<A: Allocator + Copy>(
     Ok(refusal == Some(EditFault::OutOfMemory) && is_after(alloc, database, TEN_EDITS)?)
 }
 
-/// Whether the ten edits are done, undone and redone with the growths that they take alone.
+/// Whether the ten edits, once they are done, are undone and redone where no growth is left.
 fn take_no_memory(alloc: Global) -> Result<bool, Fail> {
-    let failing = FailingAlloc::new(alloc, growths_of_ten(alloc)?);
+    let failing = FailingAlloc::new(alloc, u64::MAX);
     let (mut database, mut history) = edited(&failing, NETS, TEN_EDITS)?;
+    failing.set_remaining(0);
     Ok(
-        failing.remaining() == 0
-            && is_after(alloc, &database, TEN_EDITS)?
+        is_after(alloc, &database, TEN_EDITS)?
             && go_one_by_one(alloc, &mut database, &mut history)?
             && go_at_once(alloc, &mut database, &mut history)?
             && one_more_is_refused(alloc, &mut database, &mut history)?,

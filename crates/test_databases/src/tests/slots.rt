@@ -79,48 +79,36 @@ fn reads_the_areas(rt: HostRuntime) -> Result<(), Fail> {
     Ok(())
 }
 
-/// Sections, their numbers, and where their LSAs stand in `DUMP`.
-const SECTIONS: &[(Section, Option<usize>, &[(usize, usize)])] = &[
-    (BACKBONE, Some(0), &[(13, 49), (49, 97)]),
-    (STUB, Some(1), &[(104, 132)]),
-    (Section::AsWide, Some(2), &[(134, 170)]),
-    (ABSENT, None, &[]),
+/// Sections, their numbers, where their LSAs stand in `DUMP`, and the slot of the router-LSA of
+/// 2.2.2.2 among them.
+const SECTIONS: &[(Section, Option<usize>, &[(usize, usize)], Option<SlotId>)] = &[
+    (
+        BACKBONE,
+        Some(0),
+        &[(13, 49), (49, 97)],
+        Some(SlotId {
+            section: 0,
+            index: 1,
+        }),
+    ),
+    (STUB, Some(1), &[(104, 132)], None),
+    (Section::AsWide, Some(2), &[(134, 170)], None),
+    (ABSENT, None, &[], None),
 ];
 
-/// Whether a section has these LSAs, in this order.
+/// Whether a section has these LSAs, in this order and by these numbers.
 fn has_lsas(database: &Database, section: Section, slots: &[(usize, usize)]) -> bool {
     let mut lsas = database.lsas(section);
-    for (from, to) in slots {
-        if lsas.next().map(|lsa| lsa.bytes()) != DUMP.get(*from..*to) {
+    for (number, (from, to)) in slots.iter().enumerate() {
+        let bytes = DUMP.get(*from..*to);
+        if lsas.next().map(|lsa| lsa.bytes()) != bytes
+            || number >= database.count(section)
+            || Some(database.lsa(section, number).bytes()) != bytes
+        {
             return false;
         }
     }
     lsas.next().is_none() && database.count(section) == slots.len()
-}
-
-#[test]
-fn reads_lsas_in_order(rt: HostRuntime) -> Result<(), Fail> {
-    let database = loaded(rt.alloc())?;
-    for (section, index, slots) in SECTIONS {
-        assert_eq!(rt; database.index_of(*section), *index);
-        assert!(rt; has_lsas(&database, *section, slots));
-    }
-    Ok(())
-}
-
-/// Whether the LSA of that number in a section stands there in `DUMP`.
-fn is_lsa(database: &Database, section: Section, number: usize, from: usize, to: usize) -> bool {
-    number < database.count(section)
-        && Some(database.lsa(section, number).bytes()) == DUMP.get(from..to)
-}
-
-#[test]
-fn reads_lsas_by_number(rt: HostRuntime) -> Result<(), Fail> {
-    let database = loaded(rt.alloc())?;
-    assert!(rt; is_lsa(&database, BACKBONE, 0, 13, 49));
-    assert!(rt; is_lsa(&database, BACKBONE, 1, 49, 97));
-    assert!(rt; !is_lsa(&database, BACKBONE, 2, 49, 97));
-    Ok(())
 }
 
 /// The bytes of the LSA at a slot.
@@ -131,22 +119,15 @@ fn bytes_at(database: &Database, section: usize, index: usize) -> Option<&[u8]> 
 }
 
 #[test]
-fn finds_by_key(rt: HostRuntime) -> Result<(), Fail> {
+fn reads_sections_and_slots(rt: HostRuntime) -> Result<(), Fail> {
     let database = loaded(rt.alloc())?;
-    let slot = SlotId {
-        section: 0,
-        index: 1,
-    };
-    assert_eq!(rt; database.find(BACKBONE, SECOND_ROUTER), Some(slot));
-    assert_eq!(rt; database.find(STUB, SECOND_ROUTER), None);
-    assert_eq!(rt; database.find(ABSENT, SECOND_ROUTER), None);
+    for (number, (section, index, slots, found)) in SECTIONS.iter().enumerate() {
+        assert_eq!(rt; database.index_of(*section), *index, "section {number}");
+        assert!(rt; has_lsas(&database, *section, slots), "section {number}");
+        let slot = database.find(*section, SECOND_ROUTER);
+        assert_eq!(rt; slot, *found, "section {number}");
+    }
     assert_eq!(rt; bytes_at(&database, 0, 1), DUMP.get(49..97));
-    Ok(())
-}
-
-#[test]
-fn has_nothing_at_unknown_slots(rt: HostRuntime) -> Result<(), Fail> {
-    let database = loaded(rt.alloc())?;
     assert!(rt; bytes_at(&database, 0, 2).is_none());
     assert!(rt; bytes_at(&database, 3, 0).is_none());
     Ok(())
@@ -187,20 +168,22 @@ fn opened(database: &mut Database, section: Section) -> Result<(usize, usize, bo
     Ok((slot.section, slot.index, database.get(slot).is_none()))
 }
 
+/// Sections, and the slots that are opened in them.
+const OPENED: &[(Section, Result<(usize, usize, bool), SlotFault>)] = &[
+    (STUB, Ok((1, 1, true))),
+    (ABSENT, Err(SlotFault::NoArea)),
+    (BACKBONE, Ok((0, 2, true))),
+];
+
+/// Empty slots are no LSAs of the database or of a copy of it.
 #[test]
-fn opens_slots(rt: HostRuntime) -> Result<(), Fail> {
+fn opens_slots_and_copies(rt: HostRuntime) -> Result<(), Fail> {
     let mut database = loaded(rt.alloc())?;
-    assert_eq!(rt; opened(&mut database, STUB), Ok((1, 1, true)));
+    for (number, (section, slot)) in OPENED.iter().enumerate() {
+        assert_eq!(rt; opened(&mut database, *section), *slot, "section {number}");
+    }
     assert_eq!(rt; database.count(STUB), 1);
     assert!(rt; is_dumped(&database)?);
-    assert_eq!(rt; opened(&mut database, ABSENT), Err(SlotFault::NoArea));
-    Ok(())
-}
-
-#[test]
-fn copies(rt: HostRuntime) -> Result<(), Fail> {
-    let mut database = loaded(rt.alloc())?;
-    let _slot = database.open_slot(BACKBONE)?;
     let copy = database.clone_of()?;
     assert_eq!(rt; copy.size(), 170);
     assert!(rt; is_dumped(&copy)?);

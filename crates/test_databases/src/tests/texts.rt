@@ -4,175 +4,186 @@ use edit_history::{EditFault, RedoFault, UndoFault};
 use edit_script::ScriptFault;
 use lsa_codec::{Addr, AreaId, Decimal, LsaFault, MakeFault, Metric, Prefix, RouterId};
 use lsdb::{DumpFault, DumpFaultKind, SlotFault};
-use std::alloc::{AllocError, Global};
-use std::fmt::Display;
+use std::alloc::Global;
 use std::test::*;
 
-/// Whether a value is printed so.
-fn is_printed<T: Display>(alloc: Global, value: &T, text: &str) -> Result<bool, AllocError> {
-    let printed = format!(in alloc; "{value}")?;
-    Ok(printed.as_str() == text)
+/// What is printed.
+#[derive(Clone, Copy)]
+enum Shown {
+    /// A number.
+    Number(u64),
+    /// A router ID.
+    Router(u32),
+    /// An area ID.
+    Area(u32),
+    /// An address.
+    Address(u32),
+    /// The prefix of an address and a length.
+    Prefix(u32, u8),
+    /// A metric.
+    Metric(u32),
+    /// A fault of bytes.
+    Lsa(LsaFault),
+    /// A fault of making.
+    Make(MakeFault),
+    /// A fault of a dump at an offset.
+    Dump(usize, DumpFaultKind),
+    /// A fault of slots.
+    Slot(SlotFault),
+    /// A fault of lines.
+    Script(ScriptFault),
+    /// Why an edit is refused.
+    Edit(EditFault),
+    /// Why edits are not taken back.
+    Undo(UndoFault),
+    /// Why edits are not carried out again.
+    Redo(RedoFault),
 }
 
-/// Numbers and their texts.
-const NUMBERS: &[(u64, &str)] = &[
-    (0, "0"),
-    (9, "9"),
-    (10, "10"),
-    (18446744073709551615, "18446744073709551615"),
-];
-
-#[test]
-fn prints_numbers(rt: HostRuntime) -> Result<(), Fail> {
-    for (number, text) in NUMBERS {
-        assert!(rt; is_printed(rt.alloc(), &Decimal(*number), text)?, "{text}");
-    }
-    Ok(())
-}
-
-#[test]
-fn prints_names_and_prefixes(rt: HostRuntime) -> Result<(), Fail> {
-    let prefix = Prefix::new(Addr(0x0a070000), 16).ok_or("a prefix")?;
-    let metric = Metric::new(16777215).ok_or("a metric")?;
-    let alloc = rt.alloc();
-    assert!(rt; is_printed(alloc, &RouterId(0xc0a80009), "192.168.0.9")?);
-    assert!(rt; is_printed(alloc, &AreaId(10), "0.0.0.10")?);
-    assert!(rt; is_printed(alloc, &Addr(0xff640100), "255.100.1.0")?);
-    assert!(rt; is_printed(alloc, &prefix, "10.7.0.0/16")?);
-    assert!(rt; is_printed(alloc, &metric, "16777215")?);
-    Ok(())
-}
-
-/// The faults of bytes, and their names.
-const LSA_FAULTS: &[(LsaFault, &str)] = &[
-    (LsaFault::Truncated, "Truncated"),
-    (LsaFault::Length, "Length"),
-    (LsaFault::BadType, "BadType"),
-    (LsaFault::Body, "Body"),
-    (LsaFault::Checksum, "Checksum"),
-    (LsaFault::Mask, "Mask"),
-    (LsaFault::RouterId, "RouterId"),
-    (LsaFault::ZeroCost, "ZeroCost"),
-    (LsaFault::OutOfMemory, "OutOfMemory"),
-];
-
-#[test]
-fn names_the_faults_of_bytes(rt: HostRuntime) -> Result<(), Fail> {
-    for (fault, text) in LSA_FAULTS {
-        assert!(rt; is_printed(rt.alloc(), fault, text)?, "{text}");
-    }
-    Ok(())
-}
-
-/// The faults of making, and their names.
-const MAKE_FAULTS: &[(MakeFault, &str)] = &[
-    (MakeFault::NoLink, "NoLink"),
-    (MakeFault::ZeroCost, "ZeroCost"),
-    (MakeFault::TooLong, "TooLong"),
-    (MakeFault::OutOfMemory, "OutOfMemory"),
-];
-
-#[test]
-fn names_the_faults_of_making(rt: HostRuntime) -> Result<(), Fail> {
-    for (fault, text) in MAKE_FAULTS {
-        assert!(rt; is_printed(rt.alloc(), fault, text)?, "{text}");
-    }
-    Ok(())
-}
-
-/// Faults of dumps, and how they are shown.
-const DUMP_FAULTS: &[(usize, DumpFaultKind, &str)] = &[
-    (99, DumpFaultKind::TrailingBytes, "L4 TrailingBytes at 99"),
+/// What is printed, the code of a fault of lines or edits, whose name is its text, and the text.
+const TEXTS: &[(Shown, &str, &str)] = &[
+    (Shown::Number(0), "", "0"),
+    (Shown::Number(9), "", "9"),
+    (Shown::Number(10), "", "10"),
     (
-        13,
-        DumpFaultKind::Lsa(LsaFault::ZeroCost),
+        Shown::Number(18446744073709551615),
+        "",
+        "18446744073709551615",
+    ),
+    (Shown::Router(0xc0a80009), "", "192.168.0.9"),
+    (Shown::Area(10), "", "0.0.0.10"),
+    (Shown::Address(0xff640100), "", "255.100.1.0"),
+    (Shown::Prefix(0x0a070000, 16), "", "10.7.0.0/16"),
+    (Shown::Metric(16777215), "", "16777215"),
+    (Shown::Lsa(LsaFault::Truncated), "", "Truncated"),
+    (Shown::Lsa(LsaFault::Length), "", "Length"),
+    (Shown::Lsa(LsaFault::BadType), "", "BadType"),
+    (Shown::Lsa(LsaFault::Body), "", "Body"),
+    (Shown::Lsa(LsaFault::Checksum), "", "Checksum"),
+    (Shown::Lsa(LsaFault::Mask), "", "Mask"),
+    (Shown::Lsa(LsaFault::RouterId), "", "RouterId"),
+    (Shown::Lsa(LsaFault::ZeroCost), "", "ZeroCost"),
+    (Shown::Lsa(LsaFault::OutOfMemory), "", "OutOfMemory"),
+    (Shown::Make(MakeFault::NoLink), "", "NoLink"),
+    (Shown::Make(MakeFault::ZeroCost), "", "ZeroCost"),
+    (Shown::Make(MakeFault::TooLong), "", "TooLong"),
+    (Shown::Make(MakeFault::OutOfMemory), "", "OutOfMemory"),
+    (
+        Shown::Dump(99, DumpFaultKind::TrailingBytes),
+        "",
+        "L4 TrailingBytes at 99",
+    ),
+    (
+        Shown::Dump(13, DumpFaultKind::Lsa(LsaFault::ZeroCost)),
+        "",
         "L9 Lsa ZeroCost at 13",
     ),
-    (129, DumpFaultKind::BadHistory(1), "L15 BadHistory 1 at 129"),
+    (
+        Shown::Dump(129, DumpFaultKind::BadHistory(1)),
+        "",
+        "L15 BadHistory 1 at 129",
+    ),
+    (Shown::Slot(SlotFault::NoArea), "", "NoArea"),
+    (Shown::Slot(SlotFault::OutOfMemory), "", "OutOfMemory"),
+    (Shown::Script(ScriptFault::Empty), "S1", "Empty"),
+    (Shown::Script(ScriptFault::UnknownWord), "S2", "UnknownWord"),
+    (Shown::Script(ScriptFault::MissingWord), "S3", "MissingWord"),
+    (Shown::Script(ScriptFault::ExtraWord), "S4", "ExtraWord"),
+    (Shown::Script(ScriptFault::BadNumber), "S5", "BadNumber"),
+    (Shown::Script(ScriptFault::BadAddress), "S6", "BadAddress"),
+    (Shown::Script(ScriptFault::BadPrefix), "S7", "BadPrefix"),
+    (Shown::Script(ScriptFault::BadBranch), "S8", "BadBranch"),
+    (Shown::Edit(EditFault::NoArea), "E1", "NoArea"),
+    (Shown::Edit(EditFault::NoRouter), "E2", "NoRouter"),
+    (Shown::Edit(EditFault::NoLink), "E3", "NoLink"),
+    (Shown::Edit(EditFault::ZeroCost), "E4", "ZeroCost"),
+    (Shown::Edit(EditFault::SameRouter), "E5", "SameRouter"),
+    (Shown::Edit(EditFault::NoNetwork), "E6", "NoNetwork"),
+    (Shown::Edit(EditFault::NoSummary), "E7", "NoSummary"),
+    (Shown::Edit(EditFault::NoExternal), "E8", "NoExternal"),
+    (Shown::Edit(EditFault::KeyTaken), "E9", "KeyTaken"),
+    (Shown::Edit(EditFault::TooLong), "E10", "TooLong"),
+    (Shown::Edit(EditFault::Full), "E11", "Full"),
+    (Shown::Edit(EditFault::HistoryFull), "E12", "HistoryFull"),
+    (Shown::Edit(EditFault::OutOfMemory), "E13", "OutOfMemory"),
+    (Shown::Undo(UndoFault::NothingToUndo), "U1", "NothingToUndo"),
+    (Shown::Redo(RedoFault::NothingToRedo), "U2", "NothingToRedo"),
 ];
 
+/// The text that is printed.
+fn printed(alloc: Global, shown: Shown) -> Result<String, Fail> {
+    Ok(match shown {
+        Shown::Number(number) => {
+            let number = Decimal(number);
+            format!(in alloc; "{number}")?
+        }
+        Shown::Router(router) => {
+            let router = RouterId(router);
+            format!(in alloc; "{router}")?
+        }
+        Shown::Area(area) => {
+            let area = AreaId(area);
+            format!(in alloc; "{area}")?
+        }
+        Shown::Address(address) => {
+            let address = Addr(address);
+            format!(in alloc; "{address}")?
+        }
+        Shown::Prefix(address, len) => {
+            let prefix = Prefix::new(Addr(address), len).ok_or("a prefix")?;
+            format!(in alloc; "{prefix}")?
+        }
+        Shown::Metric(metric) => {
+            let metric = Metric::new(metric).ok_or("a metric")?;
+            format!(in alloc; "{metric}")?
+        }
+        fault => printed_fault(alloc, fault)?,
+    })
+}
+
+/// The text that is printed of a fault.
+fn printed_fault(alloc: Global, shown: Shown) -> Result<String, Fail> {
+    Ok(match shown {
+        Shown::Lsa(fault) => format!(in alloc; "{fault}")?,
+        Shown::Make(fault) => format!(in alloc; "{fault}")?,
+        Shown::Dump(offset, kind) => {
+            let fault = DumpFault { offset, kind };
+            format!(in alloc; "{fault}")?
+        }
+        Shown::Slot(fault) => format!(in alloc; "{fault}")?,
+        Shown::Script(fault) => format!(in alloc; "{fault}")?,
+        Shown::Edit(fault) => format!(in alloc; "{fault}")?,
+        Shown::Undo(fault) => format!(in alloc; "{fault}")?,
+        Shown::Redo(fault) => format!(in alloc; "{fault}")?,
+        _ => Err("a fault")?,
+    })
+}
+
+/// Whether a fault has this code and this name, or no code where it is empty.
+fn has_code(shown: Shown, code: &str, name: &str) -> bool {
+    match shown {
+        Shown::Script(fault) => fault.code() == code && fault.name() == name,
+        Shown::Edit(fault) => fault.code() == code && fault.name() == name,
+        Shown::Undo(fault) => fault.code() == code && fault.name() == name,
+        Shown::Redo(fault) => fault.code() == code && fault.name() == name,
+        _ => code.is_empty(),
+    }
+}
+
 #[test]
-fn shows_faults(rt: HostRuntime) -> Result<(), Fail> {
-    for (offset, kind, text) in DUMP_FAULTS {
-        let (offset, kind) = (*offset, *kind);
-        let fault = DumpFault { offset, kind };
-        assert!(rt; is_printed(rt.alloc(), &fault, text)?, "{text}");
+fn prints_numbers_names_and_faults(rt: HostRuntime) -> Result<(), Fail> {
+    for (number, (shown, code, text)) in TEXTS.iter().enumerate() {
+        assert_eq!(rt;
+            printed(rt.alloc(), *shown)?.as_str(),
+            *text,
+            "row {number}"
+        );
+        assert!(rt; has_code(*shown, code, text), "row {number}");
     }
     let zero_cost = DumpFaultKind::Lsa(LsaFault::ZeroCost);
     assert_eq!(rt;
         (zero_cost.code(), zero_cost.name()),
         ("L9", "Lsa ZeroCost")
     );
-    Ok(())
-}
-
-/// The faults of slots, and their names.
-const SLOT_FAULTS: &[(SlotFault, &str)] = &[
-    (SlotFault::NoArea, "NoArea"),
-    (SlotFault::OutOfMemory, "OutOfMemory"),
-];
-
-#[test]
-fn names_the_faults_of_slots(rt: HostRuntime) -> Result<(), Fail> {
-    for (fault, text) in SLOT_FAULTS {
-        assert!(rt; is_printed(rt.alloc(), fault, text)?, "{text}");
-    }
-    Ok(())
-}
-
-/// The faults of lines, their codes and their names.
-const SCRIPT_FAULTS: &[(ScriptFault, &str, &str)] = &[
-    (ScriptFault::Empty, "S1", "Empty"),
-    (ScriptFault::UnknownWord, "S2", "UnknownWord"),
-    (ScriptFault::MissingWord, "S3", "MissingWord"),
-    (ScriptFault::ExtraWord, "S4", "ExtraWord"),
-    (ScriptFault::BadNumber, "S5", "BadNumber"),
-    (ScriptFault::BadAddress, "S6", "BadAddress"),
-    (ScriptFault::BadPrefix, "S7", "BadPrefix"),
-    (ScriptFault::BadBranch, "S8", "BadBranch"),
-];
-
-#[test]
-fn names_the_faults_of_lines(rt: HostRuntime) -> Result<(), Fail> {
-    for (fault, code, name) in SCRIPT_FAULTS {
-        assert_eq!(rt; (fault.code(), fault.name()), (*code, *name));
-        assert!(rt; is_printed(rt.alloc(), fault, name)?, "{name}");
-    }
-    Ok(())
-}
-
-/// Why edits are refused: codes and names.
-const EDIT_FAULTS: &[(EditFault, &str, &str)] = &[
-    (EditFault::NoArea, "E1", "NoArea"),
-    (EditFault::NoRouter, "E2", "NoRouter"),
-    (EditFault::NoLink, "E3", "NoLink"),
-    (EditFault::ZeroCost, "E4", "ZeroCost"),
-    (EditFault::SameRouter, "E5", "SameRouter"),
-    (EditFault::NoNetwork, "E6", "NoNetwork"),
-    (EditFault::NoSummary, "E7", "NoSummary"),
-    (EditFault::NoExternal, "E8", "NoExternal"),
-    (EditFault::KeyTaken, "E9", "KeyTaken"),
-    (EditFault::TooLong, "E10", "TooLong"),
-    (EditFault::Full, "E11", "Full"),
-    (EditFault::HistoryFull, "E12", "HistoryFull"),
-    (EditFault::OutOfMemory, "E13", "OutOfMemory"),
-];
-
-#[test]
-fn names_the_faults_of_edits(rt: HostRuntime) -> Result<(), Fail> {
-    for (fault, code, name) in EDIT_FAULTS {
-        assert_eq!(rt; (fault.code(), fault.name()), (*code, *name));
-        assert!(rt; is_printed(rt.alloc(), fault, name)?, "{name}");
-    }
-    Ok(())
-}
-
-#[test]
-fn names_the_faults_of_undo_and_redo(rt: HostRuntime) -> Result<(), Fail> {
-    let (undo, redo) = (UndoFault::NothingToUndo, RedoFault::NothingToRedo);
-    assert_eq!(rt; (undo.code(), undo.name()), ("U1", "NothingToUndo"));
-    assert_eq!(rt; (redo.code(), redo.name()), ("U2", "NothingToRedo"));
-    assert!(rt; is_printed(rt.alloc(), &undo, "NothingToUndo")?);
-    assert!(rt; is_printed(rt.alloc(), &redo, "NothingToRedo")?);
     Ok(())
 }

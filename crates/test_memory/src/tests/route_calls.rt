@@ -23,10 +23,10 @@ use routing_table::{KeptTrees, routers};
 use spf::{Meter, Tree};
 use std::alloc::{AllocError, Global};
 use std::test::*;
-use test_support::{Answer, FailingAlloc, FallibleCall, Outcome, growths_of};
+use test_support::{Answer, FailingAlloc, FallibleCall, Outcome, first_wrong};
 
 /// What is called.
-#[derive(Clone, Copy, Debug)]
+#[derive(Clone, Copy)]
 enum Call {
     Area,
     AreaOfFew,
@@ -283,22 +283,13 @@ fn outcome_on<'a>(
 }
 
 impl FallibleCall for Call {
-    fn outcome(
-        &self,
-        alloc: Global,
-        failing: &FailingAlloc,
-        growths: u64,
-    ) -> Result<Outcome, Fail> {
-        let lent = lend(failing)?;
-        outcome_on(alloc, failing, &lent, *self, growths)
+    fn outcome(&self, alloc: Global, failing: &FailingAlloc, left: u64) -> Result<Outcome, Fail> {
+        outcome_on(alloc, failing, &lend(failing)?, *self, left)
     }
 }
 
 #[test]
 fn each_growth_of_a_call_refused(rt: HostRuntime) -> Result<(), Fail> {
-    for call in CALLS {
-        let growths = growths_of(rt.alloc(), call)?;
-        assert!(rt; 0 < growths, "{call:?}");
-    }
+    assert_eq!(rt; first_wrong(rt.alloc(), CALLS)?, None);
     Ok(())
 }

@@ -12,29 +12,30 @@ const COST: Edit = Edit::Cost {
     metric: 7,
 };
 
-#[test]
-fn reads_the_first_line(rt: HostRuntime) -> Result<(), Fail> {
-    let found = edit_line(rt.alloc(), b"cost 0.0.0.0 1.1.1.1 2 7\nrefresh\n")?;
-    assert_eq!(rt; found, Some((COST, 25)));
-    Ok(())
-}
+/// Bytes, and the length of their first line, where it is that of `COST`: each edit has one spelling
+/// alone.
+const LINES: &[(&[u8], Option<usize>)] = &[
+    (b"cost 0.0.0.0 1.1.1.1 2 7\nrefresh\n", Some(25)),
+    (b"", None),
+    (b"\nrefresh\n", None),
+    (b"refresh", None),
+    (b"refresh \n", None),
+    (b" refresh\n", None),
+    (b"@0 refresh\n", None),
+    (b"refresh\r\n", None),
+    (b"#refresh\n", None),
+    (b"undo 1\n", None),
+    (b"cost 0.0.0.0  1.1.1.1 2 7\n", None),
+];
 
 #[test]
-fn reads_one_spelling_alone(rt: HostRuntime) -> Result<(), Fail> {
-    let lines: &[&[u8]] = &[
-        b"",
-        b"\nrefresh\n",
-        b"refresh",
-        b"refresh \n",
-        b" refresh\n",
-        b"@0 refresh\n",
-        b"refresh\r\n",
-        b"#refresh\n",
-        b"undo 1\n",
-        b"cost 0.0.0.0  1.1.1.1 2 7\n",
-    ];
-    for line in lines {
-        assert_eq!(rt; edit_line(rt.alloc(), *line)?, None);
+fn reads_one_spelling_of_the_first_line_alone(rt: HostRuntime) -> Result<(), Fail> {
+    for (number, (bytes, length)) in LINES.iter().enumerate() {
+        let wanted = match *length {
+            Some(length) => Some((COST, length)),
+            None => None,
+        };
+        assert_eq!(rt; edit_line(rt.alloc(), bytes)?, wanted, "row {number}");
     }
     Ok(())
 }

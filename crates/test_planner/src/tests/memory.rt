@@ -1,9 +1,8 @@
 //! Planners and their memory: growths that are counted, and what comes while growths are refused.
 
-use super::calls::{Question, ask, edit, on_session, redo, undo};
-use super::parts::growths_of_parts;
+use super::acts::{Act, Asks, InTurn, Step, cost, growths_of};
+use super::calls::{Question, ask, edit, redo, undo};
 use edit_history::{EditFault, RedoFault, UndoFault};
-use edit_script::Edit;
 use lsa_codec::{Addr, AreaId, Lsa, Prefix, RouterId};
 use lsdb::Section;
 use recalculate::Planner;
@@ -11,16 +10,6 @@ use std::alloc::{AllocError, Allocator, Global};
 use std::ops::Range;
 use std::test::*;
 use test_support::{FailingAlloc, LsaList, R1, R2, RouterLink, SAMPLE, to_router};
-
-/// The cost of the link of 1.1.1.1 to 2.2.2.2.
-fn cost(metric: u16) -> Edit {
-    Edit::Cost {
-        area: AreaId(0),
-        router: RouterId(R1),
-        link: 1,
-        metric,
-    }
-}
 
 /// Carries costs out.
 fn put_costs(planner: &mut Planner<&FailingAlloc>, metrics: Range<u16>) -> Result<(), Fail> {
@@ -58,193 +47,6 @@ fn star(alloc: Global) -> Result<Vec<u8>, AllocError> {
     area.dump()
 }
 
-/// The growths of a table of 1.1.1.1.
-fn growths_of_table(
-    planner: &mut Planner<&FailingAlloc>,
-    failing: &FailingAlloc,
-) -> Result<u64, Fail> {
-    let before = failing.remaining();
-    let _table = planner.table(RouterId(R1))?;
-    Ok(before.saturating_sub(failing.remaining()))
-}
-
-/// The growths of a table of 1.1.1.1 that the planner caches.
-fn growths_of_cached(
-    planner: &mut Planner<&FailingAlloc>,
-    failing: &FailingAlloc,
-) -> Result<u64, Fail> {
-    let before = failing.remaining();
-    let _table = planner.cached_table(RouterId(R1))?;
-    Ok(before.saturating_sub(failing.remaining()))
-}
-
-/// Whether a cached table that is asked for again takes no growth, and takes some after an edit.
-#[derive(Drop)]
-struct CachedTables;
-
-impl Question for CachedTables {
-    type Found = (bool, bool);
-
-    fn find(
-        &self,
-        planner: &mut Planner<&FailingAlloc>,
-        failing: &FailingAlloc,
-    ) -> Result<(bool, bool), Fail> {
-        let _first = growths_of_cached(planner, failing)?;
-        let again = growths_of_cached(planner, failing)?;
-        edit(planner, &cost(7))?;
-        let after = growths_of_cached(planner, failing)?;
-        Ok((again == 0, after > 0))
-    }
-}
-
-#[test]
-fn a_cached_table_is_kept_until_an_edit(rt: HostRuntime) -> Result<(), Fail> {
-    assert_eq!(rt; ask(rt.alloc(), SAMPLE, &CachedTables)?, (true, true));
-    Ok(())
-}
-
-/// The growths of the second of two tables of 1.1.1.1, those of the calls that make one with a new
-/// tree, and the trees that the two tables calculate.
-#[derive(Drop)]
-struct TwoTables;
-
-impl Question for TwoTables {
-    type Found = (u64, u64, u64);
-
-    fn find(
-        &self,
-        planner: &mut Planner<&FailingAlloc>,
-        failing: &FailingAlloc,
-    ) -> Result<(u64, u64, u64), Fail> {
-        let _first = growths_of_table(planner, failing)?;
-        let second = growths_of_table(planner, failing)?;
-        let with_new_tree = growths_of_parts(failing, planner.database(), RouterId(R1))?;
-        Ok((second, with_new_tree, planner.runs()))
-    }
-}
-
-#[test]
-fn a_second_table_asks_for_fewer_growths(rt: HostRuntime) -> Result<(), Fail> {
-    let star = star(rt.alloc())?;
-    let (second, with_new_tree, runs) = ask(rt.alloc(), &star, &TwoTables)?;
-    assert!(rt;
-        second < with_new_tree,
-        "{second}, and {with_new_tree} with a new tree"
-    );
-    assert_eq!(rt; runs, 1);
-    Ok(())
-}
-
-/// The growths of a table of 1.1.1.1 after an edit.
-fn growths_after(
-    planner: &mut Planner<&FailingAlloc>,
-    failing: &FailingAlloc,
-    change: &Edit,
-) -> Result<u64, Fail> {
-    edit(planner, change)?;
-    growths_of_table(planner, failing)
-}
-
-/// The link of 1.1.1.1 to 2.2.2.2 goes.
-const DROPPED: Edit = Edit::DropLink {
-    area: AreaId(0),
-    router: RouterId(R1),
-    link: 1,
-};
-
-/// The growths of a table after a cost, after the undo of it, and after an edit that drops a
-/// link, and the trees that they and the first table calculate.
-#[derive(Drop)]
-struct TablesAfterEdits;
-
-impl Question for TablesAfterEdits {
-    type Found = ([u64; 3], u64);
-
-    fn find(
-        &self,
-        planner: &mut Planner<&FailingAlloc>,
-        failing: &FailingAlloc,
-    ) -> Result<([u64; 3], u64), Fail> {
-        let _first = growths_of_table(planner, failing)?;
-        let after_cost = growths_after(planner, failing, &cost(7))?;
-        undo(planner, 1)?;
-        let after_undo = growths_of_table(planner, failing)?;
-        let after_drop = growths_after(planner, failing, &DROPPED)?;
-        Ok(([after_cost, after_undo, after_drop], planner.runs()))
-    }
-}
-
-#[test]
-fn a_table_after_a_cost_asks_for_no_graph(rt: HostRuntime) -> Result<(), Fail> {
-    let star = star(rt.alloc())?;
-    let ([cost, undo, drop], runs) = ask(rt.alloc(), &star, &TablesAfterEdits)?;
-    assert!(rt;
-        cost < drop,
-        "{cost} after a cost, {drop} after a dropped link"
-    );
-    assert!(rt;
-        undo < drop,
-        "{undo} after an undo, {drop} after a dropped link"
-    );
-    assert_eq!(rt; runs, 4);
-    Ok(())
-}
-
-/// The growths of a table of a router in the database of the beginning.
-fn growths_at_the_beginning(
-    planner: &mut Planner<&FailingAlloc>,
-    failing: &FailingAlloc,
-    router: u32,
-) -> Result<u64, Fail> {
-    let before = failing.remaining();
-    let _table = planner.baseline_table(RouterId(router))?;
-    Ok(before.saturating_sub(failing.remaining()))
-}
-
-/// The growths of tables at the beginning: of 1.1.1.1, of it after an edit and after its undo, of
-/// 2.2.2.2, and of 1.1.1.1 again.
-#[derive(Drop)]
-struct FiveTables;
-
-impl Question for FiveTables {
-    type Found = [u64; 5];
-
-    fn find(
-        &self,
-        planner: &mut Planner<&FailingAlloc>,
-        failing: &FailingAlloc,
-    ) -> Result<[u64; 5], Fail> {
-        let first = growths_at_the_beginning(planner, failing, R1)?;
-        edit(planner, &cost(7))?;
-        let after_edit = growths_at_the_beginning(planner, failing, R1)?;
-        undo(planner, 1)?;
-        let after_undo = growths_at_the_beginning(planner, failing, R1)?;
-        let another = growths_at_the_beginning(planner, failing, R2)?;
-        let again = growths_at_the_beginning(planner, failing, R1)?;
-        Ok([first, after_edit, after_undo, another, again])
-    }
-}
-
-#[test]
-fn a_second_table_of_the_beginning_asks_for_no_growth(rt: HostRuntime) -> Result<(), Fail> {
-    let five = ask(rt.alloc(), SAMPLE, &FiveTables)?;
-    let [first, after_edit, after_undo, another, again] = five;
-    assert!(rt; first > 0 && another > 0 && again > 0);
-    assert_eq!(rt; (after_edit, after_undo), (0, 0));
-    Ok(())
-}
-
-/// The growths of a copy of the database of the beginning.
-fn growths_of_base(
-    planner: &mut Planner<&FailingAlloc>,
-    failing: &FailingAlloc,
-) -> Result<u64, Fail> {
-    let before = failing.remaining();
-    let _base = planner.base()?;
-    Ok(before.saturating_sub(failing.remaining()))
-}
-
 /// The growths of the second and the third table in the database of the beginning, after costs from
 /// 11 on, and of a copy of that database. The third one is of the router of the first.
 #[derive(Drop)]
@@ -262,10 +64,10 @@ impl Question for TablesAfterCosts {
         failing: &FailingAlloc,
     ) -> Result<(u64, u64, u64), Fail> {
         put_costs(planner, 11..self.end)?;
-        let _first = growths_at_the_beginning(planner, failing, R1)?;
-        let second = growths_at_the_beginning(planner, failing, R2)?;
-        let third = growths_at_the_beginning(planner, failing, R1)?;
-        Ok((second, third, growths_of_base(planner, failing)?))
+        let _first = growths_of(planner, failing, Act::Baseline(R1))?;
+        let second = growths_of(planner, failing, Act::Baseline(R2))?;
+        let third = growths_of(planner, failing, Act::Baseline(R1))?;
+        Ok((second, third, growths_of(planner, failing, Act::Copy)?))
     }
 }
 
@@ -294,29 +96,6 @@ const EDITED: &[u8] = &[
 fn has_first(planner: &Planner<&FailingAlloc>, bytes: &[u8]) -> bool {
     let mut lsas = planner.database().lsas(Section::Area(AreaId(0)));
     lsas.next().is_some_and(|lsa| lsa.bytes() == bytes)
-}
-
-/// Ten costs.
-#[derive(Drop)]
-struct TenCosts;
-
-impl Question for TenCosts {
-    type Found = ();
-
-    fn find(
-        &self,
-        planner: &mut Planner<&FailingAlloc>,
-        _failing: &FailingAlloc,
-    ) -> Result<(), Fail> {
-        put_costs(planner, 11..21)
-    }
-}
-
-/// For how many growths a planner on the sample with ten costs asks.
-fn growths_of_costs(alloc: Global) -> Result<u64, Fail> {
-    let counted = FailingAlloc::new(alloc, u64::MAX);
-    on_session(&counted, SAMPLE, &TenCosts)?;
-    Ok(u64::MAX.wrapping_sub(counted.remaining()))
 }
 
 /// Whether ten edits, and no more, are taken back one by one.
@@ -364,25 +143,14 @@ impl Question for CostsThatStay {
         failing: &FailingAlloc,
     ) -> Result<bool, Fail> {
         put_costs(planner, 11..21)?;
-        Ok(
-            failing.remaining() == 0
-                && stays(planner)
-                && goes_back(planner)
-                && goes_on(planner)
-                && goes_back_at_once(planner),
-        )
+        failing.set_remaining(0);
+        Ok(stays(planner) && goes_back(planner) && goes_on(planner) && goes_back_at_once(planner))
     }
-}
-
-/// Whether ten costs do so with the growths that they take alone.
-fn takes_no_growth(alloc: Global) -> Result<bool, Fail> {
-    let failing = FailingAlloc::new(alloc, growths_of_costs(alloc)?);
-    on_session(&failing, SAMPLE, &CostsThatStay)
 }
 
 #[test]
 fn undo_and_redo_while_each_growth_is_refused(rt: HostRuntime) -> Result<(), Fail> {
-    assert!(rt; takes_no_growth(rt.alloc())?);
+    assert!(rt; ask(rt.alloc(), SAMPLE, &CostsThatStay)?);
     Ok(())
 }
 
@@ -404,28 +172,104 @@ fn hundred_lsas(alloc: Global) -> Result<Vec<u8>, Fail> {
     Ok(dump)
 }
 
-/// For how many growths a cost asks.
-#[derive(Drop)]
-struct OneCost;
-
-impl Question for OneCost {
-    type Found = u64;
-
-    fn find(
-        &self,
-        planner: &mut Planner<&FailingAlloc>,
-        failing: &FailingAlloc,
-    ) -> Result<u64, Fail> {
-        let before = failing.remaining();
-        edit(planner, &cost(7))?;
-        Ok(before.saturating_sub(failing.remaining()))
-    }
+/// A database that planners are asked about.
+#[derive(Clone, Copy)]
+enum Network {
+    /// The sample.
+    Sample,
+    /// The star.
+    Star,
+    /// An area of 100 LSAs.
+    HundredLsas,
 }
 
+/// The dump of a database.
+fn dump_of(alloc: Global, network: Network) -> Result<Vec<u8>, Fail> {
+    Ok(match network {
+        Network::Sample => Vec::from_slice(alloc, SAMPLE)?,
+        Network::Star => star(alloc)?,
+        Network::HundredLsas => hundred_lsas(alloc)?,
+    })
+}
+
+/// A cached table is kept until an edit.
+const CACHED: &[Step] = &[
+    (Act::Cached(R1), Asks::Any, None),
+    (Act::Cached(R1), Asks::Nothing, None),
+    (Act::Cost(7), Asks::Any, None),
+    (Act::Cached(R1), Asks::Something, None),
+];
+
+/// A second table asks for fewer growths than a table with a new tree.
+const TWO_TABLES: &[Step] = &[
+    (Act::Table(R1), Asks::Any, None),
+    (Act::Table(R1), Asks::Fewer, Some(1)),
+    (Act::Parts(R1), Asks::More, Some(1)),
+];
+
+/// A table after a cost, and after the undo of it, asks for no graph, as one does after an edit that
+/// drops a link.
+const AFTER_EDITS: &[Step] = &[
+    (Act::Table(R1), Asks::Any, None),
+    (Act::Cost(7), Asks::Any, None),
+    (Act::Table(R1), Asks::Fewer, None),
+    (Act::Undo, Asks::Any, None),
+    (Act::Table(R1), Asks::Fewer, None),
+    (Act::Drop, Asks::Any, None),
+    (Act::Table(R1), Asks::More, Some(4)),
+];
+
+/// A second table of a router at the beginning asks for no growth, also after edits.
+const OF_BEGINNING: &[Step] = &[
+    (Act::Baseline(R1), Asks::Something, None),
+    (Act::Cost(7), Asks::Any, None),
+    (Act::Baseline(R1), Asks::Nothing, None),
+    (Act::Undo, Asks::Any, None),
+    (Act::Baseline(R1), Asks::Nothing, None),
+    (Act::Baseline(R2), Asks::Something, None),
+    (Act::Baseline(R1), Asks::Something, None),
+];
+
+/// A cost grows little.
+const ONE_COST: &[Step] = &[(Act::Cost(7), Asks::Little, None)];
+
+/// The trees of the beginning are kept, also after an edit of the router's own area, but not by a
+/// table by other trees.
+const KEPT_TREES: &[Step] = &[
+    (Act::Baseline(R1), Asks::Any, Some(1)),
+    (Act::Fail, Asks::Any, None),
+    (Act::Baseline(R1), Asks::Any, Some(1)),
+    (Act::Base(R1), Asks::Any, Some(2)),
+];
+
+/// A cached table that is not asked for twice in a row while one edit is done is made in one
+/// database alone.
+const CACHED_TREES: &[Step] = &[
+    (Act::Cost(7), Asks::Any, None),
+    (Act::Cached(R1), Asks::Any, Some(1)),
+    (Act::Cached(R1), Asks::Any, Some(1)),
+    (Act::Cached(R2), Asks::Any, Some(2)),
+    (Act::Cost(8), Asks::Any, None),
+    (Act::Cached(R2), Asks::Any, Some(3)),
+];
+
+/// Databases, and what a planner of each is asked for in turn.
+const RUNS: &[(Network, &[Step])] = &[
+    (Network::Sample, CACHED),
+    (Network::Star, TWO_TABLES),
+    (Network::Star, AFTER_EDITS),
+    (Network::Sample, OF_BEGINNING),
+    (Network::HundredLsas, ONE_COST),
+    (Network::Sample, KEPT_TREES),
+    (Network::Sample, CACHED_TREES),
+];
+
 #[test]
-fn a_cost_grows_little(rt: HostRuntime) -> Result<(), Fail> {
-    let dump = hundred_lsas(rt.alloc())?;
-    let growths = ask(rt.alloc(), &dump, &OneCost)?;
-    assert!(rt; 0 < growths && growths <= 16, "{growths} growths");
+fn kept_tables_and_trees_ask_for_fewer_growths(rt: HostRuntime) -> Result<(), Fail> {
+    for (number, (network, steps)) in RUNS.iter().enumerate() {
+        let dump = dump_of(rt.alloc(), *network)?;
+        let question = InTurn { steps: *steps };
+        assert_eq!(rt; ask(rt.alloc(), &dump, &question)?, None, "run {number}");
+    }
     Ok(())
 }

@@ -2,8 +2,8 @@
 
 use super::calls::{Question, ask, edit, on_session, redo, undo};
 use area_routes::Route;
-use edit_script::{Command, Edit, parse};
-use lsa_codec::{AreaId, RouterId};
+use edit_script::{Command, parse};
+use lsa_codec::RouterId;
 use recalculate::{Planner, Table};
 use std::test::*;
 use test_support::{FailingAlloc, R1, R2, SAMPLE};
@@ -239,96 +239,6 @@ fn calculates_trees_where_they_are_wanted_alone(rt: HostRuntime) -> Result<(), F
         let question = FirstOtherwise { steps: *steps };
         assert_eq!(rt; ask(rt.alloc(), dump, &question)?, None, "run {number}");
     }
-    Ok(())
-}
-
-/// How many trees are calculated after a kept table of the beginning.
-fn runs_after_kept(planner: &mut Planner<&FailingAlloc>) -> Result<u64, Fail> {
-    let _table = planner.baseline_table(RouterId(R1))?;
-    Ok(planner.runs())
-}
-
-/// The same after a table of the beginning by trees that are not kept.
-fn runs_after_fresh(planner: &mut Planner<&FailingAlloc>) -> Result<u64, Fail> {
-    let _table = planner.base_table(RouterId(R1))?;
-    Ok(planner.runs())
-}
-
-/// How many trees are calculated after each of three tables of the beginning: after the first,
-/// after one that follows an edit of the router's own area, and after one by trees that are not
-/// kept.
-#[derive(Drop)]
-struct RunsOfThree;
-
-impl Question for RunsOfThree {
-    type Found = [u64; 3];
-
-    fn find(
-        &self,
-        planner: &mut Planner<&FailingAlloc>,
-        _failing: &FailingAlloc,
-    ) -> Result<[u64; 3], Fail> {
-        let first = runs_after_kept(planner)?;
-        let router = RouterId(R1);
-        edit(planner, &Edit::FailRouter { router })?;
-        let second = runs_after_kept(planner)?;
-        Ok([first, second, runs_after_fresh(planner)?])
-    }
-}
-
-#[test]
-fn keeps_the_trees_of_the_beginning(rt: HostRuntime) -> Result<(), Fail> {
-    assert_eq!(rt; ask(rt.alloc(), SAMPLE, &RunsOfThree)?, [1, 1, 2]);
-    Ok(())
-}
-
-/// How many trees are calculated after a cached table.
-fn runs_after_cached(planner: &mut Planner<&FailingAlloc>, router: u32) -> Result<u64, Fail> {
-    let _table = planner.cached_table(RouterId(router))?;
-    Ok(planner.runs())
-}
-
-/// The cost of the link of 1.1.1.1 is another.
-fn change_cost(planner: &mut Planner<&FailingAlloc>, metric: u16) -> Result<(), Fail> {
-    let (area, router) = (AreaId(0), RouterId(R1));
-    Ok(edit(
-        planner,
-        &Edit::Cost {
-            area,
-            router,
-            link: 1,
-            metric,
-        },
-    )?)
-}
-
-/// How many trees are calculated after cached tables: an edit is followed by two of 1.1.1.1 and one
-/// of 2.2.2.2, and a second edit by one of 2.2.2.2.
-#[derive(Drop)]
-struct RunsOfCached;
-
-impl Question for RunsOfCached {
-    type Found = [u64; 4];
-
-    fn find(
-        &self,
-        planner: &mut Planner<&FailingAlloc>,
-        _failing: &FailingAlloc,
-    ) -> Result<[u64; 4], Fail> {
-        change_cost(planner, 7)?;
-        let first = runs_after_cached(planner, R1)?;
-        let again = runs_after_cached(planner, R1)?;
-        let another = runs_after_cached(planner, R2)?;
-        change_cost(planner, 8)?;
-        Ok([first, again, another, runs_after_cached(planner, R2)?])
-    }
-}
-
-/// A table that is not asked for twice in a row while one edit is done is made in one database
-/// alone.
-#[test]
-fn cached_tables_calculate_trees_where_they_are_wanted_alone(rt: HostRuntime) -> Result<(), Fail> {
-    assert_eq!(rt; ask(rt.alloc(), SAMPLE, &RunsOfCached)?, [1, 1, 2, 3]);
     Ok(())
 }
 

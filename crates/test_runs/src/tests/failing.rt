@@ -1,9 +1,8 @@
 //! Readers and writers that fail at each byte in turn.
 
-use super::outcome::{Outcome, run_given, run_whole, run_without_out};
+use super::outcome::{run_given, run_whole, run_without_out};
 use lsdb::{DumpFault, DumpFaultKind};
 use std::alloc::Global;
-use std::io::Write;
 use std::test::*;
 use test_support::{Failing, Sink, Source, Zeros};
 use whole_run::{RunFault, SAMPLE, Summary};
@@ -57,16 +56,6 @@ fn sink(alloc: Global, limit: usize, failing: Failing) -> Sink {
     Sink::new(alloc, 1, limit, failing)
 }
 
-/// Runs the script on the sample.
-fn run_to<W: Write, D: Write, E: Write>(
-    alloc: Global,
-    replies: W,
-    out: D,
-    save: E,
-) -> Outcome<&'static [u8], &'static [u8], W, D, E> {
-    run_whole(alloc, SAMPLE, SCRIPT, replies, out, save)
-}
-
 const SUMMARY: Summary = Summary {
     commands: 7,
     refused: 3,
@@ -118,58 +107,78 @@ fn the_script_fails_at_each_byte(rt: HostRuntime) -> Result<(), Fail> {
     Ok(())
 }
 
-#[test]
-fn the_replies_fail_at_each_byte(rt: HostRuntime) -> Result<(), Fail> {
-    for failing in [Failing::WriteErrs, Failing::WriteTakesNone] {
-        for n in 0..REPLIES.len() {
-            let replies = sink(rt.alloc(), n, failing);
-            let ended = run_to(
-                rt.alloc(),
-                replies,
-                Vec::new(rt.alloc()),
-                Vec::new(rt.alloc()),
-            );
-            assert_eq!(rt; ended.result, Err(RunFault::Write), "after {n} bytes");
-            assert!(rt; ended.replies.failed);
-            let taken = ended.replies.stream.taken.as_slice();
-            assert_eq!(rt; Some(taken), REPLIES.get(..n));
-            assert!(rt; ended.out.stream.is_empty());
-            assert!(rt; ended.save.stream.is_empty());
+/// A writer at a place among those of the replies, of the dump and of the session, which fails after
+/// `limit` bytes if it is at the place `failing_at`.
+fn sink_at(alloc: Global, place: usize, failing_at: usize, limit: usize, failing: Failing) -> Sink {
+    if place == failing_at {
+        sink(alloc, limit, failing)
+    } else {
+        sink(alloc, NEVER, Failing::WriteErrs)
+    }
+}
+
+/// What the writer at a place takes of its text: all of it before the writer that fails after
+/// `limit` bytes, and nothing after it.
+fn taken_at(text: &'static [u8], place: usize, failing_at: usize, limit: usize) -> &'static [u8] {
+    if place < failing_at {
+        text
+    } else if place == failing_at {
+        text.get(..limit).unwrap_or(text)
+    } else {
+        &[]
+    }
+}
+
+/// Whether the script on the sample ends with a fault where the writer at a place fails, which alone
+/// is known to have failed.
+fn ends_at(alloc: Global, place: usize, limit: usize, failing: Failing) -> bool {
+    let replies = sink_at(alloc, 0, place, limit, failing);
+    let out = sink_at(alloc, 1, place, limit, failing);
+    let save = sink_at(alloc, 2, place, limit, failing);
+    let ended = run_whole(alloc, SAMPLE, SCRIPT, replies, out, save);
+    ended.result == Err(RunFault::Write)
+        && ended.replies.failed == (place == 0)
+        && ended.out.failed == (place == 1)
+        && ended.save.failed == (place == 2)
+        && ended.replies.stream.taken.as_slice() == taken_at(REPLIES, 0, place, limit)
+        && ended.out.stream.taken.as_slice() == taken_at(SAMPLE, 1, place, limit)
+        && ended.save.stream.taken.as_slice() == taken_at(LEFT, 2, place, limit)
+}
+
+/// The places of writers, their texts, and how each fails.
+const WRITERS: &[(usize, &[u8], Failing)] = &[
+    (0, REPLIES, Failing::WriteErrs),
+    (0, REPLIES, Failing::WriteTakesNone),
+    (0, REPLIES, Failing::FlushErrs),
+    (1, SAMPLE, Failing::WriteErrs),
+    (1, SAMPLE, Failing::WriteTakesNone),
+    (1, SAMPLE, Failing::FlushErrs),
+    (2, LEFT, Failing::WriteErrs),
+    (2, LEFT, Failing::WriteTakesNone),
+    (2, LEFT, Failing::FlushErrs),
+];
+
+/// After how many bytes a run ends otherwise, if it does: the writer at a place fails after each
+/// number of bytes of its text, or at its flush.
+fn ends_otherwise(alloc: Global, place: usize, text: &[u8], failing: Failing) -> Option<usize> {
+    let limits = if failing == Failing::FlushErrs {
+        NEVER..NEVER + 1
+    } else {
+        0..text.len()
+    };
+    for limit in limits {
+        if !ends_at(alloc, place, limit, failing) {
+            return Some(limit);
         }
     }
-    Ok(())
+    None
 }
 
 #[test]
-fn the_written_dump_fails_at_each_byte(rt: HostRuntime) -> Result<(), Fail> {
-    for failing in [Failing::WriteErrs, Failing::WriteTakesNone] {
-        for n in 0..SAMPLE.len() {
-            let out = sink(rt.alloc(), n, failing);
-            let ended = run_to(rt.alloc(), Vec::new(rt.alloc()), out, Vec::new(rt.alloc()));
-            assert_eq!(rt; ended.result, Err(RunFault::Write), "after {n} bytes");
-            assert!(rt; ended.out.failed);
-            assert_eq!(rt; ended.replies.stream.as_slice(), REPLIES);
-            let taken = ended.out.stream.taken.as_slice();
-            assert_eq!(rt; Some(taken), SAMPLE.get(..n));
-            assert!(rt; ended.save.stream.is_empty());
-        }
-    }
-    Ok(())
-}
-
-#[test]
-fn the_saved_session_fails_at_each_byte(rt: HostRuntime) -> Result<(), Fail> {
-    for failing in [Failing::WriteErrs, Failing::WriteTakesNone] {
-        for n in 0..LEFT.len() {
-            let save = sink(rt.alloc(), n, failing);
-            let ended = run_to(rt.alloc(), Vec::new(rt.alloc()), Vec::new(rt.alloc()), save);
-            assert_eq!(rt; ended.result, Err(RunFault::Write), "after {n} bytes");
-            assert!(rt; ended.save.failed);
-            assert_eq!(rt; ended.replies.stream.as_slice(), REPLIES);
-            assert_eq!(rt; ended.out.stream.as_slice(), SAMPLE);
-            let taken = ended.save.stream.taken.as_slice();
-            assert_eq!(rt; Some(taken), LEFT.get(..n));
-        }
+fn each_writer_fails_at_each_byte_and_at_its_flush(rt: HostRuntime) -> Result<(), Fail> {
+    for (place, text, failing) in WRITERS {
+        let otherwise = ends_otherwise(rt.alloc(), *place, text, *failing);
+        assert_eq!(rt; otherwise, None, "writer {place}, {failing:?}");
     }
     Ok(())
 }
@@ -183,68 +192,24 @@ fn a_flush_fails(rt: HostRuntime) -> Result<(), Fail> {
     Ok(())
 }
 
-#[test]
-fn the_flush_of_the_replies_fails(rt: HostRuntime) -> Result<(), Fail> {
-    let replies = sink(rt.alloc(), NEVER, Failing::FlushErrs);
-    let ended = run_to(
-        rt.alloc(),
-        replies,
-        Vec::new(rt.alloc()),
-        Vec::new(rt.alloc()),
-    );
-    assert_eq!(rt; ended.result, Err(RunFault::Write));
-    assert!(rt; ended.replies.failed);
-    assert_eq!(rt; ended.replies.stream.taken.as_slice(), REPLIES);
-    assert!(rt; ended.out.stream.is_empty());
-    assert!(rt; ended.save.stream.is_empty());
-    Ok(())
-}
-
-#[test]
-fn the_flush_of_the_written_dump_fails(rt: HostRuntime) -> Result<(), Fail> {
-    let out = sink(rt.alloc(), NEVER, Failing::FlushErrs);
-    let ended = run_to(rt.alloc(), Vec::new(rt.alloc()), out, Vec::new(rt.alloc()));
-    assert_eq!(rt; ended.result, Err(RunFault::Write));
-    assert_eq!(rt; ended.replies.stream.as_slice(), REPLIES);
-    assert_eq!(rt; ended.out.stream.taken.as_slice(), SAMPLE);
-    assert!(rt; ended.save.stream.is_empty());
-    Ok(())
-}
-
-#[test]
-fn the_flush_of_the_saved_session_fails(rt: HostRuntime) -> Result<(), Fail> {
-    let save = sink(rt.alloc(), NEVER, Failing::FlushErrs);
-    let ended = run_to(rt.alloc(), Vec::new(rt.alloc()), Vec::new(rt.alloc()), save);
-    assert_eq!(rt; ended.result, Err(RunFault::Write));
-    assert_eq!(rt; ended.out.stream.as_slice(), SAMPLE);
-    assert_eq!(rt; ended.save.stream.taken.as_slice(), LEFT);
-    Ok(())
-}
-
 /// The writer that fails at its flush, and the one that does not, either way round.
 const ONE_FLUSH_FAILS: [(Failing, Failing); 2] = [
     (Failing::FlushErrs, Failing::WriteErrs),
     (Failing::WriteErrs, Failing::FlushErrs),
 ];
 
+/// The writer besides that of the replies is that of the dump, and then that of the session.
 #[test]
-fn a_flush_fails_where_the_dump_alone_is_asked_for(rt: HostRuntime) -> Result<(), Fail> {
-    for (replies, out) in ONE_FLUSH_FAILS {
-        let replies = sink(rt.alloc(), NEVER, replies);
-        let out = Some(sink(rt.alloc(), NEVER, out));
-        let result = run_given(rt.alloc(), SAMPLE, SCRIPT, replies, out, None::<Sink>);
-        assert_eq!(rt; result, Err(RunFault::Write));
-    }
-    Ok(())
-}
-
-#[test]
-fn a_flush_fails_where_the_session_alone_is_asked_for(rt: HostRuntime) -> Result<(), Fail> {
-    for (replies, save) in ONE_FLUSH_FAILS {
-        let replies = sink(rt.alloc(), NEVER, replies);
-        let save = Some(sink(rt.alloc(), NEVER, save));
-        let result = run_given(rt.alloc(), SAMPLE, SCRIPT, replies, None::<Sink>, save);
-        assert_eq!(rt; result, Err(RunFault::Write));
+fn a_flush_fails_where_one_output_is_asked_for(rt: HostRuntime) -> Result<(), Fail> {
+    for (replies, other) in ONE_FLUSH_FAILS {
+        let out = Some(sink(rt.alloc(), NEVER, other));
+        let first = sink(rt.alloc(), NEVER, replies);
+        let result = run_given(rt.alloc(), SAMPLE, SCRIPT, first, out, None::<Sink>);
+        assert_eq!(rt; result, Err(RunFault::Write), "dump, {other:?}");
+        let save = Some(sink(rt.alloc(), NEVER, other));
+        let second = sink(rt.alloc(), NEVER, replies);
+        let result = run_given(rt.alloc(), SAMPLE, SCRIPT, second, None::<Sink>, save);
+        assert_eq!(rt; result, Err(RunFault::Write), "session, {other:?}");
     }
     Ok(())
 }

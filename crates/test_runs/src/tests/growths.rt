@@ -132,25 +132,24 @@ fn ends_early_or_well(alloc: Global, dump: &[u8], script: &[u8]) -> bool {
 }
 
 #[test]
-fn each_growth_refused_on_the_sample(rt: HostRuntime) -> Result<(), Fail> {
-    assert!(rt; ends_early_or_well(rt.alloc(), SAMPLE, ON_SAMPLE));
+fn each_growth_refused_on_the_sample_and_on_a_network(rt: HostRuntime) -> Result<(), Fail> {
+    assert!(rt; ends_early_or_well(rt.alloc(), SAMPLE, ON_SAMPLE), "sample");
+    assert!(rt;
+        ends_early_or_well(rt.alloc(), NETWORK, ON_NETWORK),
+        "network"
+    );
     Ok(())
 }
 
 #[test]
-fn each_growth_refused_on_a_network(rt: HostRuntime) -> Result<(), Fail> {
-    assert!(rt; ends_early_or_well(rt.alloc(), NETWORK, ON_NETWORK));
-    Ok(())
-}
-
-#[test]
-fn each_growth_refused_on_two_areas(rt: HostRuntime) -> Result<(), Fail> {
-    assert!(rt; ends_early_or_well(rt.alloc(), TWO_AREAS, ON_TWO_AREAS));
-    Ok(())
-}
-
-#[test]
-fn each_growth_refused_on_a_saved_session(rt: HostRuntime) -> Result<(), Fail> {
-    assert!(rt; ends_early_or_well(rt.alloc(), SAVED, ON_SAVED));
+fn each_growth_refused_on_two_areas_and_on_a_saved_session(rt: HostRuntime) -> Result<(), Fail> {
+    assert!(rt;
+        ends_early_or_well(rt.alloc(), TWO_AREAS, ON_TWO_AREAS),
+        "two areas"
+    );
+    assert!(rt;
+        ends_early_or_well(rt.alloc(), SAVED, ON_SAVED),
+        "saved session"
+    );
     Ok(())
 }

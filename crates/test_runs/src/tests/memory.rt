@@ -6,7 +6,7 @@ use branches::{Branches, Reply};
 use edit_script::{Command, Edit};
 use lsa_codec::{AreaId, RouterId};
 use lsdb::Database;
-use std::alloc::{Allocator, Global};
+use std::alloc::Allocator;
 use std::test::*;
 use test_support::FailingAlloc;
 use whole_run::SAMPLE;
@@ -19,13 +19,6 @@ fn cost(metric: u16) -> Edit {
         link: 1,
         metric,
     }
-}
-
-/// The number of growths that the database of the sample needs.
-fn growths_of_load(alloc: Global) -> Result<u64, Fail> {
-    let counted = FailingAlloc::new(alloc, u64::MAX);
-    let _database = Database::load(&counted, SAMPLE)?;
-    Ok(u64::MAX - counted.remaining())
 }
 
 /// Whether the counts of a branch are those of the sample without edits.
@@ -75,9 +68,9 @@ fn wants_memory<A: Allocator + Copy>(branches: &mut Branches<A>) -> bool {
 fn undo_redo_and_info_in_any_branch_while_each_growth_is_refused(
     rt: HostRuntime,
 ) -> Result<(), Fail> {
-    let failing = FailingAlloc::new(rt.alloc(), growths_of_load(rt.alloc())?);
+    let failing = FailingAlloc::new(rt.alloc(), u64::MAX);
     let database = Database::load(&failing, SAMPLE)?;
-    assert_eq!(rt; failing.remaining(), 0);
+    failing.set_remaining(0);
     let mut branches = Branches::new(&failing, database);
     for branch in 0..8 {
         assert!(rt;

@@ -6,39 +6,21 @@ use std::alloc::{AllocError, Global};
 use std::test::Fail;
 use test_support::{Source, Zeros};
 
-/// A text, read up to a limit from a reader that gives this number of bytes at once and fails at a
-/// place, and whether the reader is known to have failed.
+/// Whether a text is what is read of it up to a limit, or why nothing is, from a reader that gives
+/// this number of bytes at once and fails at a place; and whether the reader is known to have failed.
 fn read(
     alloc: Global,
     text: &[u8],
     step: usize,
     end: Option<usize>,
     limit: u16,
-) -> (Result<Vec<u8>, ReadFault>, bool) {
+) -> (Result<bool, ReadFault>, bool) {
     let mut reader = Watched::new(Source::new(text, step, end));
-    let read = read_whole(alloc, &mut reader, usize::from(limit));
+    let read = match read_whole(alloc, &mut reader, usize::from(limit)) {
+        Ok(read) => Ok(read.as_slice() == text),
+        Err(fault) => Err(fault),
+    };
     (read, reader.failed())
-}
-
-/// Whether a text is read whole, up to a limit.
-fn is_read(alloc: Global, text: &[u8], step: usize, limit: u16) -> bool {
-    let (read, failed) = read(alloc, text, step, None, limit);
-    match read {
-        Ok(read) => read.as_slice() == text && !failed,
-        Err(_fault) => false,
-    }
-}
-
-/// Why a text is not read, if it is not, and whether the reader is known to have failed.
-fn fault_of(
-    alloc: Global,
-    text: &[u8],
-    step: usize,
-    end: Option<usize>,
-    limit: u16,
-) -> (Option<ReadFault>, bool) {
-    let (read, failed) = read(alloc, text, step, end, limit);
-    (read.err(), failed)
 }
 
 /// This number of bytes 0.
@@ -49,7 +31,8 @@ fn zeros(alloc: Global, count: usize) -> Result<Vec<u8>, AllocError> {
 #[test]
 fn reads_whole_texts_in_short_pieces(rt: HostRuntime) -> Result<(), Fail> {
     for step in [1, 2, 3, 7, NEVER] {
-        assert!(rt; is_read(rt.alloc(), TEXT, step, 100), "by {step}");
+        let found = read(rt.alloc(), TEXT, step, None, 100);
+        assert_eq!(rt; found, (Ok(true), false), "by {step}");
     }
     Ok(())
 }
@@ -58,8 +41,8 @@ fn reads_whole_texts_in_short_pieces(rt: HostRuntime) -> Result<(), Fail> {
 fn a_reader_fails_at_each_byte(rt: HostRuntime) -> Result<(), Fail> {
     for step in [1, 4, NEVER] {
         for n in 0..=TEXT.len() {
-            let fault = fault_of(rt.alloc(), TEXT, step, Some(n), 100);
-            assert_eq!(rt; fault, (Some(ReadFault::Failed), true), "at {n} by {step}");
+            let found = read(rt.alloc(), TEXT, step, Some(n), 100);
+            assert_eq!(rt; found, (Err(ReadFault::Failed), true), "at {n} by {step}");
         }
     }
     Ok(())
@@ -67,36 +50,6 @@ fn a_reader_fails_at_each_byte(rt: HostRuntime) -> Result<(), Fail> {
 
 /// Limits of texts.
 const LIMITS: [u16; 6] = [0, 1, 4095, 4096, 4097, 8192];
-
-#[test]
-fn reads_a_text_at_the_limit(rt: HostRuntime) -> Result<(), Fail> {
-    for limit in LIMITS {
-        let zeros = zeros(rt.alloc(), usize::from(limit))?;
-        for step in [1000, NEVER] {
-            assert!(rt;
-                is_read(rt.alloc(), &zeros, step, limit),
-                "limit {limit} by {step}"
-            );
-        }
-    }
-    Ok(())
-}
-
-#[test]
-fn refuses_a_text_past_the_limit(rt: HostRuntime) -> Result<(), Fail> {
-    for limit in LIMITS {
-        let zeros = zeros(rt.alloc(), usize::from(limit) + 1)?;
-        for step in [1000, NEVER] {
-            let fault = fault_of(rt.alloc(), &zeros, step, None, limit);
-            assert_eq!(rt;
-                fault,
-                (Some(ReadFault::TooLarge), false),
-                "limit {limit} by {step}"
-            );
-        }
-    }
-    Ok(())
-}
 
 #[test]
 fn reads_one_byte_past_the_limit_of_an_endless_reader(rt: HostRuntime) -> Result<(), Fail> {
@@ -126,17 +79,22 @@ fn read_on(alloc: Global, text: &[u8], step: usize, limit: u16) -> Option<usize>
     (bytes.as_slice() == text).then_some(read)
 }
 
+/// Texts of bytes 0: as long as the limit, one byte longer, and ten bytes longer and read on.
 #[test]
-fn reads_on_past_a_first_limit(rt: HostRuntime) -> Result<(), Fail> {
+fn reads_a_text_up_to_a_limit_and_on(rt: HostRuntime) -> Result<(), Fail> {
     for limit in LIMITS {
-        let zeros = zeros(rt.alloc(), usize::from(limit) + 10)?;
+        let length = usize::from(limit);
+        let zeros = zeros(rt.alloc(), length + 10)?;
+        let whole = zeros.get(..length).ok_or("a text")?;
+        let longer = zeros.get(..length + 1).ok_or("a longer text")?;
         for step in [1000, NEVER] {
+            let found = read(rt.alloc(), whole, step, None, limit);
+            assert_eq!(rt; found, (Ok(true), false), "limit {limit} by {step}");
+            let found = read(rt.alloc(), longer, step, None, limit);
+            let past = (Err(ReadFault::TooLarge), false);
+            assert_eq!(rt; found, past, "past limit {limit} by {step}");
             let read = read_on(rt.alloc(), &zeros, step, limit);
-            assert_eq!(rt;
-                read,
-                Some(usize::from(limit) + 1),
-                "limit {limit} by {step}"
-            );
+            assert_eq!(rt; read, Some(length + 1), "on from {limit} by {step}");
         }
     }
     Ok(())

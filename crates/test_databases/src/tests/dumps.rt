@@ -1,0 +1,29 @@
+//! Dumps by name, so that rows of tables name them.
+
+use super::nets::NETS;
+use super::refreshes::STALE;
+use crate::filled::{area_of, as_list_of};
+use std::alloc::{AllocError, Global};
+
+/// A dump.
+#[derive(Clone, Copy)]
+pub(super) enum Dump {
+    /// `NETS`.
+    Nets,
+    /// `STALE`.
+    Stale,
+    /// An area with this number of LSAs.
+    Area(u16),
+    /// An area with two LSAs, and this number of LSAs of AS scope.
+    AsList(u16),
+}
+
+/// The bytes of a dump.
+pub(super) fn bytes_of(alloc: Global, dump: Dump) -> Result<Vec<u8>, AllocError> {
+    match dump {
+        Dump::Nets => Vec::from_slice(alloc, NETS),
+        Dump::Stale => Vec::from_slice(alloc, STALE),
+        Dump::Area(lsas) => area_of(alloc, lsas),
+        Dump::AsList(lsas) => as_list_of(alloc, lsas),
+    }
+}
