@@ -99,18 +99,26 @@ fn contents_of_documents(rt: HostRuntime) {
 }
 
 /// Texts that have no database, and what they are refused for.
-const REFUSED: &[(&[u8], JsonFault)] = &[
-    (b"{\"routerId\": ", JsonFault::NotJson),
-    (b"{\"routerId\": \"\xff\"}", JsonFault::NotJson),
-    (b"{\"routerId\": \"1.1.1.1\"}", JsonFault::NoDatabase),
-    (b"[]", JsonFault::NoDatabase),
+const REFUSED: &[(&str, &[u8], JsonFault)] = &[
+    ("no end", b"{\"routerId\": ", JsonFault::NotJson),
+    (
+        "a string that is not UTF-8",
+        b"{\"routerId\": \"\xff\"}",
+        JsonFault::NotJson,
+    ),
+    (
+        "no member that is read",
+        b"{\"routerId\": \"1.1.1.1\"}",
+        JsonFault::NoDatabase,
+    ),
+    ("an array", b"[]", JsonFault::NoDatabase),
 ];
 
 #[test]
 fn what_is_no_database_is_refused(rt: HostRuntime) {
-    for (text, fault) in REFUSED {
+    for (name, text, fault) in REFUSED {
         let found = contains(rt.alloc(), text, &[], &[]);
-        assert_eq!(rt; found, Err(*fault), "{text:?}");
+        assert_eq!(rt; found, Err(*fault), "{name}");
     }
 }
 

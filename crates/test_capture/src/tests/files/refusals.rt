@@ -51,18 +51,18 @@ fn fault_of(alloc: Global, file: &[u8]) -> Option<FileFault> {
 }
 
 /// Files that are rejected, and the fault.
-const REJECTED: &[(&[u8], FileFault)] = &[
-    (b"", FileFault::UnknownKind),
-    (b"OSWP\x01", FileFault::UnknownKind),
-    (b" {", FileFault::NotJson),
-    (b"{}", FileFault::NoDatabase),
-    (b"[]", FileFault::UnknownKind),
+const REJECTED: &[(&str, &[u8], FileFault)] = &[
+    ("no bytes", b"", FileFault::UnknownKind),
+    ("the front of a dump", b"OSWP\x01", FileFault::UnknownKind),
+    ("a brace alone", b" {", FileFault::NotJson),
+    ("an object without members", b"{}", FileFault::NoDatabase),
+    ("an array", b"[]", FileFault::UnknownKind),
 ];
 
 #[test]
 fn files_that_are_rejected(rt: HostRuntime) {
-    for (file, fault) in REJECTED {
-        assert_eq!(rt; fault_of(rt.alloc(), file), Some(*fault), "{file:?}");
+    for (name, file, fault) in REJECTED {
+        assert_eq!(rt; fault_of(rt.alloc(), file), Some(*fault), "{name}");
     }
 }
 
