@@ -18,3 +18,6 @@ mod lists;
 
 // Calls of which growths are refused.
 mod growths;
+
+// What the tests make, and what they compare.
+mod observed;

@@ -1,5 +1,4 @@
-//! Tests of what documents contain.
+//! What documents contain.
 
-mod growths;
 mod parsed;
-mod pieces;
+pub(super) mod pieces;

@@ -1,5 +1,4 @@
 mod differences;
-mod growths;
 mod lines;
 mod lists;
-mod pieces;
+pub(super) mod pieces;

@@ -3,4 +3,3 @@
 
 mod parsed;
 mod pieces;
-mod unused;

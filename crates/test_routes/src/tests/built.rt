@@ -7,7 +7,17 @@ use lsdb::Database;
 use spf::{Meter, SpfFault, Tree};
 use std::alloc::{Allocator, Global};
 use std::test::*;
-use test_support::{SAMPLE, network_of_three};
+use test_support::{SAMPLE, dump_of_text, network_of_three};
+
+/// A network that tables name.
+pub(super) enum Network {
+    /// The sample.
+    Sample,
+    /// The network of three routers.
+    OfThree,
+    /// That of a text.
+    Text(&'static str),
+}
 
 /// The graph of area 0.0.0.0.
 pub(super) fn graph_of<A: Allocator + Copy>(alloc: A, dump: &[u8]) -> Result<Graph<A>, Fail> {
@@ -20,9 +30,13 @@ pub(super) fn sample_graph<A: Allocator + Copy>(alloc: A) -> Result<Graph<A>, Fa
     graph_of(alloc, SAMPLE)
 }
 
-/// The graph of the network of three routers.
-pub(super) fn three_graph(alloc: Global) -> Result<Graph, Fail> {
-    graph_of(alloc, &network_of_three(alloc)?)
+/// The graph of a network.
+pub(super) fn graph_in(alloc: Global, network: &Network) -> Result<Graph, Fail> {
+    match network {
+        Network::Sample => sample_graph(alloc),
+        Network::OfThree => graph_of(alloc, &network_of_three(alloc)?),
+        Network::Text(text) => graph_of(alloc, &dump_of_text(alloc, text)?),
+    }
 }
 
 /// Why the sample has no graph of an area.

@@ -49,19 +49,20 @@ fn to_cost(cost: u16) -> Parts {
     (RouterId(R1), to, Addr(0x0a00_0001), cost)
 }
 
-#[test]
-fn reports_the_change_of_a_cost(rt: HostRuntime) -> Result<(), Fail> {
-    let raised = change_of(rt.alloc(), COST_10, COST_20)?;
-    assert_eq!(rt; raised.map(parts_of), Some(to_cost(20)));
-    let lowered = change_of(rt.alloc(), COST_20, COST_10)?;
-    assert_eq!(rt; lowered.map(parts_of), Some(to_cost(10)));
-    Ok(())
-}
+/// LSAs before and after, and the cost of the change, where it is one.
+const CHANGES: &[(&str, &[u8], &[u8], Option<u16>)] = &[
+    ("raised", COST_10, COST_20, Some(20)),
+    ("lowered", COST_20, COST_10, Some(10)),
+    ("another link", COST_10, TO_ANOTHER, None),
+    ("the same LSA", COST_10, COST_10, None),
+];
 
 #[test]
-fn another_link_is_no_change_of_a_cost(rt: HostRuntime) -> Result<(), Fail> {
-    assert!(rt; change_of(rt.alloc(), COST_10, TO_ANOTHER)?.is_none());
-    assert!(rt; change_of(rt.alloc(), COST_10, COST_10)?.is_none());
+fn reports_the_change_of_a_cost(rt: HostRuntime) -> Result<(), Fail> {
+    for (name, before, after, cost) in CHANGES {
+        let change = change_of(rt.alloc(), before, after)?;
+        assert_eq!(rt; change.map(parts_of), cost.map(to_cost), "{name}");
+    }
     Ok(())
 }
 
@@ -97,28 +98,30 @@ fn costs_of_sample(alloc: Global, change: CostChange) -> Result<(bool, Vec<u16>)
     costs_after(alloc, &mut graph, change)
 }
 
-/// The change of a cost from 10 to 20.
-fn raised(alloc: Global) -> Result<CostChange, Fail> {
-    Ok(change_of(alloc, COST_10, COST_20)?.ok_or("a change")?)
+/// The change of a cost from 10 to 20, of a link to this vertex.
+fn raised(alloc: Global, to: Vertex) -> Result<CostChange, Fail> {
+    let change = change_of(alloc, COST_10, COST_20)?.ok_or("a change")?;
+    Ok(CostChange { to, ..change })
 }
+
+/// Where the link leads, whether the graph takes the change, and its costs then. A graph without
+/// the vertex stays.
+const RAISED: &[(&str, Vertex, bool, &[u16])] = &[
+    ("to 2.2.2.2", Vertex::Router(RouterId(R2)), true, &[20, 10]),
+    (
+        "to a network that the graph lacks",
+        Vertex::Network(Addr(0x0a05_0003)),
+        false,
+        &[10, 10],
+    ),
+];
 
 #[test]
 fn a_graph_takes_the_change_of_a_cost(rt: HostRuntime) -> Result<(), Fail> {
-    let (is_taken, costs) = costs_of_sample(rt.alloc(), raised(rt.alloc())?)?;
-    assert!(rt; is_taken);
-    assert_eq!(rt; costs.as_slice(), [20, 10].as_slice());
-    Ok(())
-}
-
-#[test]
-fn a_graph_without_the_vertex_stays(rt: HostRuntime) -> Result<(), Fail> {
-    let to = Vertex::Network(Addr(0x0a05_0003));
-    let change = CostChange {
-        to,
-        ..raised(rt.alloc())?
-    };
-    let (is_taken, costs) = costs_of_sample(rt.alloc(), change)?;
-    assert!(rt; !is_taken);
-    assert_eq!(rt; costs.as_slice(), [10, 10].as_slice());
+    for (name, to, is_taken, costs) in RAISED {
+        let found = costs_of_sample(rt.alloc(), raised(rt.alloc(), *to)?)?;
+        assert_eq!(rt; found.0, *is_taken, "{name}");
+        assert_eq!(rt; found.1.as_slice(), *costs, "{name}");
+    }
     Ok(())
 }

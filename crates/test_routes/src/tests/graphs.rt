@@ -1,6 +1,6 @@
 //! Numbers of vertices, networks, and areas that are absent.
 
-use super::built::{graph_fault, sample_graph, three_graph};
+use super::built::{Network, graph_fault, graph_in};
 use area_graph::{Graph, GraphFault, Vertex};
 use lsa_codec::{Addr, RouterId};
 use std::alloc::Global;
@@ -26,13 +26,6 @@ fn numbers_of(graph: &Graph, router: u32) -> (usize, Option<usize>, Option<usize
     )
 }
 
-#[test]
-fn reports_indices(rt: HostRuntime) -> Result<(), Fail> {
-    let graph = sample_graph(rt.alloc())?;
-    assert_eq!(rt; numbers_of(&graph, R2), (2, Some(1), None));
-    Ok(())
-}
-
 /// The numbers of the vertices that are networks.
 fn networks_of(alloc: Global, graph: &Graph) -> Result<Vec<usize>, Fail> {
     let mut indices = Vec::new(alloc);
@@ -44,11 +37,36 @@ fn networks_of(alloc: Global, graph: &Graph) -> Result<Vec<usize>, Fail> {
     Ok(indices)
 }
 
+/// Networks, a router of each, how many vertices the graph has, the numbers of the router and of
+/// the network 10.5.0.3, and those of the vertices that are networks.
+const NUMBERS: &[(
+    &str,
+    Network,
+    u32,
+    (usize, Option<usize>, Option<usize>),
+    &[usize],
+)] = &[
+    ("the sample", Network::Sample, R2, (2, Some(1), None), &[]),
+    (
+        "three routers",
+        Network::OfThree,
+        R4,
+        (4, Some(2), Some(3)),
+        &[3],
+    ),
+];
+
 #[test]
-fn reports_networks(rt: HostRuntime) -> Result<(), Fail> {
-    let graph = three_graph(rt.alloc())?;
-    assert_eq!(rt; numbers_of(&graph, R4), (4, Some(2), Some(3)));
-    assert_eq!(rt; networks_of(rt.alloc(), &graph)?.as_slice(), [3].as_slice());
+fn reports_numbers_and_networks(rt: HostRuntime) -> Result<(), Fail> {
+    for (name, network, router, numbers, networks) in NUMBERS {
+        let graph = graph_in(rt.alloc(), network)?;
+        assert_eq!(rt; numbers_of(&graph, *router), *numbers, "{name}");
+        assert_eq!(rt;
+            networks_of(rt.alloc(), &graph)?.as_slice(),
+            *networks,
+            "{name}"
+        );
+    }
     Ok(())
 }
 

@@ -4,7 +4,7 @@ ghost use Rattle.std.specs.Prelude.{◌≡◌, length};
 ghost use Rattle.area_graph.specs.declared.vertex.Vertex.{Vertex};
 ghost use Rattle.spf.specs.Distances.{IsTreeOf};
 
-use super::built::graph_of;
+use super::built::{Network, graph_in};
 use super::texts::hops_text;
 use area_graph::{Edge, Graph};
 use lsa_codec::RouterId;
@@ -12,7 +12,7 @@ use next_hops::Hops;
 use spf::{Meter, Tree};
 use std::alloc::Global;
 use std::test::*;
-use test_support::{R1, SAMPLE, dump_of_text};
+use test_support::R1;
 
 /// The network 10.5.0.3, of which 3.3.3.3 is the Designated Router, and three routers on it. A link
 /// joins 1.1.1.1 and 4.4.4.4 too.
@@ -70,43 +70,40 @@ fn hops_in(alloc: Global, graph: &Graph) -> Result<String, Fail> {
     hops_by_tree(alloc, graph, &tree)
 }
 
-/// The edges of the graph of a dump, and the next hops of 1.1.1.1.
-fn edges_and_hops(alloc: Global, dump: &[u8]) -> Result<(String, String), Fail> {
-    let graph = graph_of(alloc, dump)?;
+/// The edges of the graph of a network, and the next hops of 1.1.1.1.
+fn edges_and_hops(alloc: Global, network: &Network) -> Result<(String, String), Fail> {
+    let graph = graph_in(alloc, network)?;
     Ok((edges_text(alloc, &graph)?, hops_in(alloc, &graph)?))
 }
 
-#[test]
-fn edges_and_hops_of_two_routers(rt: HostRuntime) -> Result<(), Fail> {
-    let (edges, hops) = edges_and_hops(rt.alloc(), SAMPLE)?;
-    assert_eq!(rt;
-        edges.as_str(),
-        "0: 1 at 10 by 10.0.0.1,\n1: 0 at 10 by 10.0.0.2,\n"
-    );
-    assert_eq!(rt; hops.as_str(), "0:\n1: link:10.0.0.1\n");
-    Ok(())
-}
-
-/// The edges of the network of three, of each vertex in the order of the text above.
-const EDGES: &str = "\
-0: 3 at 10 by 10.5.0.1, 2 at 5 by 10.0.0.1,
-1: 3 at 10 by 10.5.0.3,
-2: 0 at 5 by 10.0.0.4, 3 at 5 by 10.5.0.4,
-3: 0 at 0 by 10.5.0.1, 1 at 0 by 10.5.0.3, 2 at 0 by 10.5.0.4,
-";
-
-const HOPS: &str = "\
-0:
-1: link:10.0.0.1 gateway:10.5.0.1:10.5.0.3
-2: link:10.0.0.1
-3: link:10.0.0.1 attached:10.5.0.1
-";
+/// Networks, the edges out of each vertex in the order of the texts, and its next hops.
+const NETWORKS: &[(&str, Network, &str, &str)] = &[
+    (
+        "two routers",
+        Network::Sample,
+        "0: 1 at 10 by 10.0.0.1,\n1: 0 at 10 by 10.0.0.2,\n",
+        "0:\n1: link:10.0.0.1\n",
+    ),
+    (
+        "a network",
+        Network::Text(THREE),
+        "0: 3 at 10 by 10.5.0.1, 2 at 5 by 10.0.0.1,\n\
+        1: 3 at 10 by 10.5.0.3,\n\
+        2: 0 at 5 by 10.0.0.4, 3 at 5 by 10.5.0.4,\n\
+        3: 0 at 0 by 10.5.0.1, 1 at 0 by 10.5.0.3, 2 at 0 by 10.5.0.4,\n",
+        "0:\n\
+        1: link:10.0.0.1 gateway:10.5.0.1:10.5.0.3\n\
+        2: link:10.0.0.1\n\
+        3: link:10.0.0.1 attached:10.5.0.1\n",
+    ),
+];
 
 #[test]
-fn edges_and_hops_of_a_network(rt: HostRuntime) -> Result<(), Fail> {
-    let dump = dump_of_text(rt.alloc(), THREE)?;
-    let (edges, hops) = edges_and_hops(rt.alloc(), &dump)?;
-    assert_eq!(rt; edges.as_str(), EDGES);
-    assert_eq!(rt; hops.as_str(), HOPS);
+fn edges_and_hops_of_networks(rt: HostRuntime) -> Result<(), Fail> {
+    for (name, network, edges, hops) in NETWORKS {
+        let found = edges_and_hops(rt.alloc(), network)?;
+        assert_eq!(rt; found.0.as_str(), *edges, "{name}");
+        assert_eq!(rt; found.1.as_str(), *hops, "{name}");
+    }
     Ok(())
 }

@@ -1,12 +1,12 @@
 //! Trees of the two small areas.
 
-use super::built::{graph_of, sample_graph, three_graph, tree_of};
+use super::built::{Network, graph_in, sample_graph, tree_of};
 use super::plain::distances_by_rounds;
 use area_graph::Graph;
 use spf::{Meter, SpfFault, Tree};
 use std::alloc::Global;
 use std::test::*;
-use test_support::{FailingAlloc, R1, R3, R4, SAMPLE, network_of_three};
+use test_support::{FailingAlloc, R1, R3, R4};
 
 /// The root of a tree, and the vertices that it reaches after it: the first, and the second.
 fn turns_of(tree: &Tree) -> (usize, Option<usize>, Option<usize>) {
@@ -67,16 +67,37 @@ fn reached_text(alloc: Global, graph: &Graph, roots: &[u32]) -> Result<String, F
     Ok(text)
 }
 
-/// The same in the graph of a dump.
-fn reached_in(alloc: Global, dump: &[u8], roots: &[u32]) -> Result<String, Fail> {
-    let graph = graph_of(alloc, dump)?;
+/// The same in the graph of a network.
+fn reached_in(alloc: Global, network: &Network, roots: &[u32]) -> Result<String, Fail> {
+    let graph = graph_in(alloc, network)?;
     reached_text(alloc, &graph, roots)
 }
 
+/// Networks, roots, and what their trees reach. Of equal distances a network comes before a router.
+const REACHED: &[(&str, Network, &[u32], &str)] = &[
+    (
+        "the sample",
+        Network::Sample,
+        &[R1],
+        "0 Some(0) 1 Some(10) \n1 counted",
+    ),
+    (
+        "three routers",
+        Network::OfThree,
+        &[R1, R3, R4],
+        "0 Some(0) 2 Some(5) 3 Some(10) 1 Some(10) \n\
+        1 Some(0) 3 Some(10) 0 Some(10) 2 Some(10) \n\
+        2 Some(0) 3 Some(5) 0 Some(5) 1 Some(5) \n\
+        3 counted",
+    ),
+];
+
 #[test]
-fn reaches_the_sample(rt: HostRuntime) -> Result<(), Fail> {
-    let found = reached_in(rt.alloc(), SAMPLE, &[R1])?;
-    assert_eq!(rt; found.as_str(), "0 Some(0) 1 Some(10) \n1 counted");
+fn reaches_a_network_before_a_router(rt: HostRuntime) -> Result<(), Fail> {
+    for (name, network, roots, expected) in REACHED {
+        let found = reached_in(rt.alloc(), network, roots)?;
+        assert_eq!(rt; found.as_str(), *expected, "{name}");
+    }
     Ok(())
 }
 
@@ -86,7 +107,7 @@ const BY_ROUNDS: &[Option<u64>] = &[Some(0), Some(10), Some(5), Some(10)];
 
 /// The same by the plain program.
 fn rounds_of_three(alloc: Global) -> Result<Vec<Option<u64>>, Fail> {
-    let graph = three_graph(alloc)?;
+    let graph = graph_in(alloc, &Network::OfThree)?;
     distances_by_rounds(alloc, &graph, 0)
 }
 
@@ -94,18 +115,6 @@ fn rounds_of_three(alloc: Global) -> Result<Vec<Option<u64>>, Fail> {
 fn measures_by_rounds(rt: HostRuntime) -> Result<(), Fail> {
     let distances = rounds_of_three(rt.alloc())?;
     assert_eq!(rt; distances.as_slice(), BY_ROUNDS);
-    Ok(())
-}
-
-#[test]
-fn reaches_a_network_before_a_router(rt: HostRuntime) -> Result<(), Fail> {
-    let dump = network_of_three(rt.alloc())?;
-    let found = reached_in(rt.alloc(), &dump, &[R1, R3, R4])?;
-    let expected = "0 Some(0) 2 Some(5) 3 Some(10) 1 Some(10) \n\
-        1 Some(0) 3 Some(10) 0 Some(10) 2 Some(10) \n\
-        2 Some(0) 3 Some(5) 0 Some(5) 1 Some(5) \n\
-        3 counted";
-    assert_eq!(rt; found.as_str(), expected);
     Ok(())
 }
 

@@ -1,10 +1,12 @@
-//! LSAs, and why a document contains none.
+//! What documents contain: LSAs, and why there is none.
 
 use super::pieces::{
     ASBR, ASBR_BYTES, LINKS, LINKS_BYTES, NETWORK, NETWORK_BYTES, NO_AREA, OTHER_METRIC, ROUTER,
     ROUTER_BYTES, SUMMARY, SUMMARY_BYTES, SUMMARY_KEY, TYPE_1, TYPE_1_BYTES, TYPE_2, TYPE_2_BYTES,
     UNREADABLE,
 };
+use crate::tests::observed::Expected;
+use crate::tests::printed::parsed::has;
 use frr_json::{JsonFault, is_printed_json, read_printed_json};
 use frr_text::TextFinding;
 use lsa_codec::{AreaId, LsaFault};
@@ -12,87 +14,120 @@ use lsa_instances::Scope;
 use std::alloc::Global;
 use std::test::*;
 
-/// The document contains one LSA alone, of this scope and with these bytes.
-fn contains_only(alloc: Global, text: &[u8], scope: Scope, bytes: &[u8]) -> Result<bool, Fail> {
-    let Ok(printed) = read_printed_json(alloc, text) else {
-        return Ok(false);
-    };
-    Ok(match printed.observations.as_slice() {
-        [one] => printed.findings.is_empty() && one.scope == scope && one.lsa.bytes() == bytes,
-        _ => false,
-    })
+/// Whether a document contains these LSAs and no kind of an area, and gives these findings.
+fn contains(
+    alloc: Global,
+    text: &[u8],
+    lsas: &[Expected],
+    findings: &[TextFinding],
+) -> Result<bool, JsonFault> {
+    Ok(has(&read_printed_json(alloc, text)?, lsas, &[], findings))
 }
 
-/// The document gives these findings and no LSA.
-fn lacks(alloc: Global, text: &[u8], findings: &[TextFinding]) -> bool {
-    match read_printed_json(alloc, text) {
-        Ok(printed) => printed.observations.is_empty() && printed.findings.as_slice() == findings,
-        Err(_) => false,
+const BACKBONE: Scope = Scope::Area(AreaId(0));
+
+const OTHER_AREA: Scope = Scope::Area(AreaId(1));
+
+/// Documents, their LSAs and findings.
+const DOCUMENTS: &[(&str, &[u8], &[Expected], &[TextFinding])] = &[
+    (
+        "a router-LSA of a transit link",
+        ROUTER,
+        &[(BACKBONE, ROUTER_BYTES)],
+        &[],
+    ),
+    (
+        "a router-LSA of a point-to-point link",
+        LINKS,
+        &[(OTHER_AREA, LINKS_BYTES)],
+        &[],
+    ),
+    (
+        "a network-LSA",
+        NETWORK,
+        &[(OTHER_AREA, NETWORK_BYTES)],
+        &[],
+    ),
+    ("a summary-LSA", SUMMARY, &[(BACKBONE, SUMMARY_BYTES)], &[]),
+    (
+        "a summary-LSA of type 4",
+        ASBR,
+        &[(BACKBONE, ASBR_BYTES)],
+        &[],
+    ),
+    (
+        "an external LSA of metric type 1",
+        TYPE_1,
+        &[(Scope::AsWide, TYPE_1_BYTES)],
+        &[],
+    ),
+    (
+        "an external LSA of metric type 2",
+        TYPE_2,
+        &[(Scope::AsWide, TYPE_2_BYTES)],
+        &[],
+    ),
+    (
+        "another checksum than the printed one",
+        OTHER_METRIC,
+        &[],
+        &[TextFinding::Refused(SUMMARY_KEY, LsaFault::Checksum)],
+    ),
+    (
+        "a name that is no area",
+        NO_AREA,
+        &[],
+        &[TextFinding::NoArea(SUMMARY_KEY)],
+    ),
+    (
+        "no Link State ID, and an area that is no array",
+        UNREADABLE,
+        &[],
+        &[TextFinding::Unreadable, TextFinding::Unreadable],
+    ),
+];
+
+#[test]
+fn contents_of_documents(rt: HostRuntime) {
+    for (name, text, lsas, findings) in DOCUMENTS {
+        assert_eq!(rt;
+            contains(rt.alloc(), text, lsas, findings),
+            Ok(true),
+            "{name}"
+        );
     }
 }
 
-/// The document is refused for this fault.
-fn is_refused(alloc: Global, text: &[u8], fault: JsonFault) -> bool {
-    match read_printed_json(alloc, text) {
-        Ok(_) => false,
-        Err(parsed) => parsed == fault,
+/// Texts that have no database, and what they are refused for.
+const REFUSED: &[(&str, &[u8], JsonFault)] = &[
+    ("no end", b"{\"routerId\": ", JsonFault::NotJson),
+    (
+        "a string that is not UTF-8",
+        b"{\"routerId\": \"\xff\"}",
+        JsonFault::NotJson,
+    ),
+    (
+        "no member that is read",
+        b"{\"routerId\": \"1.1.1.1\"}",
+        JsonFault::NoDatabase,
+    ),
+    ("an array", b"[]", JsonFault::NoDatabase),
+];
+
+#[test]
+fn what_is_no_database_is_refused(rt: HostRuntime) {
+    for (name, text, fault) in REFUSED {
+        let found = contains(rt.alloc(), text, &[], &[]);
+        assert_eq!(rt; found, Err(*fault), "{name}");
     }
-}
-
-#[test]
-fn lsas_of_areas_are_rebuilt(rt: HostRuntime) -> Result<(), Fail> {
-    let backbone = Scope::Area(AreaId(0));
-    let other = Scope::Area(AreaId(1));
-    assert!(rt; contains_only(rt.alloc(), ROUTER, backbone, ROUTER_BYTES)?);
-    assert!(rt; contains_only(rt.alloc(), LINKS, other, LINKS_BYTES)?);
-    assert!(rt; contains_only(rt.alloc(), NETWORK, other, NETWORK_BYTES)?);
-    assert!(rt; contains_only(rt.alloc(), SUMMARY, backbone, SUMMARY_BYTES)?);
-    assert!(rt; contains_only(rt.alloc(), ASBR, backbone, ASBR_BYTES)?);
-    Ok(())
-}
-
-#[test]
-fn external_lsas_of_both_metric_types_are_rebuilt(rt: HostRuntime) -> Result<(), Fail> {
-    assert!(rt; contains_only(rt.alloc(), TYPE_1, Scope::AsWide, TYPE_1_BYTES)?);
-    assert!(rt; contains_only(rt.alloc(), TYPE_2, Scope::AsWide, TYPE_2_BYTES)?);
-    Ok(())
-}
-
-#[test]
-fn what_contains_no_lsa_is_reported(rt: HostRuntime) -> Result<(), Fail> {
-    let refused = TextFinding::Refused(SUMMARY_KEY, LsaFault::Checksum);
-    assert!(rt; lacks(rt.alloc(), OTHER_METRIC, &[refused]));
-    assert!(rt; lacks(rt.alloc(), NO_AREA, &[TextFinding::NoArea(SUMMARY_KEY)]));
-    assert!(rt;
-        lacks(
-            rt.alloc(),
-            UNREADABLE,
-            &[TextFinding::Unreadable, TextFinding::Unreadable]
-        )
-    );
-    Ok(())
-}
-
-#[test]
-fn what_is_no_database_is_refused(rt: HostRuntime) -> Result<(), Fail> {
-    assert!(rt; is_refused(rt.alloc(), b"{\"routerId\": ", JsonFault::NotJson));
-    assert!(rt; is_refused(rt.alloc(), b"{\"routerId\": \"\xff\"}", JsonFault::NotJson));
-    assert!(rt;
-        is_refused(
-            rt.alloc(),
-            b"{\"routerId\": \"1.1.1.1\"}",
-            JsonFault::NoDatabase
-        )
-    );
-    assert!(rt; is_refused(rt.alloc(), b"[]", JsonFault::NoDatabase));
-    Ok(())
 }
 
 #[test]
 fn deep_documents_are_refused(rt: HostRuntime) -> Result<(), Fail> {
     let mut deep = Vec::from_slice(rt.alloc(), b"{\"routerLinkStates\": ")?;
     deep.resize(1_000_000, b'[')?;
-    assert!(rt; is_refused(rt.alloc(), &deep, JsonFault::NotJson));
+    let found = contains(rt.alloc(), &deep, &[], &[]);
+    assert_eq!(rt; found, Err(JsonFault::NotJson));
     Ok(())
 }
 

@@ -21,7 +21,7 @@ pub(super) const ROUTER_BYTES: &[u8] = &[
 ];
 
 /// A router-LSA of a point-to-point and a stub link.
-pub(super) const LINKS: &[u8] =
+pub(in crate::tests) const LINKS: &[u8] =
     b"{\"routerId\": \"1.1.1.1\", \"routerLinkStates\": {\"areas\": {\"0.0.0.1\": [{\"lsaAge\": \
     22, \"options\": \"*|-|-|-|-|-|E|-\", \"lsaFlags\": 3, \"flags\": 1, \"abr\": true, \
     \"lsaType\": \"router-LSA\", \"linkStateId\": \"1.1.1.1\", \"advertisingRouter\": \
@@ -33,7 +33,7 @@ pub(super) const LINKS: &[u8] =
     \"networkMask\": \"255.255.255.252\", \"numOfTosMetrics\": 0, \"tos0Metric\": 10}}}]}}}";
 
 /// Its bytes.
-pub(super) const LINKS_BYTES: &[u8] = &[
+pub(in crate::tests) const LINKS_BYTES: &[u8] = &[
     0, 22, 2, 1, 1, 1, 1, 1, 1, 1, 1, 1, 0x80, 0, 0, 3, 70, 0xbb, 0, 48, 1, 0, 0, 2, 4, 4, 4, 4,
     10, 1, 0, 1, 1, 0, 0, 10, 10, 1, 0, 0, 0xff, 0xff, 0xff, 0xfc, 3, 0, 0, 10,
 ];

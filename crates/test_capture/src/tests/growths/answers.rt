@@ -1,14 +1,20 @@
 //! What calls answer, as bytes that say all of it.
 
+use crate::tests::documents::pieces::LINKS_BYTES;
+use crate::tests::printed::parsed::has;
 use capture_files::{Capture, CaptureFault};
+use frr_json::JsonFault;
 use frr_text::Printed;
-use lsa_instances::{AreaReport, Header, Observation};
+use lsa_codec::AreaId;
+use lsa_instances::{AreaReport, Header, Observation, Scope};
 use lsdb::Database;
+use lsdb_listing::{Difference, ListFault, PrintedList};
 use lsdb_merge::JoinFault;
 use network_files::{FileFault, ParsedFile};
 use ospf_packets::Packets;
 use snmp_walk::{Walk, WalkFault};
 use std::alloc::{AllocError, Global};
+use std::fmt::Debug;
 use std::test::*;
 use test_support::{Answer, FailingAlloc};
 
@@ -47,6 +53,21 @@ fn push_headers(text: &mut String, headers: &[Header]) -> Result<(), Fail> {
     Ok(())
 }
 
+/// Findings, whatever they are of, and what files contain beside them.
+fn contents_of<F: Debug>(
+    alloc: Global,
+    findings: &F,
+    observations: &[Observation<&FailingAlloc>],
+    kinds: &[AreaReport],
+    headers: &[Header],
+) -> Result<Answer, Fail> {
+    let mut text = format!(in alloc; "{findings:?}\n")?;
+    push_observations(&mut text, observations)?;
+    push_kinds(&mut text, kinds)?;
+    push_headers(&mut text, headers)?;
+    Ok(Some(text.into_bytes()))
+}
+
 /// The frames of a capture, and how it ends.
 fn capture_text(alloc: Global, capture: &Capture<'_, &FailingAlloc>) -> Result<String, Fail> {
     let (frames, end) = (capture.frames.as_slice(), capture.end);
@@ -65,34 +86,21 @@ pub(super) fn of_capture(
     }
 }
 
-/// What packets contain.
-fn packets_text(alloc: Global, packets: &Packets<&FailingAlloc>) -> Result<String, Fail> {
-    let findings = packets.findings.as_slice();
-    let mut text = format!(in alloc; "{findings:?}\n")?;
-    push_observations(&mut text, &packets.observations)?;
-    push_kinds(&mut text, &packets.kinds)?;
-    push_headers(&mut text, &packets.headers)?;
-    Ok(text)
-}
-
 /// The answer that is what packets contain.
 pub(super) fn of_packets(
     alloc: Global,
     packets: Result<Packets<&FailingAlloc>, AllocError>,
 ) -> Result<Answer, Fail> {
     match packets {
-        Ok(packets) => Ok(Some(packets_text(alloc, &packets)?.into_bytes())),
+        Ok(packets) => contents_of(
+            alloc,
+            &packets.findings.as_slice(),
+            &packets.observations,
+            &packets.kinds,
+            &packets.headers,
+        ),
         Err(AllocError) => Ok(None),
     }
-}
-
-/// What a walk contains.
-fn walk_text(alloc: Global, walk: &Walk<&FailingAlloc>) -> Result<String, Fail> {
-    let findings = walk.findings.as_slice();
-    let mut text = format!(in alloc; "{findings:?}\n")?;
-    push_observations(&mut text, &walk.observations)?;
-    push_kinds(&mut text, &walk.kinds)?;
-    Ok(text)
 }
 
 /// The answer that is what a walk contains.
@@ -101,40 +109,48 @@ pub(super) fn of_walk(
     walk: Result<Walk<&FailingAlloc>, WalkFault>,
 ) -> Result<Answer, Fail> {
     match walk {
-        Ok(walk) => Ok(Some(walk_text(alloc, &walk)?.into_bytes())),
+        Ok(walk) => {
+            let findings = walk.findings.as_slice();
+            contents_of(alloc, &findings, &walk.observations, &walk.kinds, &[])
+        }
         Err(WalkFault::OutOfMemory) => Ok(None),
         Err(fault) => Err(fault)?,
     }
 }
 
-/// What a router prints.
-fn printed_text(alloc: Global, printed: &Printed<&FailingAlloc>) -> Result<String, Fail> {
+/// The answer that is what a router prints.
+fn of_contents(alloc: Global, printed: &Printed<&FailingAlloc>) -> Result<Answer, Fail> {
     let findings = printed.findings.as_slice();
-    let mut text = format!(in alloc; "{findings:?}\n")?;
-    push_observations(&mut text, &printed.observations)?;
-    push_kinds(&mut text, &printed.kinds)?;
-    Ok(text)
+    contents_of(alloc, &findings, &printed.observations, &printed.kinds, &[])
 }
 
-/// The answer that is what a router prints.
+/// The same, where it prints a text.
 pub(super) fn of_printed(
     alloc: Global,
     printed: Result<Printed<&FailingAlloc>, AllocError>,
 ) -> Result<Answer, Fail> {
     match printed {
-        Ok(printed) => Ok(Some(printed_text(alloc, &printed)?.into_bytes())),
+        Ok(printed) => of_contents(alloc, &printed),
         Err(AllocError) => Ok(None),
     }
 }
 
-/// What a file contains.
-fn file_text(alloc: Global, file: &ParsedFile<&FailingAlloc>) -> Result<String, Fail> {
-    let (kind, findings) = (file.kind, file.findings.as_slice());
-    let mut text = format!(in alloc; "{kind:?} {findings:?}\n")?;
-    push_observations(&mut text, &file.observations)?;
-    push_kinds(&mut text, &file.areas)?;
-    push_headers(&mut text, &file.headers)?;
-    Ok(text)
+/// The same, where it prints a document of one LSA. A document that contains something else is a
+/// failure.
+pub(super) fn of_document(
+    alloc: Global,
+    printed: Result<Printed<&FailingAlloc>, JsonFault>,
+) -> Result<Answer, Fail> {
+    match printed {
+        Ok(printed) => {
+            if !has(&printed, &[(Scope::Area(AreaId(1)), LINKS_BYTES)], &[], &[]) {
+                return Err("another document")?;
+            }
+            of_contents(alloc, &printed)
+        }
+        Err(JsonFault::OutOfMemory) => Ok(None),
+        Err(fault) => Err(fault)?,
+    }
 }
 
 /// The answer that is what a file contains.
@@ -143,20 +159,50 @@ pub(super) fn of_file(
     file: Result<ParsedFile<&FailingAlloc>, FileFault>,
 ) -> Result<Answer, Fail> {
     match file {
-        Ok(file) => Ok(Some(file_text(alloc, &file)?.into_bytes())),
+        Ok(file) => contents_of(
+            alloc,
+            &(file.kind, file.findings.as_slice()),
+            &file.observations,
+            &file.areas,
+            &file.headers,
+        ),
         Err(FileFault::OutOfMemory) => Ok(None),
         Err(fault) => Err(fault)?,
     }
 }
 
-/// Observations in their order.
-fn observations_text(
+/// The answer that is a list.
+pub(super) fn of_list(
     alloc: Global,
-    observations: &[Observation<&FailingAlloc>],
-) -> Result<String, Fail> {
-    let mut text = String::new(alloc);
-    push_observations(&mut text, observations)?;
-    Ok(text)
+    list: Result<PrintedList<&FailingAlloc>, ListFault>,
+) -> Result<Answer, Fail> {
+    match list {
+        Ok(list) => contents_of(alloc, &list.findings.as_slice(), &[], &[], &list.headers),
+        Err(ListFault::OutOfMemory) => Ok(None),
+        Err(fault) => Err(fault)?,
+    }
+}
+
+/// The answer that is differences from a list.
+pub(super) fn of_differences(
+    alloc: Global,
+    differences: Result<Vec<Difference, &FailingAlloc>, AllocError>,
+) -> Result<Answer, Fail> {
+    match differences {
+        Ok(differences) => contents_of(alloc, &differences.as_slice(), &[], &[], &[]),
+        Err(AllocError) => Ok(None),
+    }
+}
+
+/// The answer that is lines.
+pub(super) fn of_lines(
+    alloc: Global,
+    lines: Result<String<&FailingAlloc>, AllocError>,
+) -> Result<Answer, Fail> {
+    match lines {
+        Ok(lines) => Ok(Some(Vec::from_slice(alloc, lines.as_bytes())?)),
+        Err(AllocError) => Ok(None),
+    }
 }
 
 /// The answer that is observations.
@@ -165,7 +211,7 @@ pub(super) fn of_observations(
     observations: Result<Vec<Observation<&FailingAlloc>, &FailingAlloc>, AllocError>,
 ) -> Result<Answer, Fail> {
     match observations {
-        Ok(observations) => Ok(Some(observations_text(alloc, &observations)?.into_bytes())),
+        Ok(observations) => contents_of(alloc, &"", &observations, &[], &[]),
         Err(AllocError) => Ok(None),
     }
 }

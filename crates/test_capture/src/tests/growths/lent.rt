@@ -2,37 +2,33 @@
 
 use super::Call;
 use crate::tests::captures::pcapng::LITTLE;
+use crate::tests::documents::pieces::LINKS;
 use crate::tests::files::pieces::{CAPTURE, JSON, TEXT, WALK};
 use crate::tests::instances::bytes::{ANNOUNCED, FLUSHED, NEWER, OLDER, OTHER};
+use crate::tests::lists::pieces::TABLES;
+use crate::tests::observed::{Seen, together};
 use crate::tests::packets::frames::{
     ACKNOWLEDGMENT, BACK, FRONT, MIDDLE, STUB_HELLO, UPDATE, whole,
 };
 use crate::tests::printed::pieces::OTHER_METRIC;
 use capture_files::{Frame, LinkType};
-use lsa_codec::{AreaId, Lsa};
-use lsa_instances::{AreaKind, AreaReport, Observation, Scope};
+use lsa_codec::AreaId;
+use lsa_instances::{AreaKind, AreaReport, Scope};
 use std::alloc::{AllocError, Global};
-use std::test::*;
-use test_support::FailingAlloc;
 
 /// A row of a walk that was cut: a column of it, and not that of the LSA.
 const CUT_ROW: &[u8] = b".1.3.6.1.2.1.14.4.1.5.0.0.0.0.2.192.168.0.1.1.1.1.1 = INTEGER: 33554560\n";
 
-/// Bytes, and others after them.
-fn two(alloc: Global, front: &[u8], back: &[u8]) -> Result<Vec<u8>, AllocError> {
-    let mut bytes = Vec::from_slice(alloc, front)?;
-    bytes.extend_from_slice(back)?;
-    Ok(bytes)
-}
-
 /// The bytes that a call reads.
 pub(super) fn read_bytes(alloc: Global, call: Call) -> Result<Vec<u8>, AllocError> {
     match call {
-        Call::Capture => two(alloc, LITTLE, b""),
-        Call::FileOfCapture => two(alloc, CAPTURE, b""),
-        Call::FileOfDocument => two(alloc, JSON, b""),
-        Call::Walk | Call::FileOfWalk => two(alloc, WALK, CUT_ROW),
-        _ => two(alloc, TEXT, OTHER_METRIC),
+        Call::Capture => together(alloc, &[LITTLE]),
+        Call::Document => together(alloc, &[LINKS]),
+        Call::List => together(alloc, &[TABLES]),
+        Call::FileOfCapture => together(alloc, &[CAPTURE]),
+        Call::FileOfDocument => together(alloc, &[JSON]),
+        Call::Walk | Call::FileOfWalk => together(alloc, &[WALK, CUT_ROW]),
+        _ => together(alloc, &[TEXT, OTHER_METRIC]),
     }
 }
 
@@ -55,9 +51,9 @@ const SEEN: Option<u64> = Some(1_795_401_300_018_396_000);
 
 const FLUSH: Option<u64> = Some(1_795_401_354_177_222_000);
 
-/// Observations: two instances of a router-LSA, another instance in another area, an
+/// The observations that calls are lent: two instances of a router-LSA, another instance in another area, an
 /// AS-external-LSA that is flushed, and another one.
-const OBSERVED: &[(Scope, Option<u64>, &[u8])] = &[
+pub(super) const OBSERVED: &[Seen] = &[
     (Scope::AsWide, SEEN, ANNOUNCED),
     (Scope::Area(AreaId(0)), None, NEWER),
     (Scope::AsWide, FLUSH, FLUSHED),
@@ -71,26 +67,3 @@ pub(super) const AREA: AreaReport = AreaReport {
     id: AreaId(1),
     kind: AreaKind::Stub,
 };
-
-/// Adds an observation.
-fn add<'a>(
-    observed: &mut Vec<Observation<&'a FailingAlloc>, &'a FailingAlloc>,
-    failing: &'a FailingAlloc,
-    observation: &(Scope, Option<u64>, &[u8]),
-) -> Result<(), Fail> {
-    let (scope, seen, bytes) = *observation;
-    let (lsa, _) = Lsa::decode(failing, bytes)?;
-    observed.push(Observation { scope, seen, lsa })?;
-    Ok(())
-}
-
-/// The observations that calls are lent.
-pub(super) fn observations(
-    failing: &FailingAlloc,
-) -> Result<Vec<Observation<&FailingAlloc>, &FailingAlloc>, Fail> {
-    let mut observed = Vec::new(failing);
-    for observation in OBSERVED {
-        add(&mut observed, failing, observation)?;
-    }
-    Ok(observed)
-}

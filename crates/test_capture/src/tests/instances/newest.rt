@@ -1,8 +1,9 @@
 //! What is answered of many observations, with the time stamps of the captures.
 
 use super::bytes::{ANNOUNCED, FARTHER, FLUSHED, NEWER, OLDER, OTHER};
-use lsa_codec::{AreaId, Lsa};
-use lsa_instances::{FlushedLsas, Observation, Scope, newest};
+use crate::tests::observed::{Expected, Seen, are_of, observations};
+use lsa_codec::AreaId;
+use lsa_instances::{FlushedLsas, Scope, newest};
 use std::alloc::Global;
 use std::test::*;
 
@@ -13,125 +14,115 @@ const FLUSH: Option<u64> = Some(1_795_401_354_177_222_000);
 
 const AGAIN: Option<u64> = Some(1_795_401_434_338_445_000);
 
-fn add(
-    parsed: &mut Vec<Observation>,
-    alloc: Global,
-    scope: Scope,
-    seen: Option<u64>,
-    bytes: &[u8],
-) -> Result<(), Fail> {
-    let (lsa, _) = Lsa::decode(alloc, bytes)?;
-    parsed.push(Observation { scope, seen, lsa })?;
-    Ok(())
-}
-
-/// The newest of AS-external-LSAs is one, with these bytes.
-fn is_only(
+/// Whether the newest of what is observed are these LSAs.
+fn are_newest(
     alloc: Global,
     flushed: FlushedLsas,
-    parsed: Vec<Observation>,
-    bytes: &[u8],
+    seen: &[Seen],
+    lsas: &[Expected],
 ) -> Result<bool, Fail> {
-    let found = newest(alloc, flushed, parsed)?;
-    Ok(match found.as_slice() {
-        [one] => one.lsa.bytes() == bytes,
-        _ => false,
-    })
+    let found = newest(alloc, flushed, observations(alloc, seen)?)?;
+    Ok(are_of(&found, lsas))
 }
 
-#[test]
-fn the_newest_instance_stands_in_any_order(rt: HostRuntime) -> Result<(), Fail> {
-    let alloc = rt.alloc();
-    let area = Scope::Area(AreaId(0));
-    let mut parsed = Vec::new(alloc);
-    add(&mut parsed, alloc, area, None, NEWER)?;
-    add(&mut parsed, alloc, area, FIRST, OLDER)?;
-    assert!(rt; is_only(alloc, FlushedLsas::LeftOut, parsed, NEWER)?);
-    let mut parsed = Vec::new(alloc);
-    add(&mut parsed, alloc, area, FIRST, OLDER)?;
-    add(&mut parsed, alloc, area, None, NEWER)?;
-    assert!(rt; is_only(alloc, FlushedLsas::LeftOut, parsed, NEWER)?);
-    Ok(())
-}
+const BACKBONE: Scope = Scope::Area(AreaId(0));
+
+const OTHER_AREA: Scope = Scope::Area(AreaId(1));
+
+/// What becomes of flushed LSAs, what is observed, and the newest of that.
+const NEWEST: &[(&str, FlushedLsas, &[Seen], &[Expected])] = &[
+    (
+        "the newer instance before the older one",
+        FlushedLsas::LeftOut,
+        &[(BACKBONE, None, NEWER), (BACKBONE, FIRST, OLDER)],
+        &[(BACKBONE, NEWER)],
+    ),
+    (
+        "the newer instance after the older one",
+        FlushedLsas::LeftOut,
+        &[(BACKBONE, FIRST, OLDER), (BACKBONE, None, NEWER)],
+        &[(BACKBONE, NEWER)],
+    ),
+    (
+        "of copies the one with the least age",
+        FlushedLsas::LeftOut,
+        &[
+            (Scope::AsWide, FIRST, FARTHER),
+            (Scope::AsWide, FIRST, ANNOUNCED),
+            (Scope::AsWide, FIRST, FARTHER),
+        ],
+        &[(Scope::AsWide, ANNOUNCED)],
+    ),
+    (
+        "a flushed LSA, a copy without a time stamp, and one that was under way",
+        FlushedLsas::LeftOut,
+        &[
+            (Scope::AsWide, FIRST, ANNOUNCED),
+            (Scope::AsWide, FLUSH, FLUSHED),
+            (Scope::AsWide, None, FARTHER),
+            (Scope::AsWide, FLUSH, FARTHER),
+        ],
+        &[],
+    ),
+    (
+        "an LSA that is announced again",
+        FlushedLsas::LeftOut,
+        &[
+            (Scope::AsWide, AGAIN, FARTHER),
+            (Scope::AsWide, FLUSH, FLUSHED),
+            (Scope::AsWide, FIRST, ANNOUNCED),
+        ],
+        &[(Scope::AsWide, FARTHER)],
+    ),
+    (
+        "LSAs in order of their places",
+        FlushedLsas::LeftOut,
+        &[
+            (Scope::AsWide, FIRST, ANNOUNCED),
+            (Scope::AsWide, FIRST, OTHER),
+            (OTHER_AREA, FIRST, OLDER),
+            (BACKBONE, FIRST, NEWER),
+        ],
+        &[
+            (BACKBONE, NEWER),
+            (OTHER_AREA, OLDER),
+            (Scope::AsWide, OTHER),
+            (Scope::AsWide, ANNOUNCED),
+        ],
+    ),
+    (
+        "a flushed LSA that is kept at MaxAge",
+        FlushedLsas::Kept,
+        &[
+            (Scope::AsWide, FIRST, ANNOUNCED),
+            (Scope::AsWide, FLUSH, FLUSHED),
+            (Scope::AsWide, FLUSH, FARTHER),
+        ],
+        &[(Scope::AsWide, FLUSHED)],
+    ),
+    (
+        "the flush alone, which is kept",
+        FlushedLsas::Kept,
+        &[(Scope::AsWide, None, FLUSHED)],
+        &[(Scope::AsWide, FLUSHED)],
+    ),
+    (
+        "an LSA that is announced again after a flush that is kept",
+        FlushedLsas::Kept,
+        &[
+            (Scope::AsWide, AGAIN, FARTHER),
+            (Scope::AsWide, FLUSH, FLUSHED),
+            (Scope::AsWide, FIRST, ANNOUNCED),
+            (Scope::AsWide, FIRST, OTHER),
+        ],
+        &[(Scope::AsWide, OTHER), (Scope::AsWide, FARTHER)],
+    ),
+];
 
 #[test]
-fn of_copies_the_least_age_stands(rt: HostRuntime) -> Result<(), Fail> {
-    let alloc = rt.alloc();
-    let mut parsed = Vec::new(alloc);
-    add(&mut parsed, alloc, Scope::AsWide, FIRST, FARTHER)?;
-    add(&mut parsed, alloc, Scope::AsWide, FIRST, ANNOUNCED)?;
-    add(&mut parsed, alloc, Scope::AsWide, FIRST, FARTHER)?;
-    assert!(rt; is_only(alloc, FlushedLsas::LeftOut, parsed, ANNOUNCED)?);
-    Ok(())
-}
-
-#[test]
-fn a_flushed_lsa_is_gone(rt: HostRuntime) -> Result<(), Fail> {
-    let alloc = rt.alloc();
-    let mut parsed = Vec::new(alloc);
-    add(&mut parsed, alloc, Scope::AsWide, FIRST, ANNOUNCED)?;
-    add(&mut parsed, alloc, Scope::AsWide, FLUSH, FLUSHED)?;
-    // A copy without a time stamp, and one that was under way.
-    add(&mut parsed, alloc, Scope::AsWide, None, FARTHER)?;
-    add(&mut parsed, alloc, Scope::AsWide, FLUSH, FARTHER)?;
-    assert_eq!(rt; newest(alloc, FlushedLsas::LeftOut, parsed)?.len(), 0);
-    Ok(())
-}
-
-#[test]
-fn what_is_announced_again_stands(rt: HostRuntime) -> Result<(), Fail> {
-    let alloc = rt.alloc();
-    let mut parsed = Vec::new(alloc);
-    add(&mut parsed, alloc, Scope::AsWide, AGAIN, FARTHER)?;
-    add(&mut parsed, alloc, Scope::AsWide, FLUSH, FLUSHED)?;
-    add(&mut parsed, alloc, Scope::AsWide, FIRST, ANNOUNCED)?;
-    assert!(rt; is_only(alloc, FlushedLsas::LeftOut, parsed, FARTHER)?);
-    Ok(())
-}
-
-#[test]
-fn lsas_stand_in_order_of_their_places(rt: HostRuntime) -> Result<(), Fail> {
-    let alloc = rt.alloc();
-    let mut parsed = Vec::new(alloc);
-    add(&mut parsed, alloc, Scope::AsWide, FIRST, ANNOUNCED)?;
-    add(&mut parsed, alloc, Scope::AsWide, FIRST, OTHER)?;
-    add(&mut parsed, alloc, Scope::Area(AreaId(1)), FIRST, OLDER)?;
-    add(&mut parsed, alloc, Scope::Area(AreaId(0)), FIRST, NEWER)?;
-    let found = newest(alloc, FlushedLsas::LeftOut, parsed)?;
-    assert_eq!(rt; found.len(), 4);
-    assert!(rt; found[0].lsa.bytes() == NEWER);
-    assert!(rt; found[1].lsa.bytes() == OLDER);
-    assert!(rt; found[2].lsa.bytes() == OTHER);
-    assert!(rt; found[3].lsa.bytes() == ANNOUNCED);
-    Ok(())
-}
-
-#[test]
-fn a_flushed_lsa_is_kept_at_max_age(rt: HostRuntime) -> Result<(), Fail> {
-    let alloc = rt.alloc();
-    let mut parsed = Vec::new(alloc);
-    add(&mut parsed, alloc, Scope::AsWide, FIRST, ANNOUNCED)?;
-    add(&mut parsed, alloc, Scope::AsWide, FLUSH, FLUSHED)?;
-    add(&mut parsed, alloc, Scope::AsWide, FLUSH, FARTHER)?;
-    assert!(rt; is_only(alloc, FlushedLsas::Kept, parsed, FLUSHED)?);
-    // The flush alone.
-    let mut parsed = Vec::new(alloc);
-    add(&mut parsed, alloc, Scope::AsWide, None, FLUSHED)?;
-    assert!(rt; is_only(alloc, FlushedLsas::Kept, parsed, FLUSHED)?);
-    Ok(())
-}
-
-#[test]
-fn what_is_announced_again_stands_for_a_kept_flush(rt: HostRuntime) -> Result<(), Fail> {
-    let alloc = rt.alloc();
-    let mut parsed = Vec::new(alloc);
-    add(&mut parsed, alloc, Scope::AsWide, AGAIN, FARTHER)?;
-    add(&mut parsed, alloc, Scope::AsWide, FLUSH, FLUSHED)?;
-    add(&mut parsed, alloc, Scope::AsWide, FIRST, ANNOUNCED)?;
-    add(&mut parsed, alloc, Scope::AsWide, FIRST, OTHER)?;
-    let found = newest(alloc, FlushedLsas::Kept, parsed)?;
-    assert_eq!(rt; found.len(), 2);
-    assert!(rt; found[0].lsa.bytes() == OTHER);
-    assert!(rt; found[1].lsa.bytes() == FARTHER);
+fn the_newest_of_what_is_observed(rt: HostRuntime) -> Result<(), Fail> {
+    for (name, flushed, seen, lsas) in NEWEST {
+        assert!(rt; are_newest(rt.alloc(), *flushed, seen, lsas)?, "{name}");
+    }
     Ok(())
 }

@@ -10,7 +10,8 @@ pub(super) const STUB_AREA: &[u8] = b"\n       OSPF Router with ID (6.6.6.6)\n\n
     10.1.0.0       2.2.2.2         3600 0x80000002 0xb465 10.1.0.0/30\n\n\n";
 
 /// FRR's tables of an ordinary area and of AS scope.
-pub(super) const TABLES: &[u8] = b"       OSPF Router with ID (10.255.0.1)\n\n                \
+pub(in crate::tests) const TABLES: &[u8] =
+    b"       OSPF Router with ID (10.255.0.1)\n\n                \
     Area-Local Opaque-LSA (Area 0.0.0.0)\n\n\
     Opaque-Type/Id  ADV Router      Age  Seq#       CkSum\n\
     4.0.0.0        10.255.0.3       165 0x80000001 0x31be\n\n                \
@@ -28,7 +29,7 @@ pub(super) const SECTIONS: &[u8] = b"BIRD 2.0.12 ready.\n\nGlobal\n\n \
 
 /// The dump of a backbone with one summary-LSA: 10.1.0.0, of 1.1.1.1, with the LS sequence number
 /// 80000001 and the LS checksum 1136.
-pub(super) const DUMP: &[u8] = b"OSWP\x01\x01\0\0\0\0\0\0\x01\0\x17\x02\x03\x0a\x01\0\0\
+pub(in crate::tests) const DUMP: &[u8] = b"OSWP\x01\x01\0\0\0\0\0\0\x01\0\x17\x02\x03\x0a\x01\0\0\
     \x01\x01\x01\x01\x80\0\0\x01\x11\x36\0\x1c\xff\xff\xff\xfc\0\0\0\x0a\0\0";
 
 /// The same with the LSA at LS age 3600.

@@ -1,76 +1,77 @@
 //! Datagrams that are put together, and fragments that are missing.
 
-use super::frames::{BACK, FRONT, MIDDLE, TWO_LSAS, UPDATE, whole, with};
-use capture_files::{End, Frame, LinkType};
+use super::frames::{
+    BACK, FRONT, MIDDLE, Part, Row, Shot, TWO_LSAS, UPDATE, changed, contain, read_shots, whole,
+};
+use capture_files::{End, LinkType};
 use findings::{Finding, FrameWarning};
-use ospf_packets::{Packets, read_frames};
-use std::alloc::{AllocError, Global};
+use ospf_packets::read_frames;
 use std::test::*;
 
-/// What frames contain.
-fn read(alloc: Global, frames: &[Frame<'_>]) -> Result<Packets, AllocError> {
-    read_frames(alloc, frames, End::Whole)
-}
+/// The fragments in their order.
+const FIRST: Shot = (LinkType::RAW, (FRONT, 0, FRONT.len()), FRONT.len());
 
-/// Whether both LSAs are read, without a finding.
-fn is_whole(packets: &Packets) -> bool {
-    match packets.observations.as_slice() {
-        [first, second] => {
-            let same = first.lsa.bytes() == &TWO_LSAS[62..134]
-                && second.lsa.bytes() == &TWO_LSAS[134..170];
-            same && packets.findings.is_empty()
-        }
-        _ => false,
+const SECOND: Shot = (LinkType::RAW, (MIDDLE, 0, MIDDLE.len()), MIDDLE.len());
+
+const LAST: Shot = (LinkType::RAW, (BACK, 0, BACK.len()), BACK.len());
+
+/// The LSAs of their datagram.
+const LSAS: &[Part] = &[(TWO_LSAS, 62, 134), (TWO_LSAS, 134, 170)];
+
+/// A frame that has no fragment.
+const OTHER: Shot = (LinkType::ETHERNET, (UPDATE, 0, UPDATE.len()), UPDATE.len());
+
+/// What is reported where this number of fragments are missing.
+const ONE: &[Finding] = &[Finding::Frames(FrameWarning::MissingFragment, 1)];
+
+const TWO: &[Finding] = &[Finding::Frames(FrameWarning::MissingFragment, 2)];
+
+const THREE: &[Finding] = &[Finding::Frames(FrameWarning::MissingFragment, 3)];
+
+/// What fragments contain. A frame between them contains what it contains alone.
+const FRAGMENTS: &[Row] = &[
+    ("each once", &[FIRST, SECOND, LAST], LSAS, &[], &[]),
+    (
+        "one that is seen twice",
+        &[FIRST, SECOND, SECOND, LAST],
+        LSAS,
+        &[],
+        &[],
+    ),
+    (
+        "a frame between",
+        &[FIRST, OTHER, SECOND, LAST],
+        &[(TWO_LSAS, 62, 134), (TWO_LSAS, 134, 170), (UPDATE, 62, 94)],
+        &[],
+        &[],
+    ),
+    ("the first alone", &[FIRST], &[], &[], ONE),
+    ("the first and the second", &[FIRST, SECOND], &[], &[], ONE),
+    ("the first and the last", &[FIRST, LAST], &[], &[], TWO),
+    ("the second and the last", &[SECOND, LAST], &[], &[], ONE),
+    ("the reverse order", &[LAST, SECOND, FIRST], &[], &[], THREE),
+];
+
+#[test]
+fn contents_of_fragments(rt: HostRuntime) -> Result<(), Fail> {
+    for (name, shots, lsas, kinds, findings) in FRAGMENTS {
+        let packets = read_shots(rt.alloc(), shots)?;
+        assert!(rt; contain(&packets, lsas, kinds, findings), "{name}");
     }
-}
-
-/// Whether this number of fragments are missing, without another finding, and no LSA is read.
-fn is_missing(packets: &Packets, count: usize) -> bool {
-    let missing = Finding::Frames(FrameWarning::MissingFragment, count);
-    packets.findings.as_slice() == [missing].as_slice() && packets.observations.is_empty()
-}
-
-#[test]
-fn fragments_are_put_together(rt: HostRuntime) -> Result<(), Fail> {
-    let alloc = rt.alloc();
-    let front = whole(LinkType::RAW, FRONT);
-    let middle = whole(LinkType::RAW, MIDDLE);
-    let back = whole(LinkType::RAW, BACK);
-    assert!(rt; is_whole(&read(alloc, &[front, middle, back])?));
-    // A fragment that is seen twice.
-    assert!(rt; is_whole(&read(alloc, &[front, middle, middle, back])?));
-    // A frame between fragments contains what it contains alone.
-    let update = whole(LinkType::ETHERNET, UPDATE);
-    let packets = read(alloc, &[front, update, middle, back])?;
-    assert_eq!(rt; packets.observations.len(), 3);
-    assert_eq!(rt; packets.findings.len(), 0);
     Ok(())
 }
 
-#[test]
-fn missing_fragments_are_reported(rt: HostRuntime) -> Result<(), Fail> {
-    let alloc = rt.alloc();
-    let front = whole(LinkType::RAW, FRONT);
-    let middle = whole(LinkType::RAW, MIDDLE);
-    let back = whole(LinkType::RAW, BACK);
-    assert!(rt; is_missing(&read(alloc, &[front])?, 1));
-    assert!(rt; is_missing(&read(alloc, &[front, middle])?, 1));
-    assert!(rt; is_missing(&read(alloc, &[front, back])?, 2));
-    assert!(rt; is_missing(&read(alloc, &[middle, back])?, 1));
-    assert!(rt; is_missing(&read(alloc, &[back, middle, front])?, 3));
-    Ok(())
-}
-
+/// Where the last fragment names another source, destination or identification.
 #[test]
 fn fragments_of_other_datagrams_are_others(rt: HostRuntime) -> Result<(), Fail> {
     let alloc = rt.alloc();
     let front = whole(LinkType::RAW, FRONT);
     let middle = whole(LinkType::RAW, MIDDLE);
-    // Another source, destination, identification.
     for place in [15, 19, 5] {
-        let other = with(alloc, BACK, place, 0x77)?;
+        let other = changed(alloc, BACK, &[(place, 0x77)])?;
         let back = whole(LinkType::RAW, &other);
-        assert!(rt; is_missing(&read(alloc, &[front, middle, back])?, 2));
+        let packets = read_frames(alloc, &[front, middle, back], End::Whole)?;
+        assert!(rt; contain(&packets, &[], &[], TWO), "at {place}");
     }
     Ok(())
 }

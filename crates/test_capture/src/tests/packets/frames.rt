@@ -2,10 +2,12 @@
 //! separate program.
 
 use capture_files::{End, Frame, LinkType};
-use findings::{Finding, FrameWarning};
-use lsa_instances::Scope;
+use findings::Finding;
+use lsa_codec::AreaId;
+use lsa_instances::{AreaReport, Observation, Scope};
 use ospf_packets::{Packets, read_frames};
 use std::alloc::{AllocError, Global};
+use std::test::*;
 
 /// Ethernet. A Link State Update packet of area 0.0.0.0 with a network-LSA, from byte 62 on.
 pub(in crate::tests) const UPDATE: &[u8] = &[
@@ -146,50 +148,77 @@ pub(in crate::tests) fn whole(link: LinkType, bytes: &[u8]) -> Frame<'_> {
     cut(link, bytes, bytes.len().min(65_535) as u32)
 }
 
+/// A part of some bytes: from a place on, and before another one.
+pub(super) type Part = (&'static [u8], usize, usize);
+
+/// A frame: its link, what was captured of it, and how many bytes it had on the link.
+pub(super) type Shot = (LinkType, Part, usize);
+
+/// What stands in a table of frames: a name, the frames, and what they contain: LSAs of the
+/// backbone, kinds of areas, and findings.
+pub(super) type Row = (
+    &'static str,
+    &'static [Shot],
+    &'static [Part],
+    &'static [AreaReport],
+    &'static [Finding],
+);
+
+/// The frame of a shot.
+fn frame(shot: &Shot) -> Option<Frame<'static>> {
+    let (link, (bytes, from, to), original) = *shot;
+    let captured = bytes.get(from..to)?;
+    Some(cut(link, captured, original.min(65_535) as u32))
+}
+
+/// What frames contain.
+pub(super) fn read_shots(alloc: Global, shots: &[Shot]) -> Result<Packets, Fail> {
+    let mut frames = Vec::new(alloc);
+    for shot in shots {
+        frames.push(frame(shot).ok_or("a part")?)?;
+    }
+    Ok(read_frames(alloc, &frames, End::Whole)?)
+}
+
 /// What a frame contains.
 pub(super) fn read(alloc: Global, link: LinkType, bytes: &[u8]) -> Result<Packets, AllocError> {
     read_frames(alloc, &[whole(link, bytes)], End::Whole)
 }
 
-/// The bytes with another one at a place.
-pub(super) fn with(
+/// The bytes with others at some places.
+pub(in crate::tests) fn changed(
     alloc: Global,
     bytes: &[u8],
-    place: usize,
-    byte: u8,
+    changes: &[(usize, u8)],
 ) -> Result<Vec<u8>, AllocError> {
     let mut changed = Vec::from_slice(alloc, bytes)?;
-    if let Some(found) = changed.get_mut(place) {
-        *found = byte;
+    for (place, byte) in changes {
+        if let Some(found) = changed.get_mut(*place) {
+            *found = *byte;
+        }
     }
     Ok(changed)
 }
 
-/// The bytes with two others from a place on.
-pub(super) fn with_word(
-    alloc: Global,
-    bytes: &[u8],
-    place: usize,
-    word: u16,
-) -> Result<Vec<u8>, AllocError> {
-    let [high, low] = word.to_be_bytes();
-    let changed = with(alloc, bytes, place, high)?;
-    with(alloc, &changed, place.saturating_add(1), low)
-}
-
-/// Whether one LSA alone is read, with these bytes and this scope, without a finding.
-pub(super) fn is_only(packets: &Packets, scope: Scope, bytes: &[u8]) -> bool {
-    match packets.observations.as_slice() {
-        [one] => {
-            let same = one.lsa.bytes() == bytes && one.scope == scope && one.seen == SEEN;
-            same && packets.findings.is_empty() && packets.kinds.is_empty()
+/// Whether observations are of these LSAs of the backbone, seen with the frames, in this order.
+fn are_of(observations: &[Observation], lsas: &[Part]) -> bool {
+    for (observation, (bytes, from, to)) in observations.iter().zip(lsas.iter()) {
+        let place = (observation.scope, observation.seen);
+        let is_there = place == (Scope::Area(AreaId::BACKBONE), SEEN);
+        if !is_there || bytes.get(*from..*to) != Some(observation.lsa.bytes()) {
+            return false;
         }
-        _ => false,
     }
+    observations.len() == lsas.len()
 }
 
-/// Whether this is the only warning about the frames, and this number of LSAs are read.
-pub(super) fn is_warning(packets: &Packets, warning: FrameWarning, lsas: usize) -> bool {
-    packets.findings.as_slice() == [Finding::Frames(warning, 1)].as_slice()
-        && packets.observations.len() == lsas
+/// Whether packets contain these LSAs and kinds of areas, and give these findings.
+pub(super) fn contain(
+    packets: &Packets,
+    lsas: &[Part],
+    kinds: &[AreaReport],
+    findings: &[Finding],
+) -> bool {
+    let is_parsed = are_of(&packets.observations, lsas) && packets.kinds.as_slice() == kinds;
+    is_parsed && packets.findings.as_slice() == findings
 }

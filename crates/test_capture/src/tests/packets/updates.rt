@@ -1,61 +1,141 @@
-//! The LSAs of update packets, over each type of link.
+//! What frames contain, over each type of link, whole ones and others.
 
 use super::frames::{
-    ACKNOWLEDGMENT, COOKED, COOKED_2, DIGEST, TAGGED, TWO_LSAS, UPDATE, is_only, read,
+    ACKNOWLEDGMENT, COOKED, COOKED_2, DIGEST, Part, Row, STUB_HELLO, Shot, TAGGED, TWO_LSAS,
+    UPDATE, contain, read_shots,
 };
 use capture_files::LinkType;
+use findings::{Finding, FrameWarning};
 use lsa_codec::AreaId;
-use lsa_instances::Scope;
+use lsa_instances::{AreaKind, AreaReport};
 use std::test::*;
 
-/// The backbone.
-const BACKBONE: Scope = Scope::Area(AreaId::BACKBONE);
+/// The frame with an update of one LSA, and that LSA.
+const WITH_LSA: Shot = (LinkType::ETHERNET, (UPDATE, 0, UPDATE.len()), UPDATE.len());
+
+const LSA: Part = (UPDATE, 62, 94);
+
+/// The LSAs of the frame with an update of two.
+const FIRST: Part = (TWO_LSAS, 62, 134);
+
+const SECOND: Part = (TWO_LSAS, 134, 170);
+
+/// The frame with a Hello packet, and the area of that.
+const WITH_HELLO: Shot = (
+    LinkType::ETHERNET,
+    (STUB_HELLO, 0, STUB_HELLO.len()),
+    STUB_HELLO.len(),
+);
+
+const STUB: AreaReport = AreaReport {
+    id: AreaId(2),
+    kind: AreaKind::Stub,
+};
+
+/// What frames contain.
+const FRAMES: &[Row] = &[
+    ("Ethernet", &[WITH_LSA], &[LSA], &[], &[]),
+    (
+        "IP of any version",
+        &[(LinkType::RAW, (UPDATE, 14, UPDATE.len()), 80)],
+        &[LSA],
+        &[],
+        &[],
+    ),
+    (
+        "IPv4",
+        &[(LinkType::IPV4, (UPDATE, 14, UPDATE.len()), 80)],
+        &[LSA],
+        &[],
+        &[],
+    ),
+    (
+        "Linux cooked capture",
+        &[(LinkType::LINUX_SLL, (COOKED, 0, COOKED.len()), COOKED.len())],
+        &[LSA],
+        &[],
+        &[],
+    ),
+    (
+        "Linux cooked capture, version 2",
+        &[(
+            LinkType::LINUX_SLL2,
+            (COOKED_2, 0, COOKED_2.len()),
+            COOKED_2.len(),
+        )],
+        &[LSA],
+        &[],
+        &[],
+    ),
+    (
+        "a VLAN tag",
+        &[(LinkType::ETHERNET, (TAGGED, 0, TAGGED.len()), TAGGED.len())],
+        &[(TAGGED, 66, 94)],
+        &[],
+        &[],
+    ),
+    (
+        "a digest",
+        &[(LinkType::ETHERNET, (DIGEST, 0, DIGEST.len()), DIGEST.len())],
+        &[(DIGEST, 62, 90)],
+        &[],
+        &[],
+    ),
+    (
+        "two LSAs in order",
+        &[(
+            LinkType::ETHERNET,
+            (TWO_LSAS, 0, TWO_LSAS.len()),
+            TWO_LSAS.len(),
+        )],
+        &[FIRST, SECOND],
+        &[],
+        &[],
+    ),
+    (
+        "an acknowledgment",
+        &[(
+            LinkType::ETHERNET,
+            (ACKNOWLEDGMENT, 0, ACKNOWLEDGMENT.len()),
+            ACKNOWLEDGMENT.len(),
+        )],
+        &[],
+        &[],
+        &[],
+    ),
+    (
+        "a frame that was cut by a byte",
+        &[(LinkType::ETHERNET, (TWO_LSAS, 0, 169), 170)],
+        &[FIRST],
+        &[],
+        &[Finding::Frames(FrameWarning::Truncated, 1)],
+    ),
+    (
+        "the same bytes in a frame that had no more",
+        &[(LinkType::ETHERNET, (TWO_LSAS, 0, 169), 169)],
+        &[],
+        &[],
+        &[Finding::Frames(FrameWarning::BadLength, 1)],
+    ),
+    (
+        "frames one after another, one of another link",
+        &[
+            WITH_LSA,
+            (LinkType(127), (UPDATE, 0, UPDATE.len()), UPDATE.len()),
+            WITH_HELLO,
+            WITH_LSA,
+        ],
+        &[LSA, LSA],
+        &[STUB],
+        &[Finding::Frames(FrameWarning::OtherLink, 1)],
+    ),
+];
 
 #[test]
-fn an_update_contains_its_lsa_on_each_link(rt: HostRuntime) -> Result<(), Fail> {
-    let alloc = rt.alloc();
-    let lsa = &UPDATE[62..94];
-    let packets = read(alloc, LinkType::ETHERNET, UPDATE)?;
-    assert!(rt; is_only(&packets, BACKBONE, lsa));
-    let packets = read(alloc, LinkType::RAW, &UPDATE[14..])?;
-    assert!(rt; is_only(&packets, BACKBONE, lsa));
-    let packets = read(alloc, LinkType::IPV4, &UPDATE[14..])?;
-    assert!(rt; is_only(&packets, BACKBONE, lsa));
-    let packets = read(alloc, LinkType::LINUX_SLL, COOKED)?;
-    assert!(rt; is_only(&packets, BACKBONE, lsa));
-    let packets = read(alloc, LinkType::LINUX_SLL2, COOKED_2)?;
-    assert!(rt; is_only(&packets, BACKBONE, lsa));
-    Ok(())
-}
-
-#[test]
-fn a_tag_and_a_digest_are_no_part_of_the_packet(rt: HostRuntime) -> Result<(), Fail> {
-    let alloc = rt.alloc();
-    let lsa = &TAGGED[66..94];
-    let packets = read(alloc, LinkType::ETHERNET, TAGGED)?;
-    assert!(rt; is_only(&packets, BACKBONE, lsa));
-    let packets = read(alloc, LinkType::ETHERNET, DIGEST)?;
-    assert_eq!(rt; packets.observations.len(), 1);
-    assert!(rt; packets.observations[0].lsa.bytes() == &DIGEST[62..90]);
-    assert!(rt; packets.findings.is_empty());
-    Ok(())
-}
-
-#[test]
-fn an_update_contains_all_of_its_lsas_in_order(rt: HostRuntime) -> Result<(), Fail> {
-    let packets = read(rt.alloc(), LinkType::ETHERNET, TWO_LSAS)?;
-    assert_eq!(rt; packets.observations.len(), 2);
-    assert!(rt; packets.observations[0].lsa.bytes() == &TWO_LSAS[62..134]);
-    assert!(rt; packets.observations[1].lsa.bytes() == &TWO_LSAS[134..170]);
-    assert!(rt; packets.findings.is_empty());
-    Ok(())
-}
-
-#[test]
-fn an_acknowledgment_contains_no_lsa(rt: HostRuntime) -> Result<(), Fail> {
-    let packets = read(rt.alloc(), LinkType::ETHERNET, ACKNOWLEDGMENT)?;
-    assert_eq!(rt; packets.observations.len(), 0);
-    assert_eq!(rt; packets.kinds.len(), 0);
-    assert_eq!(rt; packets.findings.len(), 0);
+fn contents_of_frames(rt: HostRuntime) -> Result<(), Fail> {
+    for (name, shots, lsas, kinds, findings) in FRAMES {
+        let packets = read_shots(rt.alloc(), shots)?;
+        assert!(rt; contain(&packets, lsas, kinds, findings), "{name}");
+    }
     Ok(())
 }

@@ -1,8 +1,6 @@
 //! Warnings about frames.
 
-use super::frames::{
-    DIGEST, STUB_HELLO, TWO_LSAS, UPDATE, cut, is_warning, read, whole, with, with_word,
-};
+use super::frames::{DIGEST, STUB_HELLO, UPDATE, changed, contain, cut, read};
 use capture_files::{End, LinkType};
 use findings::{Finding, FrameWarning};
 use lsa_codec::LsaFault;
@@ -10,129 +8,193 @@ use ospf_packets::read_frames;
 use std::alloc::Global;
 use std::test::*;
 
-/// Whether this is the only warning about the update with another byte at a place, and no LSA is
-/// read.
-fn is_warning_with(
+/// Whether a frame with these changes gives these findings, and this number of LSAs.
+fn gives(
     alloc: Global,
-    place: usize,
-    byte: u8,
-    warning: FrameWarning,
-) -> Result<bool, Fail> {
-    let changed = with(alloc, UPDATE, place, byte)?;
-    let packets = read(alloc, LinkType::ETHERNET, &changed)?;
-    Ok(is_warning(&packets, warning, 0))
-}
-
-/// Whether nothing is read of the update with another byte at a place, without a finding.
-fn is_passed_over_with(alloc: Global, place: usize, byte: u8) -> Result<bool, Fail> {
-    let changed = with(alloc, UPDATE, place, byte)?;
-    let packets = read(alloc, LinkType::ETHERNET, &changed)?;
-    Ok(packets.findings.is_empty() && packets.observations.is_empty())
-}
-
-/// Whether this is the only warning about the update with another word at a place, and with this
-/// checksum.
-fn is_warning_summed(
-    alloc: Global,
-    place: usize,
-    word: u16,
-    checksum: u16,
-    warning: FrameWarning,
+    link: LinkType,
+    frame: &[u8],
+    changes: &[(usize, u8)],
+    findings: &[Finding],
     lsas: usize,
 ) -> Result<bool, Fail> {
-    let changed = with_word(alloc, UPDATE, place, word)?;
-    let summed = with_word(alloc, &changed, 46, checksum)?;
-    let packets = read(alloc, LinkType::ETHERNET, &summed)?;
-    Ok(is_warning(&packets, warning, lsas))
+    let changed = changed(alloc, frame, changes)?;
+    let packets = read(alloc, link, &changed)?;
+    Ok(packets.findings.as_slice() == findings && packets.observations.len() == lsas)
 }
 
+const OTHER_LINK: &[Finding] = &[Finding::Frames(FrameWarning::OtherLink, 1)];
+
+const OTHER_VERSION: &[Finding] = &[Finding::Frames(FrameWarning::OtherVersion, 1)];
+
+const OTHER_TYPE: &[Finding] = &[Finding::Frames(FrameWarning::OtherType, 1)];
+
+const BAD_LENGTH: &[Finding] = &[Finding::Frames(FrameWarning::BadLength, 1)];
+
+const BAD_CHECKSUM: &[Finding] = &[Finding::Frames(FrameWarning::BadChecksum, 1)];
+
+const REFUSED: &[Finding] = &[Finding::Frames(FrameWarning::RefusedLsa(LsaFault::Checksum), 1)];
+
+const ETHERNET: LinkType = LinkType::ETHERNET;
+
+/// What is wrong with a frame, its link, the frame, other bytes at some places, the findings, and
+/// the number of LSAs. Where the checksum of the packet is to be good, it is among the bytes, at 46
+/// and 47.
+const CHANGED: &[(&str, LinkType, &[u8], &[(usize, u8)], &[Finding], usize)] = &[
+    ("another link", LinkType(127), UPDATE, &[], OTHER_LINK, 0),
+    // What is passed over.
+    ("ARP", ETHERNET, UPDATE, &[(13, 0x06)], &[], 0),
+    ("IPv6", ETHERNET, UPDATE, &[(12, 0x86)], &[], 0),
+    (
+        "an IPv6 header after the EtherType of IPv4",
+        ETHERNET,
+        UPDATE,
+        &[(14, 0x65)],
+        &[],
+        0,
+    ),
+    ("TCP", ETHERNET, UPDATE, &[(23, 0x06)], &[], 0),
+    // Other packets.
+    (
+        "version 3",
+        ETHERNET,
+        UPDATE,
+        &[(34, 0x03)],
+        OTHER_VERSION,
+        0,
+    ),
+    (
+        "type 6",
+        ETHERNET,
+        UPDATE,
+        &[(35, 0x06), (46, 0x55), (47, 0x57)],
+        OTHER_TYPE,
+        0,
+    ),
+    // Malformed lengths.
+    (
+        "16 bytes of a header",
+        ETHERNET,
+        UPDATE,
+        &[(14, 0x44)],
+        BAD_LENGTH,
+        0,
+    ),
+    (
+        "a datagram of 19 bytes",
+        ETHERNET,
+        UPDATE,
+        &[(17, 0x13)],
+        BAD_LENGTH,
+        0,
+    ),
+    (
+        "a datagram of 81 bytes",
+        ETHERNET,
+        UPDATE,
+        &[(17, 0x51)],
+        BAD_LENGTH,
+        0,
+    ),
+    (
+        "a packet of 23 bytes",
+        ETHERNET,
+        UPDATE,
+        &[(37, 0x17)],
+        BAD_LENGTH,
+        0,
+    ),
+    (
+        "a packet of 61 bytes",
+        ETHERNET,
+        UPDATE,
+        &[(37, 0x3d)],
+        BAD_LENGTH,
+        0,
+    ),
+    (
+        "an LSA of 16 bytes",
+        ETHERNET,
+        UPDATE,
+        &[(80, 0x00), (81, 0x10), (46, 0x55), (47, 0x69)],
+        BAD_LENGTH,
+        0,
+    ),
+    (
+        "an LSA of 64 bytes",
+        ETHERNET,
+        UPDATE,
+        &[(80, 0x00), (81, 0x40), (46, 0x55), (47, 0x39)],
+        BAD_LENGTH,
+        0,
+    ),
+    (
+        "a second LSA",
+        ETHERNET,
+        UPDATE,
+        &[(60, 0x00), (61, 0x02), (46, 0x55), (47, 0x58)],
+        BAD_LENGTH,
+        1,
+    ),
+    // Checksums.
+    (
+        "the checksum of the packet",
+        ETHERNET,
+        UPDATE,
+        &[(93, 0x04)],
+        BAD_CHECKSUM,
+        0,
+    ),
+    (
+        "the checksum of the LSA",
+        ETHERNET,
+        UPDATE,
+        &[(92, 0x03), (93, 0x04), (46, 0x55), (47, 0x58)],
+        REFUSED,
+        0,
+    ),
+    (
+        "the checksum of an LSA in a packet with a digest, which has no checksum",
+        ETHERNET,
+        DIGEST,
+        &[(89, 0x01)],
+        REFUSED,
+        0,
+    ),
+];
+
 #[test]
-fn what_is_no_ospf_is_passed_over(rt: HostRuntime) -> Result<(), Fail> {
-    let alloc = rt.alloc();
-    let packets = read(alloc, LinkType(127), UPDATE)?;
-    assert!(rt; is_warning(&packets, FrameWarning::OtherLink, 0));
-    // ARP, IPv6, an IPv6 header after the EtherType of IPv4, and TCP.
-    assert!(rt; is_passed_over_with(alloc, 13, 0x06)?);
-    assert!(rt; is_passed_over_with(alloc, 12, 0x86)?);
-    assert!(rt; is_passed_over_with(alloc, 14, 0x65)?);
-    assert!(rt; is_passed_over_with(alloc, 23, 0x06)?);
-    // OSPF version 3, and a packet of type 6.
-    assert!(rt; is_warning_with(alloc, 34, 0x03, FrameWarning::OtherVersion)?);
-    assert!(rt; is_warning_summed(alloc, 34, 0x0206, 0x5557, FrameWarning::OtherType, 0)?);
+fn warnings_about_changed_frames(rt: HostRuntime) -> Result<(), Fail> {
+    for (name, link, frame, changes, findings, lsas) in CHANGED {
+        let is_so = gives(rt.alloc(), *link, frame, changes, findings, *lsas)?;
+        assert!(rt; is_so, "{name}");
+    }
     Ok(())
 }
 
-#[test]
-fn malformed_lengths(rt: HostRuntime) -> Result<(), Fail> {
-    let alloc = rt.alloc();
-    // The header of the datagram: 16 bytes; its length: 19, 81.
-    assert!(rt; is_warning_with(alloc, 14, 0x44, FrameWarning::BadLength)?);
-    assert!(rt; is_warning_with(alloc, 17, 0x13, FrameWarning::BadLength)?);
-    assert!(rt; is_warning_with(alloc, 17, 0x51, FrameWarning::BadLength)?);
-    // The packet: 23, 61.
-    assert!(rt; is_warning_with(alloc, 37, 0x17, FrameWarning::BadLength)?);
-    assert!(rt; is_warning_with(alloc, 37, 0x3d, FrameWarning::BadLength)?);
-    // The LSA: 16, 64. A second LSA.
-    assert!(rt; is_warning_summed(alloc, 80, 0x0010, 0x5569, FrameWarning::BadLength, 0)?);
-    assert!(rt; is_warning_summed(alloc, 80, 0x0040, 0x5539, FrameWarning::BadLength, 0)?);
-    assert!(rt; is_warning_summed(alloc, 60, 0x0002, 0x5558, FrameWarning::BadLength, 1)?);
-    Ok(())
+/// The first size of a front of a frame that is not reported to be cut, or that contains something,
+/// where the frame had this number of bytes on the link.
+fn first_other(alloc: Global, frame: &[u8], original: u32) -> Result<Option<usize>, Fail> {
+    let truncated = Finding::Frames(FrameWarning::Truncated, 1);
+    for size in 0..frame.len() {
+        let front = cut(LinkType::ETHERNET, &frame[..size], original);
+        let packets = read_frames(alloc, &[front], End::Whole)?;
+        if !contain(&packets, &[], &[], &[truncated]) {
+            return Ok(Some(size));
+        }
+    }
+    Ok(None)
 }
 
-#[test]
-fn checksums_of_the_packet_and_of_the_lsa(rt: HostRuntime) -> Result<(), Fail> {
-    let alloc = rt.alloc();
-    assert!(rt; is_warning_with(alloc, 93, 0x04, FrameWarning::BadChecksum)?);
-    let refused = FrameWarning::RefusedLsa(LsaFault::Checksum);
-    assert!(rt; is_warning_summed(alloc, 92, 0x0304, 0x5558, refused, 0)?);
-    // The packet with a digest has no checksum.
-    let changed = with(alloc, DIGEST, 89, 0x01)?;
-    let packets = read(alloc, LinkType::ETHERNET, &changed)?;
-    assert!(rt; is_warning(&packets, refused, 0));
-    Ok(())
-}
-
-#[test]
-fn frames_that_were_cut_contain_what_is_whole(rt: HostRuntime) -> Result<(), Fail> {
-    let alloc = rt.alloc();
-    let frame = cut(LinkType::ETHERNET, &TWO_LSAS[..169], 170);
-    let packets = read_frames(alloc, &[frame], End::Whole)?;
-    assert!(rt; is_warning(&packets, FrameWarning::Truncated, 1));
-    assert_eq!(rt; packets.observations.len(), 1);
-    assert!(rt; packets.observations[0].lsa.bytes() == &TWO_LSAS[62..134]);
-    // The same bytes in a frame that had no more.
-    let packets = read(alloc, LinkType::ETHERNET, &TWO_LSAS[..169])?;
-    assert!(rt; is_warning(&packets, FrameWarning::BadLength, 0));
-    Ok(())
-}
+/// Frames, and their sizes.
+const WHOLE: &[(&str, &[u8], u32)] = &[
+    ("an update", UPDATE, 94),
+    ("a Hello packet", STUB_HELLO, 78),
+];
 
 #[test]
 fn each_cut_of_a_frame_is_reported(rt: HostRuntime) -> Result<(), Fail> {
-    let alloc = rt.alloc();
-    for size in 0..UPDATE.len() {
-        let front = &UPDATE[..size];
-        let packets = read_frames(alloc, &[cut(LinkType::ETHERNET, front, 94)], End::Whole)?;
-        assert!(rt; is_warning(&packets, FrameWarning::Truncated, 0));
+    for (name, frame, original) in WHOLE {
+        assert_eq!(rt; first_other(rt.alloc(), frame, *original)?, None, "{name}");
     }
-    for size in 0..STUB_HELLO.len() {
-        let front = &STUB_HELLO[..size];
-        let packets = read_frames(alloc, &[cut(LinkType::ETHERNET, front, 78)], End::Whole)?;
-        assert!(rt; is_warning(&packets, FrameWarning::Truncated, 0));
-        assert_eq!(rt; packets.kinds.len(), 0);
-    }
-    Ok(())
-}
-
-#[test]
-fn frames_are_read_one_after_another(rt: HostRuntime) -> Result<(), Fail> {
-    let alloc = rt.alloc();
-    let update = whole(LinkType::ETHERNET, UPDATE);
-    let hello = whole(LinkType::ETHERNET, STUB_HELLO);
-    let other = whole(LinkType(127), UPDATE);
-    let packets = read_frames(alloc, &[update, other, hello, update], End::Whole)?;
-    assert_eq!(rt; packets.observations.len(), 2);
-    assert_eq!(rt; packets.kinds.len(), 1);
-    let finding = Finding::Frames(FrameWarning::OtherLink, 1);
-    assert!(rt; packets.findings.as_slice() == [finding].as_slice());
     Ok(())
 }

@@ -1,108 +1,128 @@
-//! LSAs, and why a text contains none.
+//! What texts contain: LSAs, kinds of areas, and why there is none.
 
 use super::pieces::{
-    ASBR, ASBR_BYTES, BORDER, BORDER_BYTES, EXTERNALS, NETWORK, NETWORK_BYTES, OPAQUE,
+    ASBR, ASBR_BYTES, BORDER, BORDER_BYTES, EXTERNALS, HEADINGS, NETWORK, NETWORK_BYTES, OPAQUE,
     OTHER_METRIC, ROUTER, ROUTER_BYTES, SUMMARY, SUMMARY_BYTES, SUMMARY_KEY, TYPE_1_BYTES,
     TYPE_2_BYTES,
 };
-use frr_text::{TextFinding, is_printed, read_printed};
+use crate::tests::observed::{Expected, are_of};
+use frr_text::{Printed, TextFinding, is_printed, read_printed};
 use lsa_codec::{AreaId, LsaFault};
 use lsa_instances::{AreaKind, AreaReport, Scope};
-use std::alloc::Global;
+use std::alloc::{Allocator, Global};
 use std::test::*;
 
-/// The text contains one LSA alone, in this area and with these bytes.
-fn contains_only(alloc: Global, text: &[u8], area: AreaId, bytes: &[u8]) -> Result<bool, Fail> {
-    let printed = read_printed(alloc, text)?;
-    Ok(match printed.observations.as_slice() {
-        [one] => one.scope == Scope::Area(area) && one.lsa.bytes() == bytes,
-        _ => false,
-    })
+/// Whether what is printed has these LSAs and kinds of areas, and these findings.
+pub(in crate::tests) fn has<A: Allocator + Copy>(
+    printed: &Printed<A>,
+    lsas: &[Expected],
+    kinds: &[AreaReport],
+    findings: &[TextFinding],
+) -> bool {
+    let is_parsed = are_of(&printed.observations, lsas) && printed.kinds.as_slice() == kinds;
+    is_parsed && printed.findings.as_slice() == findings
 }
 
-#[test]
-fn a_summary_lsa_is_rebuilt(rt: HostRuntime) -> Result<(), Fail> {
-    assert!(rt; contains_only(rt.alloc(), SUMMARY, AreaId(0), SUMMARY_BYTES)?);
-    Ok(())
+/// The same of a text.
+fn contains(
+    alloc: Global,
+    text: &[u8],
+    lsas: &[Expected],
+    kinds: &[AreaReport],
+    findings: &[TextFinding],
+) -> Result<bool, Fail> {
+    Ok(has(&read_printed(alloc, text)?, lsas, kinds, findings))
 }
 
-#[test]
-fn an_asbr_summary_lsa_is_of_type_4(rt: HostRuntime) -> Result<(), Fail> {
-    assert!(rt; contains_only(rt.alloc(), ASBR, AreaId(2), ASBR_BYTES)?);
-    Ok(())
-}
+const BACKBONE: AreaReport = AreaReport {
+    id: AreaId(0),
+    kind: AreaKind::Ordinary,
+};
+
+const ORDINARY: AreaReport = AreaReport {
+    id: AreaId(1),
+    kind: AreaKind::Ordinary,
+};
+
+const STUB: AreaReport = AreaReport {
+    id: AreaId(2),
+    kind: AreaKind::Stub,
+};
+
+const NSSA: AreaReport = AreaReport {
+    id: AreaId(7),
+    kind: AreaKind::Nssa,
+};
+
+/// Texts, their LSAs, the kinds of areas in their headings, and their findings.
+const TEXTS: &[(&str, &[u8], &[Expected], &[AreaReport], &[TextFinding])] = &[
+    (
+        "a summary-LSA",
+        SUMMARY,
+        &[(Scope::Area(AreaId(0)), SUMMARY_BYTES)],
+        &[BACKBONE],
+        &[],
+    ),
+    (
+        "a summary-LSA of type 4",
+        ASBR,
+        &[(Scope::Area(AreaId(2)), ASBR_BYTES)],
+        &[STUB],
+        &[],
+    ),
+    (
+        "another checksum than the printed one",
+        OTHER_METRIC,
+        &[],
+        &[BACKBONE],
+        &[TextFinding::Refused(SUMMARY_KEY, LsaFault::Checksum)],
+    ),
+    (
+        "a router-LSA",
+        ROUTER,
+        &[(Scope::Area(AreaId(0)), ROUTER_BYTES)],
+        &[BACKBONE],
+        &[],
+    ),
+    (
+        "a router-LSA of an area border router",
+        BORDER,
+        &[(Scope::Area(AreaId(2)), BORDER_BYTES)],
+        &[STUB],
+        &[],
+    ),
+    (
+        "a network-LSA",
+        NETWORK,
+        &[(Scope::Area(AreaId(1)), NETWORK_BYTES)],
+        &[ORDINARY],
+        &[],
+    ),
+    (
+        "external LSAs of both metric types",
+        EXTERNALS,
+        &[(Scope::AsWide, TYPE_2_BYTES), (Scope::AsWide, TYPE_1_BYTES)],
+        &[],
+        &[],
+    ),
+    (
+        "an opaque LSA",
+        OPAQUE,
+        &[],
+        &[BACKBONE],
+        &[TextFinding::Unreadable],
+    ),
+    ("headings", HEADINGS, &[], &[STUB, NSSA, BACKBONE], &[]),
+];
 
 #[test]
-fn another_checksum_than_the_printed_one_is_refused(rt: HostRuntime) -> Result<(), Fail> {
-    let printed = read_printed(rt.alloc(), OTHER_METRIC)?;
-    let refused = TextFinding::Refused(SUMMARY_KEY, LsaFault::Checksum);
-    assert_eq!(rt; printed.observations.len(), 0);
-    assert!(rt; printed.findings.as_slice() == [refused].as_slice());
-    Ok(())
-}
-
-#[test]
-fn a_router_lsa_is_rebuilt(rt: HostRuntime) -> Result<(), Fail> {
-    assert!(rt; contains_only(rt.alloc(), ROUTER, AreaId(0), ROUTER_BYTES)?);
-    Ok(())
-}
-
-#[test]
-fn a_border_router_has_its_bit(rt: HostRuntime) -> Result<(), Fail> {
-    assert!(rt; contains_only(rt.alloc(), BORDER, AreaId(2), BORDER_BYTES)?);
-    Ok(())
-}
-
-#[test]
-fn a_network_lsa_is_rebuilt(rt: HostRuntime) -> Result<(), Fail> {
-    assert!(rt; contains_only(rt.alloc(), NETWORK, AreaId(1), NETWORK_BYTES)?);
-    Ok(())
-}
-
-#[test]
-fn external_lsas_of_both_metric_types_are_rebuilt(rt: HostRuntime) -> Result<(), Fail> {
-    let printed = read_printed(rt.alloc(), EXTERNALS)?;
-    let same = match printed.observations.as_slice() {
-        [first, second] => {
-            first.scope == Scope::AsWide
-                && first.lsa.bytes() == TYPE_2_BYTES
-                && second.lsa.bytes() == TYPE_1_BYTES
-        }
-        _ => false,
-    };
-    assert!(rt; same);
-    Ok(())
-}
-
-#[test]
-fn an_opaque_lsa_is_reported_as_unreadable(rt: HostRuntime) -> Result<(), Fail> {
-    let printed = read_printed(rt.alloc(), OPAQUE)?;
-    assert!(rt; printed.findings.as_slice() == [TextFinding::Unreadable].as_slice());
-    Ok(())
-}
-
-#[test]
-fn a_heading_contains_the_kind_of_its_area(rt: HostRuntime) -> Result<(), Fail> {
-    let printed = read_printed(
-        rt.alloc(),
-        b"Net Link States (Area 0.0.0.2 [Stub])\nNet Link States (Area 0.0.0.7 [NSSA])\n\
-        Net Link States (Area 0.0.0.0)\n",
-    )?;
-    let kinds = [
-        AreaReport {
-            id: AreaId(2),
-            kind: AreaKind::Stub,
-        },
-        AreaReport {
-            id: AreaId(7),
-            kind: AreaKind::Nssa,
-        },
-        AreaReport {
-            id: AreaId(0),
-            kind: AreaKind::Ordinary,
-        },
-    ];
-    assert!(rt; printed.kinds.as_slice() == kinds.as_slice());
+fn contents_of_texts(rt: HostRuntime) -> Result<(), Fail> {
+    for (name, text, lsas, kinds, findings) in TEXTS {
+        assert!(rt;
+            contains(rt.alloc(), text, lsas, kinds, findings)?,
+            "{name}"
+        );
+    }
     Ok(())
 }
 

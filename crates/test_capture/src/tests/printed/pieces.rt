@@ -132,3 +132,8 @@ pub(super) const OPAQUE: &[u8] = b"                Area-Local Opaque-LSA (Area 0
     LS age: 171\n  Options: 0x42 : *|O|-|-|-|-|E|-\n  LS Flags: 0x6  \n  \
     LS Type: Area-Local Opaque-LSA\n  \
     Link State ID: 4.0.0.0 (Area-Local Opaque-Type/ID)\n  Advertising Router: 10.255.0.3\n";
+
+/// Headings of tables that have no LSA, of a stub area, an NSSA and the backbone.
+pub(super) const HEADINGS: &[u8] =
+    b"Net Link States (Area 0.0.0.2 [Stub])\nNet Link States (Area 0.0.0.7 [NSSA])\n\
+    Net Link States (Area 0.0.0.0)\n";

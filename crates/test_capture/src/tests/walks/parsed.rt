@@ -1,57 +1,118 @@
-//! LSAs and kinds of areas.
+//! What walks contain, what is missing in them, and texts that are no walks.
 
-use super::pieces::{DEFAULT, EXTERNAL, NETWORK, NUMERIC, parsed};
-use lsa_codec::AreaId;
+use super::pieces::{
+    CUT_ROW, DEFAULT, END_OF_VIEW, EXTERNAL, EXTERNAL_KEY, KINDS, NAMED, NETWORK, NUMERIC,
+    OTHER_INDEX,
+};
+use crate::tests::observed::{Expected, are_of};
+use findings::{Finding, ReportedLsa, UnusedReason};
+use lsa_codec::{Addr, AreaId, Key, RouterId};
 use lsa_instances::{AreaKind, AreaReport, Scope};
+use snmp_walk::{WalkFault, read_walk};
 use std::alloc::Global;
 use std::test::*;
 
-/// The walk contains one LSA alone, in this scope and with these bytes.
-fn contains_only(alloc: Global, text: &[u8], scope: Scope, bytes: &[u8]) -> Result<bool, Fail> {
-    let walk = parsed(alloc, text)?;
-    Ok(match walk.observations.as_slice() {
-        [one] => one.scope == scope && one.lsa.bytes() == bytes,
-        _ => false,
-    })
+/// Whether a walk contains these LSAs and kinds of areas, and gives these findings.
+fn contains(
+    alloc: Global,
+    text: &[u8],
+    lsas: &[Expected],
+    kinds: &[AreaReport],
+    findings: &[Finding],
+) -> Result<bool, Fail> {
+    let walk = read_walk(alloc, text)?;
+    let is_parsed = are_of(&walk.observations, lsas) && walk.kinds.as_slice() == kinds;
+    Ok(is_parsed && walk.findings.as_slice() == findings)
 }
 
+const OTHER_AREA: Scope = Scope::Area(AreaId(1));
+
+/// What names the network-LSA of a row that was cut.
+const CUT_LSA: ReportedLsa = ReportedLsa {
+    area: Some(AreaId(0)),
+    key: Key {
+        kind: 2,
+        id: Addr(0xc0a8_0001),
+        adv: RouterId(0x0101_0101),
+    },
+};
+
+/// What names the LSA under whose index the bytes of another one stand.
+const INDEXED_LSA: ReportedLsa = ReportedLsa {
+    area: None,
+    key: Key {
+        kind: 5,
+        id: Addr(0x0a62_0000),
+        adv: RouterId(0x0303_0303),
+    },
+};
+
+const ORDINARY: AreaReport = AreaReport {
+    id: AreaId(1),
+    kind: AreaKind::Ordinary,
+};
+
+const STUB: AreaReport = AreaReport {
+    id: AreaId(2),
+    kind: AreaKind::Stub,
+};
+
+/// Walks, their LSAs, kinds of areas and findings.
+const WALKS: &[(&str, &[u8], &[Expected], &[AreaReport], &[Finding])] = &[
+    (
+        "an LSA of an area",
+        NUMERIC,
+        &[(OTHER_AREA, NETWORK)],
+        &[],
+        &[],
+    ),
+    (
+        "an external LSA without a MIB",
+        DEFAULT,
+        &[(Scope::AsWide, EXTERNAL)],
+        &[],
+        &[],
+    ),
+    (
+        "the words of the MIB",
+        NAMED,
+        &[(Scope::AsWide, EXTERNAL)],
+        &[],
+        &[],
+    ),
+    ("kinds of areas", KINDS, &[], &[ORDINARY, STUB], &[]),
+    (
+        "a row without bytes",
+        CUT_ROW,
+        &[],
+        &[],
+        &[Finding::Unused(CUT_LSA, UnusedReason::Missing)],
+    ),
+    (
+        "bytes of another key",
+        OTHER_INDEX,
+        &[],
+        &[],
+        &[Finding::Unused(INDEXED_LSA, UnusedReason::OtherKey(EXTERNAL_KEY))],
+    ),
+    ("the end of a view", END_OF_VIEW, &[], &[], &[]),
+];
+
 #[test]
-fn an_lsa_of_an_area_is_read(rt: HostRuntime) -> Result<(), Fail> {
-    let scope = Scope::Area(AreaId(1));
-    assert!(rt; contains_only(rt.alloc(), NUMERIC, scope, NETWORK)?);
+fn contents_of_walks(rt: HostRuntime) -> Result<(), Fail> {
+    for (name, text, lsas, kinds, findings) in WALKS {
+        assert!(rt;
+            contains(rt.alloc(), text, lsas, kinds, findings)?,
+            "{name}"
+        );
+    }
     Ok(())
 }
 
+/// sysDescr, which is of MIB-2.
 #[test]
-fn an_external_lsa_is_read_without_a_mib(rt: HostRuntime) -> Result<(), Fail> {
-    assert!(rt; contains_only(rt.alloc(), DEFAULT, Scope::AsWide, EXTERNAL)?);
-    Ok(())
-}
-
-/// The same object as `snmpbulkwalk -m OSPF-MIB` prints it.
-#[test]
-fn the_words_of_the_mib_are_read(rt: HostRuntime) -> Result<(), Fail> {
-    let named: &[u8] = b"OSPF-MIB::ospfExtLsdbAdvertisement.asExternalLink.10.98.0.255.3.3.3.3 = \
-        Hex-STRING: 00 04 02 05 0A 62 00 FF 03 03 03 03 80 00 00 01 \n\
-        CB 85 00 24 FF FF FF 00 80 00 00 08 00 00 00 00 \n00 00 00 01 \n";
-    assert!(rt; contains_only(rt.alloc(), named, Scope::AsWide, EXTERNAL)?);
-    Ok(())
-}
-
-/// ospfImportAsExtern of an ordinary area and of a stub area, by number and by word.
-#[test]
-fn kinds_of_areas_are_read(rt: HostRuntime) -> Result<(), Fail> {
-    let text: &[u8] = b".1.3.6.1.2.1.14.2.1.3.0.0.0.1 = INTEGER: 1\n\
-        OSPF-MIB::ospfImportAsExtern.0.0.0.2 = INTEGER: importNoExternal(2)\n";
-    let ordinary = AreaReport {
-        id: AreaId(1),
-        kind: AreaKind::Ordinary,
-    };
-    let stub = AreaReport {
-        id: AreaId(2),
-        kind: AreaKind::Stub,
-    };
-    let walk = parsed(rt.alloc(), text)?;
-    assert!(rt; walk.kinds.as_slice() == [ordinary, stub].as_slice());
+fn another_mib_is_no_walk(rt: HostRuntime) -> Result<(), Fail> {
+    let text: &[u8] = b".1.3.6.1.2.1.1.1.0 = STRING: \"FRR 8.4.4\"\n";
+    assert!(rt; matches!(read_walk(rt.alloc(), text), Err(WalkFault::NotAWalk)));
     Ok(())
 }

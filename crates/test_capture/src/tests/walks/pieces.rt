@@ -1,9 +1,6 @@
 //! Pieces of walks of the router 1.1.1.1.
 
 use lsa_codec::{Addr, Key, RouterId};
-use snmp_walk::{Walk, read_walk};
-use std::alloc::Global;
-use std::test::*;
 
 /// `snmpbulkwalk -On -Ox`: ospfLsdbAdvertisement of 192.168.50.4 of 4.4.4.4, in area 0.0.0.1.
 pub(super) const NUMERIC: &[u8] = b".1.3.6.1.2.1.14.4.1.8.0.0.0.1.2.192.168.50.4.4.4.4.4 = \
@@ -34,7 +31,27 @@ pub(super) const EXTERNAL_KEY: Key = Key {
     adv: RouterId(0x0303_0303),
 };
 
-/// What a text contains.
-pub(super) fn parsed(alloc: Global, text: &[u8]) -> Result<Walk, Fail> {
-    Ok(read_walk(alloc, text)?)
-}
+/// The same object as `snmpbulkwalk -m OSPF-MIB` prints it.
+pub(super) const NAMED: &[u8] =
+    b"OSPF-MIB::ospfExtLsdbAdvertisement.asExternalLink.10.98.0.255.3.3.3.3 = \
+    Hex-STRING: 00 04 02 05 0A 62 00 FF 03 03 03 03 80 00 00 01 \n\
+    CB 85 00 24 FF FF FF 00 80 00 00 08 00 00 00 00 \n00 00 00 01 \n";
+
+/// ospfImportAsExtern of an ordinary area and of a stub area, by number and by word.
+pub(super) const KINDS: &[u8] = b".1.3.6.1.2.1.14.2.1.3.0.0.0.1 = INTEGER: 1\n\
+    OSPF-MIB::ospfImportAsExtern.0.0.0.2 = INTEGER: importNoExternal(2)\n";
+
+/// ospfLsdbSequence and ospfLsdbChecksum alone, of 192.168.0.1 of 1.1.1.1.
+pub(super) const CUT_ROW: &[u8] =
+    b".1.3.6.1.2.1.14.4.1.5.0.0.0.0.2.192.168.0.1.1.1.1.1 = INTEGER: 33554560\n\
+    .1.3.6.1.2.1.14.4.1.7.0.0.0.0.2.192.168.0.1.1.1.1.1 = INTEGER: 54266\n";
+
+/// The bytes of 10.98.0.255 under the index of 10.98.0.0.
+pub(super) const OTHER_INDEX: &[u8] = b".1.3.6.1.2.1.14.12.1.7.5.10.98.0.0.3.3.3.3 = \
+    Hex-STRING: 00 04 02 05 0A 62 00 FF 03 03 03 03 80 00 00 01 \n\
+    CB 85 00 24 FF FF FF 00 80 00 00 08 00 00 00 00 \n00 00 00 01 \n";
+
+/// The last line of a walk by a community that sees nothing but the OSPF-MIB.
+pub(super) const END_OF_VIEW: &[u8] =
+    b".1.3.6.1.2.1.14.12.1.7.5.10.98.0.255.3.3.3.3 = No more variables left in this MIB View \
+    (It is past the end of the MIB tree)\n";
