@@ -80,9 +80,9 @@ const MANY: u64 = 10_000;
 
 /// The number of growths with which a call answers as with ample memory. With fewer, it reports
 /// that memory ran out, what it was lent is as before, and the same call then answers as with ample
-/// memory. Where the call may be done already, what it was lent may also be as after the call. If it
-/// behaves otherwise, or reports that memory ran out with each number of growths below 10,000, the
-/// inner `Err` says how. No clause can state this.
+/// memory. Where the call may be done already, what it was lent may also be as after the call. If
+/// it behaves otherwise, or reports that memory ran out with each number of growths below 10,000,
+/// the inner `Err` says how. No clause can state this.
 ///
 /// # Errors
 ///

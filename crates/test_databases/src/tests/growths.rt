@@ -161,9 +161,9 @@ fn refused_growths_of_edits_change_nothing(rt: HostRuntime) -> Result<(), Fail> 
 const COST: Change = Change::Edit("cost 0.0.0.0 1.1.1.1 1 7");
 
 /// Dumps and changes, and at least and at most how many growths each asks for. A list of LSAs that
-/// was loaded has room for a power of two, and each of its three indexes and the list of its filters
-/// for all of them. A cost and the room for its record together ask for 16 growths at most, and a
-/// copy for more.
+/// was loaded has room for a power of two, and each of its three indexes and the list of its
+/// filters for all of them. A cost and the room for its record together ask for 16 growths at most,
+/// and a copy for more.
 const CHANGES: &[(Dump, Change, u64, u64)] = &[
     (Dump::Stale, Change::Edit("refresh"), 1, 10_000),
     (Dump::Area(7), Change::Slot, 4, 4),

@@ -12,8 +12,8 @@ use std::alloc::{Allocator, Global};
 use std::test::*;
 use test_support::FailingAlloc;
 
-/// Edits of `NETS`, how many LSAs each rewrites, removes or adds, and whether it changes the graph of
-/// area 0.0.0.0, and that of area 0.0.0.1.
+/// Edits of `NETS`, how many LSAs each rewrites, removes or adds, and whether it changes the graph
+/// of area 0.0.0.0, and that of area 0.0.0.1.
 pub(super) const EDITS: &[(&str, usize, bool, bool)] = &[
     ("cost 0.0.0.0 1.1.1.1 3 7", 1, true, false),
     ("drop-link 0.0.0.0 2.2.2.2 1", 1, true, false),
@@ -57,8 +57,8 @@ fn goes_and_comes<A: Allocator + Copy>(
     Ok(is_back && is_after(alloc, database, &[line])?)
 }
 
-/// Whether the record of an edit reports it, how many LSAs it changed, and which graphs; and whether
-/// the edit goes and comes where no growth is left.
+/// Whether the record of an edit reports it, how many LSAs it changed, and which graphs; and
+/// whether the edit goes and comes where no growth is left.
 fn takes_no_memory(
     alloc: Global,
     line: &str,

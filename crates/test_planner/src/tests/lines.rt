@@ -12,8 +12,8 @@ const COST: Edit = Edit::Cost {
     metric: 7,
 };
 
-/// Bytes, and the length of their first line, where it is that of `COST`: each edit has one spelling
-/// alone.
+/// Bytes, and the length of their first line, where it is that of `COST`: each edit has one
+/// spelling alone.
 const LINES: &[(&[u8], Option<usize>)] = &[
     (b"cost 0.0.0.0 1.1.1.1 2 7\nrefresh\n", Some(25)),
     (b"", None),

@@ -207,8 +207,8 @@ const TWO_TABLES: &[Step] = &[
     (Act::Parts(R1), Asks::More, Some(1)),
 ];
 
-/// A table after a cost, and after the undo of it, asks for no graph, as one does after an edit that
-/// drops a link.
+/// A table after a cost, and after the undo of it, asks for no graph, as one does after an edit
+/// that drops a link.
 const AFTER_EDITS: &[Step] = &[
     (Act::Table(R1), Asks::Any, None),
     (Act::Cost(7), Asks::Any, None),

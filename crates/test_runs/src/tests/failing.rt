@@ -107,8 +107,8 @@ fn the_script_fails_at_each_byte(rt: HostRuntime) -> Result<(), Fail> {
     Ok(())
 }
 
-/// A writer at a place among those of the replies, of the dump and of the session, which fails after
-/// `limit` bytes if it is at the place `failing_at`.
+/// A writer at a place among those of the replies, of the dump and of the session, which fails
+/// after `limit` bytes if it is at the place `failing_at`.
 fn sink_at(alloc: Global, place: usize, failing_at: usize, limit: usize, failing: Failing) -> Sink {
     if place == failing_at {
         sink(alloc, limit, failing)
@@ -129,8 +129,8 @@ fn taken_at(text: &'static [u8], place: usize, failing_at: usize, limit: usize) 
     }
 }
 
-/// Whether the script on the sample ends with a fault where the writer at a place fails, which alone
-/// is known to have failed.
+/// Whether the script on the sample ends with a fault where the writer at a place fails, which
+/// alone is known to have failed.
 fn ends_at(alloc: Global, place: usize, limit: usize, failing: Failing) -> bool {
     let replies = sink_at(alloc, 0, place, limit, failing);
     let out = sink_at(alloc, 1, place, limit, failing);

@@ -51,8 +51,8 @@ const SEEN: Option<u64> = Some(1_795_401_300_018_396_000);
 
 const FLUSH: Option<u64> = Some(1_795_401_354_177_222_000);
 
-/// The observations that calls are lent: two instances of a router-LSA, another instance in another area, an
-/// AS-external-LSA that is flushed, and another one.
+/// The observations that calls are lent: two instances of a router-LSA, another instance in another
+/// area, an AS-external-LSA that is flushed, and another one.
 pub(super) const OBSERVED: &[Seen] = &[
     (Scope::AsWide, SEEN, ANNOUNCED),
     (Scope::Area(AreaId(0)), None, NEWER),

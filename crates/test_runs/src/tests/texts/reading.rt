@@ -7,7 +7,8 @@ use std::test::Fail;
 use test_support::{Source, Zeros};
 
 /// Whether a text is what is read of it up to a limit, or why nothing is, from a reader that gives
-/// this number of bytes at once and fails at a place; and whether the reader is known to have failed.
+/// this number of bytes at once and fails at a place; and whether the reader is known to have
+/// failed.
 fn read(
     alloc: Global,
     text: &[u8],
