@@ -1,6 +1,5 @@
-use Rattle.std.proofs.Common.{◌≡◌, ◌∙◌, Some, ap, length, rules, subst, sym}
+use Rattle.std.proofs.Common.{◌≡◌, ◌∙◌, ap, length, rules, subst, sym}
 use Rattle.lsdb.specs.Lists.{Lists}
-use Rattle.lsdb.specs.Slots.{lists_of, put}
 use Rattle.edit_history.specs.Session.{Session, moved_back, state}
 use Rattle.edit_history.proofs.HistoryLemmas.{state_is}
 use Rattle.routing_table.specs.AreasTrees.{AreOfDatabase}
