@@ -4,4 +4,5 @@ pub mod Inputs
 pub mod Streams
 pub mod Order
 pub mod WholeRun
+pub mod Calls
 pub mod steps

@@ -5,7 +5,7 @@ ghost use Rattle.std.specs.Io.KnownBytes.{Appends, Keeps};
 ghost use Rattle.host_io.specs.Watched.{inner_of, has_failed, is_flushed};
 ghost use Rattle.host_io.specs.WholeText.{AppendsPrefix};
 ghost use Rattle.whole_run.specs.Streams.{contents_of, has_any_failed, is_any_flushed};
-ghost use Rattle.whole_run.specs.Order.{AreFlushed, RepliesBefore, OutAfter, SaveAfter};
+ghost use Rattle.whole_run.specs.Calls.{WritesInOrder};
 
 use host_io::{Watched, WriteFault, write_and_flush};
 use std::io::Write;
@@ -36,15 +36,10 @@ pub(crate) fn write_ends<W: Write, D: Write, E: Write>(
     ensures save_given { is_some save.new ≡ is_some save.old }
     ensures failed { IsErr result ↔ ((has_failed replies.new
         || has_any_failed out.new || has_any_failed save.new) ≡ true) }
-    ensures flushed { OnOk result (AreFlushed replies.new out.new save.new) }
-    ensures replies_before { RepliesBefore replies.new out.old out.new save.old save.new }
-    ensures out_after { OutAfter
-        (Keeps (W.contents (inner_of replies.old)) (W.contents (inner_of replies.new)))
-        replies.new out.new save.old save.new }
-    ensures save_after { SaveAfter
+    ensures order { WritesInOrder
         (Keeps (W.contents (inner_of replies.old)) (W.contents (inner_of replies.new)))
         (Appends (contents_of D.contents out.old) (contents_of D.contents out.new) dump.now)
-        replies.new out.new save.new }
+        result replies.new out.old out.new save.old save.new }
 {
     flush(replies)?;
     write_given(out, dump)?;

@@ -1,8 +1,8 @@
 //! The whole run: a dump and a script are read, and the replies are written, and the dump and the
 //! session that the script leaves.
 
-ghost use Rattle.std.specs.Prelude.{◌≡◌, ◌≢◌, ◌↔◌, ◌||◌, ◌<◌, ◌≤◌, ◌+◌, length, false, true, is_some, OnOk, IfOk, IfErr, IfSome, IsErr};
-ghost use Rattle.std.specs.Io.KnownBytes.{Appends, Keeps, IsAtEnd};
+ghost use Rattle.std.specs.Prelude.{◌≡◌, ◌↔◌, ◌||◌, ◌≤◌, ◌+◌, length, false, true, OnOk, IfOk, IfErr, IfSome, IsErr};
+ghost use Rattle.std.specs.Io.KnownBytes.{Appends};
 ghost use Rattle.host_io.specs.Watched.{inner_of, has_failed, has_ended};
 ghost use Rattle.host_io.specs.WholeText.{AppendsPrefix, ConsumesAtMost, IsLonger};
 ghost use Rattle.lsdb.specs.Text.{text};
@@ -13,9 +13,10 @@ ghost use Rattle.branches.specs.Branches.{sessions_of};
 ghost use Rattle.whole_run.specs.Run.{answers, lines_of, sessions_after, text_of};
 ghost use Rattle.whole_run.specs.Run.{run_answers, run_text, final_dump, final_session};
 ghost use Rattle.whole_run.specs.Streams.{contents_of, has_any_failed};
-ghost use Rattle.whole_run.specs.Order.{AreFlushed, AreUntouched, RepliesBefore, OutAfter, SaveAfter};
-ghost use Rattle.whole_run.specs.WholeRun.{IfBoth, IsSummaryOf, MayEndRun, IsBeforeReplies};
-ghost use Rattle.whole_run.specs.Inputs.{IsAccepted, longest_script, most_read};
+ghost use Rattle.whole_run.specs.Order.{AreUntouched};
+ghost use Rattle.whole_run.specs.WholeRun.{IfBoth, IsSummaryOf};
+ghost use Rattle.whole_run.specs.Inputs.{longest_script};
+ghost use Rattle.whole_run.specs.Calls.{FitsInputs, IsWritten, KeepsReplies, KeepsWriter, ReadsAtMost, Writes, WritesInOrder};
 ghost use Rattle.whole_run.specs.steps.Reading.{IsRunEnd};
 
 use crate::fault::RunFault;
@@ -48,64 +49,28 @@ pub fn run<A: Allocator + Copy, R: Read, S: Read, W: Write, D: Write, E: Write>(
     requires save_open { has_any_failed save.old ≡ false }
 
     // What is written, where the bytes of both inputs are known.
-    ensures replies { OnOk result
-        (IfBoth (R.remaining (inner_of dump.old)) (S.remaining (inner_of script.old))
-        (λ bytes script. Appends (W.contents (inner_of replies.old))
-        (W.contents (inner_of replies.new))
-        (run_text bytes script))) }
-    ensures out { OnOk result
-        (IfBoth (R.remaining (inner_of dump.old)) (S.remaining (inner_of script.old))
-        (λ bytes script. Appends (contents_of D.contents out.old)
-        (contents_of D.contents out.new)
-        (final_dump bytes script))) }
-    ensures save { OnOk result
-        (IfBoth (R.remaining (inner_of dump.old)) (S.remaining (inner_of script.old))
-        (λ bytes script. Appends (contents_of E.contents save.old)
-        (contents_of E.contents save.new)
-        (final_session bytes script))) }
+    ensures replies { Writes run_text (R.remaining (inner_of dump.old))
+        (S.remaining (inner_of script.old)) result
+        (W.contents (inner_of replies.old)) (W.contents (inner_of replies.new)) }
+    ensures out { Writes final_dump (R.remaining (inner_of dump.old))
+        (S.remaining (inner_of script.old)) result
+        (contents_of D.contents out.old) (contents_of D.contents out.new) }
+    ensures save { Writes final_session (R.remaining (inner_of dump.old))
+        (S.remaining (inner_of script.old)) result
+        (contents_of E.contents save.old) (contents_of E.contents save.new) }
+    ensures order { WritesInOrder
+        (IsWritten run_text (R.remaining (inner_of dump.old)) (S.remaining (inner_of script.old))
+        (W.contents (inner_of replies.old)) (W.contents (inner_of replies.new)))
+        (IsWritten final_dump (R.remaining (inner_of dump.old)) (S.remaining (inner_of script.old))
+        (contents_of D.contents out.old) (contents_of D.contents out.new))
+        result replies.new out.old out.new save.old save.new }
     ensures summary { IfOk result
         (λ summary. IfBoth (R.remaining (inner_of dump.old)) (S.remaining (inner_of script.old))
         (λ bytes script. IsSummaryOf (run_answers bytes script) summary)) }
-    ensures replies_prefix { IfBoth (R.remaining (inner_of dump.old))
-        (S.remaining (inner_of script.old))
-        (λ bytes script. AppendsPrefix (W.contents (inner_of replies.old))
-        (W.contents (inner_of replies.new))
-        (run_text bytes script)) }
-    ensures out_prefix { IfBoth (R.remaining (inner_of dump.old))
-        (S.remaining (inner_of script.old))
-        (λ bytes script. AppendsPrefix (contents_of D.contents out.old)
-        (contents_of D.contents out.new) (final_dump bytes script)) }
-    ensures save_prefix { IfBoth (R.remaining (inner_of dump.old))
-        (S.remaining (inner_of script.old))
-        (λ bytes script. AppendsPrefix (contents_of E.contents save.old)
-        (contents_of E.contents save.new) (final_session bytes script)) }
-
-    // In which order it is written.
-    ensures flushed { OnOk result (AreFlushed replies.new out.new save.new) }
-    ensures replies_before { RepliesBefore replies.new out.old out.new save.old save.new }
-    ensures out_after { OutAfter
-        (IfBoth (R.remaining (inner_of dump.old)) (S.remaining (inner_of script.old))
-        (λ bytes script. Appends (W.contents (inner_of replies.old))
-        (W.contents (inner_of replies.new))
-        (run_text bytes script)))
-        replies.new out.new save.old save.new }
-    ensures save_after { SaveAfter
-        (IfBoth (R.remaining (inner_of dump.old)) (S.remaining (inner_of script.old))
-        (λ bytes script. Appends (W.contents (inner_of replies.old))
-        (W.contents (inner_of replies.new))
-        (run_text bytes script)))
-        (IfBoth (R.remaining (inner_of dump.old)) (S.remaining (inner_of script.old))
-        (λ bytes script. Appends (contents_of D.contents out.old)
-        (contents_of D.contents out.new)
-        (final_dump bytes script)))
-        replies.new out.new save.new }
 
     // When each fault comes.
-    ensures accepted { OnOk result (IfSome (R.remaining (inner_of dump.old)) IsAccepted) }
-    ensures within { OnOk result
-        (IfSome (S.remaining (inner_of script.old)) (λ script. length script ≤ longest_script)) }
-    ensures faults { IfErr result
-        (MayEndRun (R.remaining (inner_of dump.old)) (S.remaining (inner_of script.old))) }
+    ensures inputs { FitsInputs (R.remaining (inner_of dump.old)) (S.remaining (inner_of script.old))
+        result }
     ensures read { (result ≡ Err RunFault.Read)
         ↔ ((has_failed dump.new || has_failed script.new) ≡ true) }
     ensures write { (result ≡ Err RunFault.Write)
@@ -115,21 +80,14 @@ pub fn run<A: Allocator + Copy, R: Read, S: Read, W: Write, D: Write, E: Write>(
     // What is left alone.
     ensures script_untouched { IfSome (R.remaining (inner_of dump.old))
         (λ bytes. IsErr (opened bytes) → script.new ≡ script.old) }
-    ensures replies_untouched { IfErr result (λ fault. IsBeforeReplies fault →
-        Keeps (W.contents (inner_of replies.old)) (W.contents (inner_of replies.new))) }
-    ensures unread { IfSome (S.remaining (inner_of script.new)) (λ rest. 0 < length rest →
-        Keeps (W.contents (inner_of replies.old)) (W.contents (inner_of replies.new))) }
+    ensures kept { KeepsReplies result (S.remaining (inner_of script.new))
+        (W.contents (inner_of replies.old)) (W.contents (inner_of replies.new)) }
     ensures unended { has_ended script.new ≡ false → (replies.new ≡ replies.old)
         × AreUntouched out.old out.new save.old save.new }
-    ensures out_untouched { IfErr result (λ fault. fault ≢ RunFault.Write → out.new ≡ out.old) }
-    ensures save_untouched { IfErr result (λ fault. fault ≢ RunFault.Write
-        → save.new ≡ save.old) }
-    ensures out_given { is_some out.new ≡ is_some out.old }
-    ensures save_given { is_some save.new ≡ is_some save.old }
-    ensures dump_bounded { ConsumesAtMost (R.remaining (inner_of dump.old))
-        (R.remaining (inner_of dump.new)) (most_read (R.remaining (inner_of dump.old))) }
-    ensures script_bounded { ConsumesAtMost (S.remaining (inner_of script.old))
-        (S.remaining (inner_of script.new)) (longest_script + 1) }
+    ensures out_kept { KeepsWriter result out.old out.new }
+    ensures save_kept { KeepsWriter result save.old save.new }
+    ensures bounded { ReadsAtMost (R.remaining (inner_of dump.old)) (R.remaining (inner_of dump.new))
+        (S.remaining (inner_of script.old)) (S.remaining (inner_of script.new)) }
 {
     let wanted = Wanted {
         dump: out.is_some(),
@@ -153,11 +111,9 @@ fn answer_all<A: Allocator + Copy, R: Read, S: Read, W: Write>(
     requires dump_open { has_failed dump.old ≡ false }
     requires script_open { has_failed script.old ≡ false }
     requires replies_open { has_failed replies.old ≡ false }
-    ensures replies { OnOk result
-        (IfBoth (R.remaining (inner_of dump.old)) (S.remaining (inner_of script.old))
-        (λ bytes script. Appends (W.contents (inner_of replies.old))
-        (W.contents (inner_of replies.new))
-        (run_text bytes script))) }
+    ensures replies { Writes run_text (R.remaining (inner_of dump.old))
+        (S.remaining (inner_of script.old)) result
+        (W.contents (inner_of replies.old)) (W.contents (inner_of replies.new)) }
     ensures dump { wanted.dump ≡ true → IfOk result
         (λ done. IfBoth (R.remaining (inner_of dump.old)) (S.remaining (inner_of script.old))
         (λ bytes script. done.1.dump.items ≡ final_dump bytes script)) }
@@ -167,30 +123,19 @@ fn answer_all<A: Allocator + Copy, R: Read, S: Read, W: Write>(
     ensures summary { IfOk result
         (λ done. IfBoth (R.remaining (inner_of dump.old)) (S.remaining (inner_of script.old))
         (λ bytes script. IsSummaryOf (run_answers bytes script) done.0)) }
-    ensures prefix { IfBoth (R.remaining (inner_of dump.old)) (S.remaining (inner_of script.old))
-        (λ bytes script. AppendsPrefix (W.contents (inner_of replies.old))
-        (W.contents (inner_of replies.new))
-        (run_text bytes script)) }
-    ensures accepted { OnOk result (IfSome (R.remaining (inner_of dump.old)) IsAccepted) }
-    ensures within { OnOk result
-        (IfSome (S.remaining (inner_of script.old)) (λ script. length script ≤ longest_script)) }
-    ensures faults { IfErr result
-        (MayEndRun (R.remaining (inner_of dump.old)) (S.remaining (inner_of script.old))) }
+    ensures inputs { FitsInputs (R.remaining (inner_of dump.old)) (S.remaining (inner_of script.old))
+        result }
     ensures read { (result ≡ Err RunFault.Read)
         ↔ ((has_failed dump.new || has_failed script.new) ≡ true) }
     ensures write { (result ≡ Err RunFault.Write) ↔ (has_failed replies.new ≡ true) }
     ensures script_untouched { IfSome (R.remaining (inner_of dump.old))
         (λ bytes. IsErr (opened bytes) → script.new ≡ script.old) }
-    ensures untouched { IfErr result (λ fault. IsBeforeReplies fault →
-        Keeps (W.contents (inner_of replies.old)) (W.contents (inner_of replies.new))) }
-    ensures unread { IfSome (S.remaining (inner_of script.new)) (λ rest. 0 < length rest →
-        Keeps (W.contents (inner_of replies.old)) (W.contents (inner_of replies.new))) }
+    ensures kept { KeepsReplies result (S.remaining (inner_of script.new))
+        (W.contents (inner_of replies.old)) (W.contents (inner_of replies.new)) }
     ensures ended { OnOk result (has_ended script.new ≡ true) }
     ensures unended { has_ended script.new ≡ false → replies.new ≡ replies.old }
-    ensures dump_bounded { ConsumesAtMost (R.remaining (inner_of dump.old))
-        (R.remaining (inner_of dump.new)) (most_read (R.remaining (inner_of dump.old))) }
-    ensures script_bounded { ConsumesAtMost (S.remaining (inner_of script.old))
-        (S.remaining (inner_of script.new)) (longest_script + 1) }
+    ensures bounded { ReadsAtMost (R.remaining (inner_of dump.old)) (R.remaining (inner_of dump.new))
+        (S.remaining (inner_of script.old)) (S.remaining (inner_of script.new)) }
 {
     let mut branches = read_branches(alloc, dump)?;
     run_script(alloc, &mut branches, script, replies, wanted)
@@ -231,10 +176,8 @@ fn run_script<A: Allocator + Copy, S: Read, W: Write>(
         (IsRunEnd (IsLonger (S.remaining (inner_of script.old)) longest_script)) }
     ensures read { (result ≡ Err RunFault.Read) ↔ (has_failed script.new ≡ true) }
     ensures write { (result ≡ Err RunFault.Write) ↔ (has_failed replies.new ≡ true) }
-    ensures untouched { IfErr result (λ fault. IsBeforeReplies fault →
-        Keeps (W.contents (inner_of replies.old)) (W.contents (inner_of replies.new))) }
-    ensures unread { IfSome (S.remaining (inner_of script.new)) (λ rest. 0 < length rest →
-        Keeps (W.contents (inner_of replies.old)) (W.contents (inner_of replies.new))) }
+    ensures kept { KeepsReplies result (S.remaining (inner_of script.new))
+        (W.contents (inner_of replies.old)) (W.contents (inner_of replies.new)) }
     ensures ended { OnOk result (has_ended script.new ≡ true) }
     ensures unended { has_ended script.new ≡ false → replies.new ≡ replies.old }
     ensures script_bounded { ConsumesAtMost (S.remaining (inner_of script.old))
