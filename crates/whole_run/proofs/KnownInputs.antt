@@ -3,6 +3,7 @@ use Rattle.std.proofs.Common.{◌≡◌, ◌∙◌, true, true≢false, ap, sym,
 use Rattle.std.specs.Prelude.{IfSome, IfErr, IsErr, IsOk, OnOk, Result, is_some}
 use Rattle.std.specs.Io.KnownBytes.{Appends, Keeps}
 use Rattle.std.proofs.KnownBytes.{Appends-nil, Appends-kept}
+use Rattle.std.proofs.lemmas.Result.{on_ok_weaker}
 use Rattle.lsdb.specs.declared.fault.DumpFault.{DumpFault}
 use Rattle.lsdb.specs.declared.fault.DumpFaultKind.TheVariants as kind
 use Rattle.lsdb.specs.Text.{text}
@@ -12,13 +13,14 @@ use Rattle.saved_sessions.specs.Saved.{saved_text}
 use Rattle.edit_history.specs.Session.{Session, state}
 use Rattle.branches.specs.Branches.{Sessions}
 use Rattle.branches.specs.Replies.{Answer}
-use Rattle.whole_run.specs.Run.{answers, answers_from, sessions_after, dump_after, session_after, lines_of, begun, text_of, run_answers, run_text, final_dump, final_session}
+use Rattle.whole_run.specs.Run.{answers, answers_from, sessions_after, dump_after, session_after, lines_of, begun, run_answers, final_dump, final_session}
 use Rattle.host_io.specs.WholeText.{IsAll, IsLonger, AppendsPrefix}
 use Rattle.host_io.specs.declared.watch.Watched.{Watched}
 use Rattle.host_io.specs.Watched.{inner_of}
 use Rattle.whole_run.specs.Streams.{contents_of}
 use Rattle.whole_run.specs.Inputs.{IsAccepted, longest_script}
 use Rattle.whole_run.specs.WholeRun.{IfBoth, MayEndRun}
+use Rattle.whole_run.specs.Calls.{Writes}
 use Rattle.whole_run.specs.declared.fault.RunFault.{RunFault}
 use Rattle.whole_run.specs.declared.fault.RunFault.TheVariants.{Dump, Read, Write, TooLarge, OutOfMemory}
 use Rattle.whole_run.specs.steps.Reading.{IsRunEnd}
@@ -84,16 +86,25 @@ pub on_success : {T E P : Type 0} (r : Result T E) → P → OnOk r P
 on_success (Ok value) holds = holds
 on_success (Err fault) holds = tt
 
--- a prefix of a text is written where a writer is given; of one that is not, nothing is known
-pub if_prefix_given : {D : Type 0} (contents : D → Option (List ℕ)) (writer : Option (Watched D)) (new dump script : Option (List ℕ))
-    (items : List ℕ) (whole : List ℕ → List ℕ → List ℕ) → (is_some writer ≡ true → IfBoth dump script (λ bytes known. items ≡ whole bytes known))
-    → AppendsPrefix (contents_of contents writer) new items
-    → IfBoth dump script (λ bytes known. AppendsPrefix (contents_of contents writer) new (whole bytes known))
-if_prefix_given contents writer new None script items whole left part = tt
-if_prefix_given contents writer new (Some bytes) None items whole left part = tt
-if_prefix_given contents None new (Some bytes) (Some known) items whole left part = ([], (refl, tt))
-if_prefix_given contents (Some w) new (Some bytes) (Some known) items whole left part =
-    subst (AppendsPrefix (contents (inner_of w)) new) (left refl) part
+-- what is known of a writer that is given, and of none without one
+if_given : {D : Type 0} (P : Option (List ℕ) → List ℕ → Type 0) → ((items : List ℕ) → P None items) → (contents : D → Option (List ℕ))
+    (writer : Option (Watched D)) (dump script : Option (List ℕ)) (items : List ℕ) (text : List ℕ → List ℕ → List ℕ)
+    → (is_some writer ≡ true → IfBoth dump script (λ bytes known. items ≡ text bytes known)) → P (contents_of contents writer) items
+    → IfBoth dump script (λ bytes known. P (contents_of contents writer) (text bytes known))
+if_given P none contents writer None script items text left holds = tt
+if_given P none contents writer (Some bytes) None items text left holds = tt
+if_given P none contents None (Some bytes) (Some known) items text left holds = none (text bytes known)
+if_given P none contents (Some w) (Some bytes) (Some known) items text left holds = subst (P (contents (inner_of w))) (left refl) holds
+
+-- a text is written where a writer is given
+pub writes_given : {D T : Type 0} (contents : D → Option (List ℕ)) (writer : Option (Watched D)) (new dump script : Option (List ℕ)) (items : List ℕ)
+    (text : List ℕ → List ℕ → List ℕ) (result : Result T RunFault)
+    → (is_some writer ≡ true → IfBoth dump script (λ bytes known. items ≡ text bytes known)) → OnOk result (Appends (contents_of contents writer) new items)
+    → AppendsPrefix (contents_of contents writer) new items → Writes text dump script result (contents_of contents writer) new
+writes_given contents writer new dump script items text result left whole part = record {
+  whole = on_ok_weaker result (if_given (λ old all. Appends old new all) (λ _. tt) contents writer dump script items text left) whole;
+  prefix = if_given (λ old all. AppendsPrefix old new all) (λ _. ([], (refl, tt))) contents writer dump script items text left part;
+}
 
 -- a prefix of that dump is written
 pub if_dump_prefix : (old new dump script : Option (List ℕ)) (items whole : List ℕ) → items ≡ whole

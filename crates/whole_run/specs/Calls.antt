@@ -51,5 +51,5 @@ pub record KeepsWriter {T W : Type 0} (result : Result T RunFault) (old new : Op
 
 -- at most one byte is read past those that a dump, and a script, may have
 pub record ReadsAtMost (dump new_dump script new_script : Option (List ℕ)) : Type 0 where
-  pub dump : ConsumesAtMost dump new_dump (most_read dump)
-  pub script : ConsumesAtMost script new_script (longest_script + 1)
+  pub of_dump : ConsumesAtMost dump new_dump (most_read dump)
+  pub of_script : ConsumesAtMost script new_script (longest_script + 1)
