@@ -69,8 +69,8 @@ pub fn run<A: Allocator + Copy, R: Read, S: Read, W: Write, D: Write, E: Write>(
         (λ bytes script. IsSummaryOf (run_answers bytes script) summary)) }
 
     // When each fault comes.
-    ensures inputs { FitsInputs (R.remaining (inner_of dump.old)) (S.remaining (inner_of script.old))
-        result }
+    ensures inputs { FitsInputs (R.remaining (inner_of dump.old))
+        (S.remaining (inner_of script.old)) result }
     ensures read { (result ≡ Err RunFault.Read)
         ↔ ((has_failed dump.new || has_failed script.new) ≡ true) }
     ensures write { (result ≡ Err RunFault.Write)
@@ -86,7 +86,8 @@ pub fn run<A: Allocator + Copy, R: Read, S: Read, W: Write, D: Write, E: Write>(
         × AreUntouched out.old out.new save.old save.new }
     ensures out_kept { KeepsWriter result out.old out.new }
     ensures save_kept { KeepsWriter result save.old save.new }
-    ensures bounded { ReadsAtMost (R.remaining (inner_of dump.old)) (R.remaining (inner_of dump.new))
+    ensures bounded { ReadsAtMost
+        (R.remaining (inner_of dump.old)) (R.remaining (inner_of dump.new))
         (S.remaining (inner_of script.old)) (S.remaining (inner_of script.new)) }
 {
     let wanted = Wanted {
@@ -123,8 +124,8 @@ fn answer_all<A: Allocator + Copy, R: Read, S: Read, W: Write>(
     ensures summary { IfOk result
         (λ done. IfBoth (R.remaining (inner_of dump.old)) (S.remaining (inner_of script.old))
         (λ bytes script. IsSummaryOf (run_answers bytes script) done.0)) }
-    ensures inputs { FitsInputs (R.remaining (inner_of dump.old)) (S.remaining (inner_of script.old))
-        result }
+    ensures inputs { FitsInputs (R.remaining (inner_of dump.old))
+        (S.remaining (inner_of script.old)) result }
     ensures read { (result ≡ Err RunFault.Read)
         ↔ ((has_failed dump.new || has_failed script.new) ≡ true) }
     ensures write { (result ≡ Err RunFault.Write) ↔ (has_failed replies.new ≡ true) }
@@ -134,7 +135,8 @@ fn answer_all<A: Allocator + Copy, R: Read, S: Read, W: Write>(
         (W.contents (inner_of replies.old)) (W.contents (inner_of replies.new)) }
     ensures ended { OnOk result (has_ended script.new ≡ true) }
     ensures unended { has_ended script.new ≡ false → replies.new ≡ replies.old }
-    ensures bounded { ReadsAtMost (R.remaining (inner_of dump.old)) (R.remaining (inner_of dump.new))
+    ensures bounded { ReadsAtMost
+        (R.remaining (inner_of dump.old)) (R.remaining (inner_of dump.new))
         (S.remaining (inner_of script.old)) (S.remaining (inner_of script.new)) }
 {
     let mut branches = read_branches(alloc, dump)?;
