@@ -5,7 +5,7 @@ ghost use Rattle.std.specs.List.{cons_option, list_any};
 ghost use Rattle.forwarding.specs.Graphs.{next_in};
 ghost use Rattle.forwarding.specs.Walks.{AreLoops, IsLoopOf, IsOnCycle, Reaches};
 ghost use Rattle.forwarding.specs.steps.Looping.{AreBack, IsFoundFrom, is_first, leads_to, sends_to};
-ghost use Rattle.forwarding.specs.steps.Settling.{AreSettled};
+ghost use Rattle.forwarding.specs.steps.LoopFree.{AreLoopFree};
 
 use crate::graph::ForwardingGraph;
 use crate::in_order::in_order;
@@ -160,16 +160,16 @@ impl<A: Allocator + Copy> ForwardingGraph<A> {
 
     /// The loop whose least router this is, if there is one, where no loop passes the routers of a
     /// set.
-    fn loop_unless_settled(
+    fn loop_unless_free(
         &self,
         alloc: A,
-        settled: &BTreeSet<RouterId, A>,
+        loop_free: &BTreeSet<RouterId, A>,
         router: RouterId,
     ) -> Result<Option<Loop<A>>, AllocError>
-        requires { AreSettled (next_in self.now) settled.now.keys }
+        requires { AreLoopFree (next_in self.now) loop_free.now.keys }
         ensures { IfOk result (IsFoundFrom self.now router) }
     {
-        if settled.contains(&router) {
+        if loop_free.contains(&router) {
             return Ok(None);
         }
         self.loop_from(alloc, router)
@@ -184,13 +184,13 @@ impl<A: Allocator + Copy> ForwardingGraph<A> {
     pub fn loops(&self, alloc: A, routers: &[RouterId]) -> Result<Vec<Loop<A>, A>, AllocError>
         ensures { IfOk result (λ loops. AreLoops (next_in self.now) routers.now loops.items) }
     {
-        let settled = self.settled(alloc, routers)?;
+        let loop_free = self.loop_free(alloc, routers)?;
         let sorted = in_order(alloc, routers)?;
         let mut loops = Vec::new(alloc);
         for router in &sorted {
             push_loop(
                 &mut loops,
-                self.loop_unless_settled(alloc, &settled, *router)?,
+                self.loop_unless_free(alloc, &loop_free, *router)?,
             )?;
         }
         Ok(loops)

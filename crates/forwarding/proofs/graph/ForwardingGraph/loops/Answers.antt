@@ -20,7 +20,7 @@ loop-router-preserved g c =
     subst (λ (xs : List RouterId). AreFrom graph xs c.push_loop.new.loops.items) (sym (take_more items i no_router lt))
     (subst (λ (ls : List (List RouterId)). AreFrom graph (take i items ++ router ∷ []) ls) (sym c.in_ok-push_loop.ensures)
     (from_more graph (take i items) c.loop-router.loops.items c.loop-router.invariant router
-    (below_at graph c.args.routers.now items is i no_router lt) c.in_ok-loop_unless_settled.field-0 c.in_ok-loop_unless_settled.ensures))
+    (below_at graph c.args.routers.now items is i no_router lt) c.in_ok-loop_unless_free.field-0 c.in_ok-loop_unless_free.ensures))
 
 pub returns : goal.returns
 returns g c =

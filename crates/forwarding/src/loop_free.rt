@@ -3,7 +3,7 @@
 ghost use Rattle.std.specs.Prelude.{◌≡◌, IfOk, OnOk};
 ghost use Rattle.std.specs.List.{list_all};
 ghost use Rattle.forwarding.specs.Graphs.{next_in};
-ghost use Rattle.forwarding.specs.steps.Settling.{AreSettled, is_settled, leads_into};
+ghost use Rattle.forwarding.specs.steps.LoopFree.{AreLoopFree, leads_into, leads_only_into};
 
 use crate::graph::ForwardingGraph;
 use crate::way::Way;
@@ -12,85 +12,85 @@ use std::alloc::{AllocError, Allocator};
 use std::collections::BTreeSet;
 
 /// Whether a way ends, or leads to a router of a set.
-fn leads_into<A: Allocator + Copy>(settled: &BTreeSet<RouterId, A>, way: Way) -> bool
-    ensures { result ≡ leads_into settled.now.keys way }
+fn leads_into<A: Allocator + Copy>(loop_free: &BTreeSet<RouterId, A>, way: Way) -> bool
+    ensures { result ≡ leads_into loop_free.now.keys way }
 {
     match way.router() {
-        Some(router) => settled.contains(&router),
+        Some(router) => loop_free.contains(&router),
         None => true,
     }
 }
 
 /// Whether all ways end, or lead to routers of a set.
-fn all_lead_into<A: Allocator + Copy>(settled: &BTreeSet<RouterId, A>, ways: &[Way]) -> bool
-    ensures { result ≡ list_all (leads_into settled.now.keys) ways.now }
+fn all_lead_into<A: Allocator + Copy>(loop_free: &BTreeSet<RouterId, A>, ways: &[Way]) -> bool
+    ensures { result ≡ list_all (leads_into loop_free.now.keys) ways.now }
 {
-    ways.iter().all(|way| leads_into(settled, *way))
+    ways.iter().all(|way| leads_into(loop_free, *way))
 }
 
 impl<A: Allocator + Copy> ForwardingGraph<A> {
     /// Whether a router sends only to routers of a set.
-    fn is_settled(&self, settled: &BTreeSet<RouterId, A>, router: RouterId) -> bool
-        ensures { result ≡ is_settled self.now settled.now.keys router }
+    fn leads_only_into(&self, loop_free: &BTreeSet<RouterId, A>, router: RouterId) -> bool
+        ensures { result ≡ leads_only_into self.now loop_free.now.keys router }
     {
         let Some(step) = self.step(router) else {
             return true;
         };
         match &step.matched {
-            Some(found) => all_lead_into(settled, &found.ways),
+            Some(found) => all_lead_into(loop_free, &found.ways),
             None => true,
         }
     }
 
     /// Adds a router to the set of those that no loop passes, if it sends only to such, and returns
     /// whether it was added.
-    fn settle(
+    fn add_loop_free(
         &self,
-        settled: &mut BTreeSet<RouterId, A>,
+        loop_free: &mut BTreeSet<RouterId, A>,
         router: RouterId,
     ) -> Result<bool, AllocError>
-        ensures { OnOk result (AreSettled (next_in self.now) settled.old.keys
-            → AreSettled (next_in self.now) settled.new.keys) }
+        ensures { OnOk result (AreLoopFree (next_in self.now) loop_free.old.keys
+            → AreLoopFree (next_in self.now) loop_free.new.keys) }
     {
-        if settled.contains(&router) || !self.is_settled(settled, router) {
+        if loop_free.contains(&router) || !self.leads_only_into(loop_free, router) {
             return Ok(false);
         }
-        settled.insert(router)?;
+        loop_free.insert(router)?;
         Ok(true)
     }
 
     /// Adds those of some routers to the set of those that no loop passes that send only to such,
     /// one after another, and returns whether there were any.
-    fn settle_each(
+    fn add_each_loop_free(
         &self,
-        settled: &mut BTreeSet<RouterId, A>,
+        loop_free: &mut BTreeSet<RouterId, A>,
         routers: &[RouterId],
     ) -> Result<bool, AllocError>
-        ensures { OnOk result (AreSettled (next_in self.now) settled.old.keys
-            → AreSettled (next_in self.now) settled.new.keys) }
+        ensures { OnOk result (AreLoopFree (next_in self.now) loop_free.old.keys
+            → AreLoopFree (next_in self.now) loop_free.new.keys) }
     {
         let mut is_any = false;
         for router in routers {
-            is_any |= self.settle(settled, *router)?;
+            is_any |= self.add_loop_free(loop_free, *router)?;
         }
         Ok(is_any)
     }
 
     /// Routers that no loop passes, among some. Without loops these are all of them, but no clause
     /// states it: one that is missed costs time alone.
-    pub(crate) fn settled(
+    pub(crate) fn loop_free(
         &self,
         alloc: A,
         routers: &[RouterId],
     ) -> Result<BTreeSet<RouterId, A>, AllocError>
-        ensures { IfOk result (λ settled. AreSettled (next_in self.now) settled.keys) }
+        ensures { IfOk result (λ loop_free. AreLoopFree (next_in self.now) loop_free.keys) }
     {
-        let mut settled = BTreeSet::new(alloc);
+        let mut loop_free = BTreeSet::new(alloc);
         for _pass in 0..routers.len() {
-            if !self.settle_each(&mut settled, routers)? {
+            if !self.add_each_loop_free(&mut loop_free, routers)? {
                 break;
             }
         }
-        Ok(settled)
+        Ok(loop_free)
     }
 }
