@@ -1,7 +1,6 @@
 //! Routers that no loop passes.
 
 ghost use Rattle.std.specs.Prelude.{◌≡◌, IfOk, OnOk};
-ghost use Rattle.std.specs.List.{list_all};
 ghost use Rattle.forwarding.specs.Graphs.{next_in};
 ghost use Rattle.forwarding.specs.steps.LoopFree.{AreLoopFree, leads_into, leads_only_into};
 
@@ -21,25 +20,14 @@ fn leads_into<A: Allocator + Copy>(loop_free: &BTreeSet<RouterId, A>, way: Way) 
     }
 }
 
-/// Whether all ways end, or lead to routers of a set.
-fn all_lead_into<A: Allocator + Copy>(loop_free: &BTreeSet<RouterId, A>, ways: &[Way]) -> bool
-    ensures { result ≡ list_all (leads_into loop_free.now.keys) ways.now }
-{
-    ways.iter().all(|way| leads_into(loop_free, *way))
-}
-
 impl<A: Allocator + Copy> ForwardingGraph<A> {
     /// Whether a router sends only to routers of a set.
     fn leads_only_into(&self, loop_free: &BTreeSet<RouterId, A>, router: RouterId) -> bool
         ensures { result ≡ leads_only_into self.now loop_free.now.keys router }
     {
-        let Some(step) = self.step(router) else {
-            return true;
-        };
-        match &step.matched {
-            Some(found) => all_lead_into(loop_free, &found.ways),
-            None => true,
-        }
+        self.ways_at(router)
+            .iter()
+            .all(|way| leads_into(loop_free, *way))
     }
 
     /// Adds a router to the set of those that no loop passes, if it sends only to such, and returns
