@@ -62,7 +62,8 @@ link_costs lsa link t accepted one c to =
     (cases_lt 0 link.metric)
 
 module _ (lsas : List (List ℕ)) (accepted : All IsAccepted lsas) where
-  has_link_costs : (v : RouterId) (t : Vertex) (cost : ℕ) (d : Addr) → HasLink lsas v t cost d → 0 < cost
+  -- no link of a router to a vertex has cost 0
+  pub has_link_costs : (v : RouterId) (t : Vertex) (cost : ℕ) (d : Addr) → HasLink lsas v t cost d → 0 < cost
   has_link_costs v t cost d (lsa, link, c, of, cl, to, metric, carried) =
       subst (λ n. 0 < n) metric (link_costs lsa link t (All-contains IsAccepted lsas lsa accepted c) of.0 cl to)
 

@@ -1,24 +1,20 @@
 -- The vertices that are reached, over all paths of the area.
-use Rattle.std.proofs.Common.{◌≡◌, ℕ, ◌+◌, ◌<◌, true, not, eqb, List, Option, None, Some, refl, sym, ap, ◌∙◌, subst, arith, ⊎_elim, true≢false}
-use Rattle.std.specs.Prelude.{◌↔◌, ◌||◌}
-use Rattle.std.specs.List.{Contains, All, filter_map, list_all}
+use Rattle.std.proofs.Common.{◌≡◌, ℕ, ◌+◌, ◌<◌, List, Option, None, Some, refl, ap, subst, arith}
+use Rattle.std.specs.Prelude.{◌↔◌}
+use Rattle.std.specs.List.{Contains, All, filter_map}
 use Rattle.std.specs.Option.{option_map}
-use Rattle.std.proofs.lemmas.List.Elements.{All-contains}
-use Rattle.std.proofs.lemmas.Bool.{cases_lt, eq-eqb}
 use Rattle.lsa_codec.specs.declared.address.Addr.{Addr}
 use Rattle.lsa_codec.specs.declared.address.RouterId.{RouterId}
-use Rattle.lsa_codec.specs.declared.link.Link.{Link}
-use Rattle.lsa_codec.specs.Fields.{kind_of}
-use Rattle.lsa_codec.specs.Links.{links_of, has_cost}
-use Rattle.lsa_codec.specs.Accepted.{IsAccepted, is_link_cost_good}
+use Rattle.lsa_codec.specs.Accepted.{IsAccepted}
 use Rattle.area_graph.specs.declared.vertex.Vertex.{Vertex}
 use Rattle.area_graph.specs.declared.vertex.Vertex.TheVariants.{Router, Network}
 use Rattle.area_graph.specs.Area.{vertex_of}
 use Rattle.area_graph.specs.AreaEdges.{area_edges}
 use Rattle.area_graph.specs.AllPaths.{distance_of}
-use Rattle.area_graph.specs.Joins.{IsLinkTo, HasLink, Joins}
+use Rattle.area_graph.specs.Joins.{Joins}
 use Rattle.area_graph.specs.Paths.{DirectedEdge, IsPath, IsDistance}
-use Rattle.area_graph.proofs.MemberLemmas.{In, In-from_Contains, Contains-from_In, In-filter_map, filter_map-In, list_all-In, Some-same}
+use Rattle.area_graph.proofs.MemberLemmas.{In, In-from_Contains, Contains-from_In, In-filter_map, filter_map-In, Some-same}
+use Rattle.area_graph.proofs.GraphLemmas.{has_link_costs}
 use Rattle.area_graph.proofs.JoinLemmas.{Contains-area_edges}
 use Rattle.area_graph.proofs.AllPathsLemmas.{IsDistance-distance_of}
 use Rattle.next_hops.specs.declared.hop.Hop.{Hop}
@@ -29,32 +25,13 @@ use Rattle.area_routes.specs.OverAllPaths.{IsAreaEdge, AreOverAllPaths}
 
 -- ---- costs
 
-link_has_cost : (link : Link) (t : Vertex) → IsLinkTo t link → has_cost link.kind ≡ true
-link_has_cost link (Router w) h = ap has_cost h.0
-link_has_cost link (Network n) h = ap has_cost h.0
-
--- no link of an accepted router-LSA to a vertex has cost 0
-link_costs : (lsa : List ℕ) (link : Link) (t : Vertex) → IsAccepted lsa → kind_of lsa ≡ 1 → Contains (links_of lsa) link → IsLinkTo t link → 0 < link.metric
-link_costs lsa link t accepted one c to =
-    let all : list_all is_link_cost_good (links_of lsa) ≡ true =
-    subst (λ b. (not b || list_all is_link_cost_good (links_of lsa)) ≡ true) (eq-eqb (kind_of lsa) 1 one) accepted.costs in
-    let good : is_link_cost_good link ≡ true = list_all-In is_link_cost_good (links_of lsa) all link (In-from_Contains (links_of lsa) link c) in
-    let costs : not (eqb link.metric 0) ≡ true = subst (λ b. (not b || not (eqb link.metric 0)) ≡ true) (link_has_cost link t to) good in
-    ⊎_elim (λ positive. positive)
-    (λ none. absurd (true≢false (sym costs ∙ ap not (eq-eqb link.metric 0 (omega arith)))))
-    (cases_lt 0 link.metric)
-
 module _ (lsas : List (List ℕ)) (accepted : All IsAccepted lsas) where
-  has_link_costs : (v : RouterId) (t : Vertex) (cost : ℕ) (d : Addr) → HasLink lsas v t cost d → 0 < cost
-  has_link_costs v t cost d (lsa, link, c, of, cl, to, metric, carried) =
-      subst (λ n. 0 < n) metric (link_costs lsa link t (All-contains IsAccepted lsas lsa accepted c) of.0 cl to)
-
   -- of two edges, one after the other, one leads out of a router
   out_of_router : (u v w : Vertex) (a b : ℕ) (d c : Addr) → Joins lsas u v a d → Joins lsas v w b c → 0 < a + b
-  out_of_router (Router u) (Router v) w a b d c first next = let some = has_link_costs u (Router v) a d first.0 in omega arith
-  out_of_router (Router u) (Network n) w a b d c first next = let some = has_link_costs u (Network n) a d first.0 in omega arith
-  out_of_router (Network n) (Router v) (Router w) a b d c first next = let some = has_link_costs v (Router w) b c next.0 in omega arith
-  out_of_router (Network n) (Router v) (Network m) a b d c first next = let some = has_link_costs v (Network m) b c next.0 in omega arith
+  out_of_router (Router u) (Router v) w a b d c first next = let some = has_link_costs lsas accepted u (Router v) a d first.0 in omega arith
+  out_of_router (Router u) (Network n) w a b d c first next = let some = has_link_costs lsas accepted u (Network n) a d first.0 in omega arith
+  out_of_router (Network n) (Router v) (Router w) a b d c first next = let some = has_link_costs lsas accepted v (Router w) b c next.0 in omega arith
+  out_of_router (Network n) (Router v) (Network m) a b d c first next = let some = has_link_costs lsas accepted v (Network m) b c next.0 in omega arith
   out_of_router (Network n) (Network m) w a b d c first next = absurd first
 
   pub NothingFree-area : NothingFree (area_edges lsas)

@@ -10,15 +10,15 @@ use Rattle.lsdb.specs.Lists.{AreaHead, IsBefore, IsDatabase, Lists, SectionLsas,
 use Rattle.lsdb.specs.Slots.{Slot, Slots, SectionSlots, lists_of, put, section_of, update_at}
 use Rattle.lsdb.specs.declared.section.Section.TheVariants.{AsWide}
 use Rattle.lsdb.proofs.ListLemmas.{pairs_head, pairs_tail}
-use Rattle.lsdb.proofs.SlotLemmas.{lists_of-open_at}
 use Rattle.edit_script.specs.declared.edit.Edit.{Edit}
 use Rattle.edit_history.specs.declared.fault.EditFault.{EditFault}
-use Rattle.edit_history.specs.Applied.{Applied}
 use Rattle.edit_history.specs.Effect.{effect}
 use Rattle.edit_history.specs.Exchange.{RecordData, SwapData, changes_as_scope, done_slots, is_of_as_scope, undone_slots}
-use Rattle.edit_history.specs.Grown.{Grown, opened}
 use Rattle.edit_history.specs.Journal.{HistoryData, Links, LinksOn, origin}
 use Rattle.edit_history.specs.Session.{after_edits, edits_of, moved_back, moved_on, session_of, state, unless_refused}
+use Rattle.edit_history.specs.declared.moved.Moved.{Moved}
+use Rattle.edit_history.specs.declared.moved.Moved.TheVariants.{Back, On}
+use Rattle.edit_history.specs.Moving.{before, moved_records}
 use Rattle.edit_history.proofs.Growing.{state_is}
 use Rattle.edit_history.proofs.Touching.{after_append, back_state, first_on}
 
@@ -121,21 +121,6 @@ done_stays n d (s ∷ ss) first none =
     let here = put_stays n d s s.other first parts.0 in
     stays_on n d (put d s.slot s.other) (done_slots (put d s.slot s.other) ss) here (done_stays n (put d s.slot s.other) ss here.first parts.1)
 
--- ---- an edit
-
-opened_same : (d : Slots) (ns : List ℕ) → lists_of (opened d ns) ≡ lists_of d
-opened_same d [] = refl
-opened_same d (n ∷ ns) = opened_same _ ns ∙ lists_of-open_at d n
-
-pub grown_same : (d e : Slots) → Grown d e → lists_of e ≡ lists_of d
-grown_same d e grown = ap lists_of grown.1 ∙ opened_same d grown.0
-
-pub applied_spares_as : (d e : Slots) (edit : Edit) (r : RecordData) → IsDatabase (lists_of e) → Applied d e edit r
-    → changes_as_scope (length (areas_of (lists_of e))) r ≡ false → of_as (lists_of e) ≡ of_as (lists_of d)
-applied_spares_as d e edit r sound applied none =
-    sym (undone_stays (length (areas_of (lists_of e))) e r.swaps (first_of_database e sound) none).same
-    ∙ ap of_as (grown_same d (undone_slots e r.swaps) applied.before)
-
 -- ---- a history
 
 abbrev any_changes : ℕ → List RecordData → Bool
@@ -158,7 +143,7 @@ on_same n d (r ∷ rs) links first none =
     ∙ on_same n (done_slots d r.swaps) rs links.1 here.first parts.1
     ∙ here.same
 
-pub undo_spares_as : (d : Slots) (h : HistoryData) (k : ℕ) → Links d h
+undo_spares_as : (d : Slots) (h : HistoryData) (k : ℕ) → Links d h
     → list_any (changes_as_scope (length (areas_of (lists_of d)))) (take k h.past) ≡ false
     → of_as (state (moved_back k (session_of d h))) ≡ of_as (state (session_of d h))
 undo_spares_as d h k links none =
@@ -166,7 +151,7 @@ undo_spares_as d h k links none =
     ∙ (origin_stays (length (areas_of (lists_of d))) d (take k h.past) (first_of_database d links.sound) none).same
     ∙ ap of_as (sym (state_is d h links))
 
-pub redo_spares_as : (d : Slots) (h : HistoryData) (k : ℕ) → Links d h
+redo_spares_as : (d : Slots) (h : HistoryData) (k : ℕ) → Links d h
     → list_any (changes_as_scope (length (areas_of (lists_of d)))) (take k h.future) ≡ false
     → of_as (state (moved_on k (session_of d h))) ≡ of_as (state (session_of d h))
 redo_spares_as d h k links none =
@@ -178,3 +163,9 @@ redo_spares_as d h k links none =
     ∙ ap (after_edits (lists_of d)) (take-map (λ (r : RecordData). r.edit) k h.future))
     ∙ on_same (length (areas_of (lists_of d))) d (take k h.future) (first_on d k h.future links.on) (first_of_database d links.sound) none
     ∙ ap of_as (sym is)
+
+pub moved_spares_as : (d : Slots) (h : HistoryData) (moved : Moved) → Links d h
+    → list_any (changes_as_scope (length (areas_of (lists_of d)))) (moved_records moved h) ≡ false
+    → of_as (state (before moved (session_of d h))) ≡ of_as (state (session_of d h))
+moved_spares_as d h (On k) links none = undo_spares_as d h k links none
+moved_spares_as d h (Back k) links none = redo_spares_as d h k links none

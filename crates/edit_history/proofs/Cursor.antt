@@ -1,10 +1,11 @@
 -- The records around the cursor, as they are read from the vector.
 use Rattle.std.proofs.Common.{◌≡◌, ℕ, zero, suc, ◌+◌, ◌-◌, ◌<◌, ◌≤◌, Bool, true, false, ◌||◌, List, [], ◌∷◌, ◌++◌, length, get_or, take, drop, Some, refl}
-use Rattle.std.proofs.Common.{sym, ap, ◌∙◌, arith}
-use Rattle.std.specs.Prelude.{reverse, slice_set}
+use Rattle.std.proofs.Common.{sym, ap, ◌∙◌, arith, inl, inr}
+use Rattle.std.specs.Prelude.{min, reverse, slice_set}
 use Rattle.std.specs.List.{list_any, slice_get}
-use Rattle.std.proofs.Math.Seq.{take-append_seam, take-add}
-use Rattle.std.proofs.lemmas.List.{reverse-append, length-reverse, length-take, length-drop, take_all}
+use Rattle.std.proofs.Math.Seq.{take-append_seam}
+use Rattle.std.proofs.lemmas.Bool.{cases_lt}
+use Rattle.std.proofs.lemmas.List.{reverse-append, length-reverse, length-take, length-drop, take-append-drop, take_all}
 use Rattle.std.proofs.lemmas.Option.{slice_get_within, get_or_from_slice_get}
 use Rattle.edit_history.specs.Exchange.{RecordData}
 use Rattle.edit_history.specs.Journal.{HistoryData}
@@ -107,32 +108,39 @@ any_reverse : (p : RecordData → Bool) (xs : List RecordData) → list_any p (r
 any_reverse p [] = refl
 any_reverse p (x ∷ xs) = ap (list_any p) (reverse-append (x ∷ []) xs) ∙ any_append p (reverse xs) x ∙ ap (λ (b : Bool). p x || b) (any_reverse p xs)
 
--- the last records before the cursor are the first of the past
-pub any_after : (p : RecordData → Bool) (items : List RecordData) (cursor count : ℕ) (h : HistoryData) → seen items cursor ≡ h
-    → cursor ≤ length items → count ≤ length h.past
-    → list_any p (take (cursor - (cursor - count)) (drop (cursor - count) items)) ≡ list_any p (take count h.past)
-any_after p items cursor count h view le some =
-    let m = cursor - count in
-    let n = cursor - m in
-    let e : length h.past ≡ length (take cursor items) = ap (λ (k : HistoryData). length k.past) (sym view) ∙ length-reverse (take cursor items) in
-    let few : count ≤ cursor = omega (arith, length-take cursor items) in
-    let whole : m + n ≡ cursor = omega arith in
-    let last : List RecordData = take n (drop m items) in
-    let split : take cursor items ≡ take m items ++ last = ap (λ (k : ℕ). take k items) (sym whole) ∙ take-add m n items in
-    let size : length (reverse last) ≡ count = length-reverse last ∙ omega (arith, length-take n (drop m items), length-drop m items) in
-    sym (ap (λ (k : HistoryData). list_any p (take count k.past)) (sym view)
-    ∙ ap (λ (rs : List RecordData). list_any p (take count (reverse rs))) split
-    ∙ ap (λ (rs : List RecordData). list_any p (take count rs)) (reverse-append (take m items) last)
-    ∙ ap (λ (k : ℕ). list_any p (take k (reverse last ++ reverse (take m items)))) (sym size)
-    ∙ ap (list_any p) (take-append_seam (reverse last) (reverse (take m items)))
-    ∙ any_reverse p last)
+-- the last of the done records are the first of the past
+pub any_last : (p : RecordData → Bool) (done past : List RecordData) (count : ℕ) → reverse done ≡ past
+    → list_any p (drop (length done - count) done) ≡ list_any p (take count past)
+any_last p done past count is =
+    elim (cases_lt (length done) count) [
+      | inl lt ↦
+          let none : length done - count ≡ 0 = omega (arith, lt) in
+          let size : length past ≡ length done = ap (λ (rs : List RecordData). length rs) (sym is) ∙ length-reverse done in
+          let whole : take count past ≡ past = take_all count past (omega (arith, lt, size)) in
+          ap (λ (m : ℕ). list_any p (drop m done)) none ∙ sym (any_reverse p done) ∙ ap (list_any p) (is ∙ sym whole)
+      | inr le ↦
+          let m = length done - count in
+          let last : List RecordData = drop m done in
+          let size : length (reverse last) ≡ count = length-reverse last ∙ omega (arith, length-drop m done, le) in
+          sym (ap (λ (rs : List RecordData). list_any p (take count rs)) (sym is)
+          ∙ ap (λ (rs : List RecordData). list_any p (take count (reverse rs))) (sym (take-append-drop m done))
+          ∙ ap (λ (rs : List RecordData). list_any p (take count rs)) (reverse-append (take m done) last)
+          ∙ ap (λ (k : ℕ). list_any p (take k (reverse last ++ reverse (take m done)))) (sym size)
+          ∙ ap (list_any p) (take-append_seam (reverse last) (reverse (take m done)))
+          ∙ any_reverse p last)
+    ]
 
--- the records from the cursor on are the first of the future
-pub any_ahead : (p : RecordData → Bool) (items : List RecordData) (cursor count : ℕ) (h : HistoryData) → seen items cursor ≡ h
-    → list_any p (take (cursor + count - cursor) (drop cursor items)) ≡ list_any p (take count h.future)
-any_ahead p items cursor count h view =
-    ap (λ (k : ℕ). list_any p (take k (drop cursor items))) (let size : cursor + count - cursor ≡ count = omega arith in size)
-    ∙ ap (λ (k : HistoryData). list_any p (take count k.future)) view
+-- the first of the undone records are those of the future
+pub any_first : (p : RecordData → Bool) (future : List RecordData) (count : ℕ)
+    → list_any p (take (min count (length future)) future) ≡ list_any p (take count future)
+any_first p future count =
+    elim (cases_lt (length future) count) [
+      | inl lt ↦
+          let all : min count (length future) ≡ length future = omega (arith, lt) in
+          ap (λ (k : ℕ). list_any p (take k future)) all
+          ∙ ap (list_any p) (take_all (length future) future (omega arith) ∙ sym (take_all count future (omega (arith, lt))))
+      | inr le ↦ ap (λ (k : ℕ). list_any p (take k future)) (let some : min count (length future) ≡ count = omega (arith, le) in some)
+    ]
 
 -- the last record before the cursor is the first of the past
 pub last_is : (done past : List RecordData) (r : RecordData) → reverse done ≡ past → Some r ≡ slice_get done (length done - 1)

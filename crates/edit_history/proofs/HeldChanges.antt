@@ -8,7 +8,8 @@ use Rattle.lsdb.specs.Slots.{Slot, Slots, lists_of, put, slot_at}
 use Rattle.edit_history.specs.Exchange.{SwapData, RecordData, CanDo, CanUndo, done_slots, undone_slots, redone, undone}
 use Rattle.edit_history.specs.Journal.{HistoryData, Links}
 use Rattle.edit_history.specs.Session.{Session, session_of, state, moved_back, moved_on}
-use Rattle.edit_history.specs.Changes.{IsLastChange, IsNextChange}
+use Rattle.edit_history.specs.declared.moved.Moved.TheVariants.{Back, On}
+use Rattle.edit_history.specs.Moving.{IsOneChange}
 use Rattle.edit_history.specs.steps.Holding.{HoldsOne}
 use Rattle.edit_history.proofs.Linked.{step_back, step_on, session_back, session_on, back_more, back_none, on_more, on_none, done_len}
 use Rattle.edit_history.proofs.Growing.{state_is}
@@ -73,27 +74,27 @@ does_one d r slot lsa one can =
 -- ---- histories
 
 pub last_changed : (d : Slots) (h : HistoryData) (r : RecordData) (slot : SlotId) (lsa : List ℕ) → h.past ≡ r ∷ drop 1 h.past
-    → HoldsOne r slot lsa → Links d h → IsLastChange d h slot lsa
+    → HoldsOne r slot lsa → Links d h → IsOneChange (On 1) d h slot lsa
 last_changed d h r slot lsa is one links =
     let rs : List RecordData = drop 1 h.past in
     let linked : Links d (recorded (r ∷ rs) h.future) = subst (λ (past : List RecordData). Links d (recorded past h.future)) is links in
     let made = undoes_one d r slot lsa one linked.back.0.can in
     record {
       there = made.there;
-      undone = ap (λ (past : List RecordData). state (moved_back 1 (session_of d (recorded past h.future)))) is
+      leads_from = ap (λ (past : List RecordData). state (moved_back 1 (session_of d (recorded past h.future)))) is
           ∙ state_back_one d r rs h.future linked ∙ ap (λ (e : Slots). lists_of e) made.leads;
       sound = made.sound;
     }
 
 pub next_changed : (d : Slots) (h : HistoryData) (r : RecordData) (slot : SlotId) (lsa : List ℕ) → h.future ≡ r ∷ drop 1 h.future
-    → HoldsOne r slot lsa → Links d h → IsNextChange d h slot lsa
+    → HoldsOne r slot lsa → Links d h → IsOneChange (Back 1) d h slot lsa
 next_changed d h r slot lsa is one links =
     let fs : List RecordData = drop 1 h.future in
     let linked : Links d (recorded h.past (r ∷ fs)) = subst (λ (future : List RecordData). Links d (recorded h.past future)) is links in
     let made = does_one d r slot lsa one linked.on.0.can in
     record {
       there = made.there;
-      redone = ap (λ (future : List RecordData). state (moved_on 1 (session_of d (recorded h.past future)))) is
+      leads_from = ap (λ (future : List RecordData). state (moved_on 1 (session_of d (recorded h.past future)))) is
           ∙ state_on_one d r h.past fs linked ∙ ap (λ (e : Slots). lists_of e) made.leads;
       sound = made.sound;
     }

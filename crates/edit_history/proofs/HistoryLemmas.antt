@@ -15,7 +15,7 @@ use Rattle.edit_history.specs.Applied.{Applied}
 use Rattle.edit_history.specs.Journal.{HistoryData, Links, origin}
 use Rattle.edit_history.specs.Session.{Session, session_of, edits_of, edited, accepted, state, most_edits}
 use Rattle.edit_history.proofs.Growing.{grown_stays}
-pub use Rattle.edit_history.proofs.AsScope.{applied_spares_as, grown_same, of_as, redo_spares_as, undo_spares_as}
+pub use Rattle.edit_history.proofs.AsScope.{moved_spares_as, of_as}
 pub use Rattle.edit_history.proofs.Folding.{done_accepted, undone_accepted}
 pub use Rattle.edit_history.proofs.Growing.{state_is, recorded}
 pub use Rattle.edit_history.proofs.Keys.{found_passes}

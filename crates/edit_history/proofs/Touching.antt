@@ -17,6 +17,9 @@ use Rattle.edit_history.specs.Applied.{Applied, TakesBack, CarriesOut}
 use Rattle.edit_history.specs.Journal.{HistoryData, LinksBack, LinksOn, Links, origin}
 use Rattle.edit_history.specs.Session.{Session, session_of, edits_of, state, after_edits, unless_refused, moved_back, moved_on, edits_touch}
 use Rattle.edit_history.specs.Session.{undo_touches, redo_touches}
+use Rattle.edit_history.specs.declared.moved.Moved.{Moved}
+use Rattle.edit_history.specs.declared.moved.Moved.TheVariants.{Back, On}
+use Rattle.edit_history.specs.Moving.{moved_records, moved_touches}
 use Rattle.edit_history.proofs.Exchanged.{undone_sound, done_sound}
 use Rattle.edit_history.proofs.Growing.{state_back, state_is}
 use Rattle.edit_history.proofs.Linked.{reverse_cons}
@@ -205,3 +208,10 @@ redo_spares d h k area links untouched =
     ∙ ap (after_edits (lists_of d)) (take-map (λ (r : RecordData). r.edit) k h.future))
     ∙ on_graph area d (take k h.future) links.sound (first_on d k h.future links.on) (redo_is d h k area links ∙ untouched)
     ∙ ap (graph_lsas area) (sym is)
+
+-- ---- the edits that a history last moved over
+
+pub moved_is : (d : Slots) (h : HistoryData) (moved : Moved) (area : AreaId) → Links d h
+    → list_any (touches area) (moved_records moved h) ≡ moved_touches moved area (session_of d h)
+moved_is d h (On k) area links = undo_is d h k area links
+moved_is d h (Back k) area links = redo_is d h k area links

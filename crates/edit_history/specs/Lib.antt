@@ -8,4 +8,4 @@ pub mod Applied
 pub mod Journal
 pub mod Session
 pub mod steps
-pub mod Changes
+pub mod Moving

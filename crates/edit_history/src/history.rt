@@ -1,29 +1,10 @@
 //! The records of a session's edits.
 
-ghost use Rattle.std.specs.Prelude.{◌≡◌};
-ghost use Rattle.std.specs.List.{list_any};
-ghost use Rattle.edit_history.specs.Exchange.{changes_as_scope, touches};
-
 use crate::fault::{RedoFault, UndoFault};
 use crate::record::{Record, replay, revert};
-use lsa_codec::AreaId;
 use lsdb::Database;
 use std::alloc::{AllocError, Allocator, Global};
 use std::marker::Model;
-
-/// Whether one of some records touches an area.
-fn any_touches<A: Allocator + Copy>(records: &[Record<A>], area: AreaId) -> bool
-    ensures { result ≡ list_any (touches area) records.now }
-{
-    records.iter().any(|record| record.touches(area))
-}
-
-/// Whether one of some records changes LSAs of AS scope. The database has `areas` areas.
-fn any_changes_as_scope<A: Allocator + Copy>(records: &[Record<A>], areas: usize) -> bool
-    ensures { result ≡ list_any (changes_as_scope areas) records.now }
-{
-    records.iter().any(|record| record.changes_as_scope(areas))
-}
 
 /// The records of the edits that are done, and of those that were undone since.
 #[derive(Drop)]
@@ -50,12 +31,10 @@ impl<A: Allocator> Model for History<A> {
 }
 
 impl<A: Allocator + Copy> History<A> {
-    ghost use Rattle.std.specs.Prelude.{◌≡◌, ◌+◌, ◌<◌, ◌≤◌, [], ◌∷◌, ◌++◌, length, take, reverse, OnOk, OnErr, IsOk, ◌↔◌};
+    ghost use Rattle.std.specs.Prelude.{◌≡◌, ◌+◌, ◌<◌, ◌≤◌, [], ◌∷◌, ◌++◌, length, reverse, OnOk, OnErr, IsOk, ◌↔◌};
     ghost use Rattle.edit_history.specs.Journal.{Links};
-    ghost use Rattle.edit_history.specs.Session.{edits_of, session_of, moved_back, moved_on, undo_touches, redo_touches, StepsBack, StepsOn};
-    ghost use Rattle.std.specs.List.{list_any};
+    ghost use Rattle.edit_history.specs.Session.{edits_of, session_of, moved_back, moved_on, StepsBack, StepsOn};
     ghost use Rattle.lsdb.specs.Slots.{Slots};
-    ghost use Rattle.edit_history.specs.Exchange.{changes_as_scope};
 
     /// No edits. It takes no memory.
     pub fn new(alloc: A) -> History<A>
@@ -210,49 +189,6 @@ impl<A: Allocator + Copy> History<A> {
         }
         self.step_on_by(database, count);
         Ok(())
-    }
-
-    /// Whether one of the last `count` done edits touches an area: it rewrote, removed or added a
-    /// router-LSA or network-LSA of the area. These make up the area's graph (RFC 2328, 16.1);
-    /// where none of the edits touches them, taking the edits back leaves them as they are. It
-    /// takes no memory.
-    pub fn undo_touches(&self, count: usize, area: AreaId) -> bool
-        requires { count ≤ length self.now.lists.past }
-        ensures { (d : Slots) → Links d self.now.lists
-            → result ≡ undo_touches count area (session_of d self.now.lists) }
-    {
-        any_touches(&self.records[self.cursor - count..self.cursor], area)
-    }
-
-    /// Whether one of the last `count` done edits rewrote, removed or added an LSA of AS scope, in
-    /// a database with `areas` areas. Where none did, taking the edits back leaves those LSAs as
-    /// they are. It takes no memory.
-    pub fn undo_changes_as_scope(&self, count: usize, areas: usize) -> bool
-        requires { count ≤ length self.now.lists.past }
-        ensures { result ≡ list_any (changes_as_scope areas) (take count self.now.lists.past) }
-    {
-        any_changes_as_scope(&self.records[self.cursor - count..self.cursor], areas)
-    }
-
-    /// Whether one of the first `count` undone edits rewrites, removes or adds an LSA of AS scope,
-    /// in a database with `areas` areas. Where none does, carrying the edits out again leaves those
-    /// LSAs as they are. It takes no memory.
-    pub fn redo_changes_as_scope(&self, count: usize, areas: usize) -> bool
-        requires { count ≤ length self.now.lists.future }
-        ensures { result ≡ list_any (changes_as_scope areas) (take count self.now.lists.future) }
-    {
-        any_changes_as_scope(&self.records[self.cursor..self.cursor + count], areas)
-    }
-
-    /// Whether one of the first `count` undone edits touches an area, as in
-    /// [`undo_touches`](History::undo_touches). Where none does, carrying them out again leaves the
-    /// area's router-LSAs and network-LSAs as they are. It takes no memory.
-    pub fn redo_touches(&self, count: usize, area: AreaId) -> bool
-        requires { count ≤ length self.now.lists.future }
-        ensures { (d : Slots) → Links d self.now.lists
-            → result ≡ redo_touches count area (session_of d self.now.lists) }
-    {
-        any_touches(&self.records[self.cursor..self.cursor + count], area)
     }
 
     /// Makes room for one record after the done ones.

@@ -7,7 +7,6 @@
 #![tactic(auto)]
 
 mod applying;
-mod change;
 mod failures;
 mod fault;
 mod history;
@@ -15,6 +14,7 @@ mod laws;
 mod limits;
 mod links;
 mod lookup;
+mod moved;
 mod planning;
 mod prefixes;
 mod record;
@@ -22,11 +22,11 @@ mod refreshing;
 mod swap;
 
 pub use applying::apply;
-pub use change::Change;
 pub use fault::{EditFault, RedoFault, UndoFault};
 pub use history::History;
 pub use laws::{
     changes_reported, folded, histories_are_linked, histories_show_sessions, inverses, moves,
     no_edit_is_refused, refresh_settles, untouched_areas_stay,
 };
+pub use moved::{Change, Moved};
 pub use record::{Record, replay, revert};

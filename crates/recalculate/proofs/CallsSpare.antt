@@ -20,9 +20,9 @@ use Rattle.recalculate.specs.Calls.{AreMade, Call, CarriedOut, IsTaken, Leads, a
 use Rattle.routing_table.specs.AreasTrees.{routers_of}
 use Rattle.routing_table.specs.KeptTrees.{KeptRouters, is_kept, less_touched}
 use Rattle.routing_table.specs.Tables.{TableValue}
-use Rattle.recalculate.specs.declared.moved.Moved.{Moved}
+use Rattle.edit_history.specs.declared.moved.Moved.{Moved}
 use Rattle.recalculate.specs.Planning.{AreCachesOf, CacheValue, IsCacheOf, PlannerValue, router_of, without_last}
-use Rattle.recalculate.specs.steps.Moving.{before, moved_touches}
+use Rattle.edit_history.specs.Moving.{before, moved_touches}
 use Rattle.recalculate.specs.Reached.{IsReached}
 use Rattle.recalculate.proofs.Touches.{IsStep, edited_spares, redone_spares, undone_spares}
 

@@ -9,9 +9,9 @@ use Rattle.edit_history.specs.Journal.{HistoryData, Links}
 use Rattle.edit_history.specs.Session.{Session, session_of, state}
 use Rattle.edit_history.proofs.HistoryLemmas.{state_is}
 use Rattle.unchanged_tables.specs.CostChanges.{IsCostChange}
-use Rattle.recalculate.specs.declared.moved.Moved.{Moved}
+use Rattle.edit_history.specs.declared.moved.Moved.{Moved}
 use Rattle.recalculate.specs.Reached.{IsReached}
-use Rattle.recalculate.specs.steps.Moving.{IsOneChange, before}
+use Rattle.edit_history.specs.Moving.{IsOneChange, before}
 
 -- the database of a session that was reached is one
 pub reached_database : (s : Session) → IsReached s → IsDatabase (state s)

@@ -15,11 +15,11 @@ use Rattle.edit_history.proofs.HistoryLemmas.{back_and_on, edits_back, on_and_ba
 use Rattle.edit_history.proofs.HistoryLemmas.{redo_spares, undo_spares}
 use Rattle.routing_table.specs.AreasTrees.{AreasTrees, KeptTreesValue, AreAreasOf, AreOfDatabase, IsSpareOf, routers_by, routers_of}
 use Rattle.routing_table.specs.KeptTrees.{less_touched}
-use Rattle.recalculate.specs.declared.moved.Moved.{Moved}
-use Rattle.recalculate.specs.declared.moved.Moved.TheVariants.{On, Back}
+use Rattle.edit_history.specs.declared.moved.Moved.{Moved}
+use Rattle.edit_history.specs.declared.moved.Moved.TheVariants.{On, Back}
 use Rattle.recalculate.specs.Calls.{request_touches}
 use Rattle.recalculate.specs.Reached.{IsReached}
-use Rattle.recalculate.specs.steps.Moving.{HasMoved, before, moved_touches}
+use Rattle.edit_history.specs.Moving.{before, moved_touches}
 use Rattle.recalculate.proofs.Caches.{edited_base}
 use Rattle.recalculate.proofs.TreesSpared.{reported_untouched, untouched_stay}
 
@@ -103,14 +103,12 @@ module _ (moved : Moved) (s : Session) (old new : KeptTreesValue) (is : new.area
 
 -- carrying a request out led from s to t, and moved over these edits
 pub record IsStep (request : Request) (moved : Moved) (s t : Session) : Type 0 where
-  pub enough : HasMoved moved t
   pub base : t.base ≡ s.base
   pub back : state (before moved t) ≡ state s
   pub touched : (area : AreaId) → moved_touches moved area t ≡ request_touches request s area
 
 pub edit_step : (s t : Session) (e : Edit) → edited s e ≡ Ok t → IsStep (edit e) (On 1) s t
 edit_step s t e is = record {
-  enough = omega (arith, ap (λ (es : List Edit). length es) (done_after s t e is), length-append s.done (e ∷ []));
   base = edited_base s t e is;
   back = state_before s t e is;
   touched = λ area. edited_touch area s t e is;
@@ -118,8 +116,6 @@ edit_step s t e is = record {
 
 pub undo_step : (s t : Session) (k : ℕ) → k ≤ length s.done → t ≡ moved_back k s → IsStep (undo k) (Back k) s t
 undo_step s t k le is = record {
-  enough = subst (λ (u : Session). k ≤ length u.undone) (sym is)
-      (omega (arith, length-append (drop (length s.done - k) s.done) s.undone, length-drop (length s.done - k) s.done, le));
   base = ap (λ (u : Session). u.base) is;
   back = ap (λ (u : Session). state (moved_on k u)) is ∙ ap (λ (u : Session). state u) (back_and_on s k le);
   touched = λ area. ap (redo_touches k area) is ∙ undone_touch k area s le;
@@ -127,8 +123,6 @@ undo_step s t k le is = record {
 
 pub redo_step : (s t : Session) (k : ℕ) → k ≤ length s.undone → t ≡ moved_on k s → IsStep (redo k) (On k) s t
 redo_step s t k le is = record {
-  enough = subst (λ (u : Session). k ≤ length u.done) (sym is)
-      (omega (arith, length-append s.done (take k s.undone), length-take k s.undone, le));
   base = ap (λ (u : Session). u.base) is;
   back = ap (λ (u : Session). state (moved_back k u)) is ∙ ap (λ (u : Session). state u) (on_and_back s k le);
   touched = λ area. ap (undo_touches k area) is ∙ redone_touch k area s le;

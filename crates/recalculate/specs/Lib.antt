@@ -4,4 +4,3 @@ pub mod Reached
 pub mod Calls
 pub mod Asking
 pub mod CallsForTables
-pub mod steps

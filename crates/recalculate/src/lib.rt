@@ -4,7 +4,6 @@
 mod copying;
 mod counts;
 mod laws;
-mod moved;
 mod planner;
 mod study;
 mod table_cache;

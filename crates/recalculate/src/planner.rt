@@ -3,10 +3,9 @@
 ghost use Rattle.std.specs.Prelude.{◌≡◌, IfOk};
 
 use crate::counts::Info;
-use crate::moved::Moved;
 use crate::study::Study;
 use crate::table_cache::TableCache;
-use edit_history::{EditFault, Record, RedoFault, UndoFault};
+use edit_history::{EditFault, Moved, Record, RedoFault, UndoFault};
 use edit_script::Edit;
 use lsa_codec::RouterId;
 use lsdb::Database;

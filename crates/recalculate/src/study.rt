@@ -1,15 +1,9 @@
 //! A database under its edits.
 
-ghost use Rattle.std.specs.Prelude.{IfSome};
-ghost use Rattle.lsdb.specs.Slots.{Slots as AnySlots};
-ghost use Rattle.edit_history.specs.Journal.{Links};
-ghost use Rattle.recalculate.specs.steps.Moving.{IsOneChange};
-
 use crate::copying::takes_longer_than_a_copy;
 use crate::counts::{Info, beginning_of};
-use crate::moved::Moved;
 use crate::table_cache::TableCache;
-use edit_history::{Change, EditFault, History, Record, RedoFault, UndoFault, apply};
+use edit_history::{EditFault, History, Moved, Record, RedoFault, UndoFault, apply};
 use edit_script::Edit;
 use lsa_codec::{AreaId, RouterId};
 use lsdb::Database;
@@ -49,19 +43,6 @@ impl<A: Allocator> Model for Study<A> {
     ghost invariant = { λ s. IsStudied s.database s.history.lists s.loaded };
 }
 
-/// The change of one LSA that the last step of a session made, where it moved over one edit that
-/// did nothing else. It takes no memory.
-fn one_change<A: Allocator + Copy>(history: &History<A>, moved: Moved) -> Option<Change<'_, A>>
-    ensures { IfSome result (λ change. (d : AnySlots) → Links d history.now.lists
-        → IsOneChange moved d history.now.lists change.slot change.before.now) }
-{
-    match moved {
-        Moved::On(1) => history.last_change(),
-        Moved::Back(1) => history.next_change(),
-        _ => None,
-    }
-}
-
 impl<A: Allocator + Copy> Study<A> {
     ghost use Rattle.std.specs.Prelude.{◌≡◌, ◌≢◌, ◌≤◌, ◌↔◌, ◌+◌, ◌++◌, Ok, Err, Some, length, true, false, IsOk, OnOk, OnErr, IfOk, IfErr, IfSome, IsErrOf};
     ghost use Rattle.lsdb.specs.BaseText.{base_text};
@@ -77,7 +58,7 @@ impl<A: Allocator + Copy> Study<A> {
     ghost use Rattle.recalculate.specs.Counts.{info_of};
     ghost use Rattle.recalculate.specs.Planning.{IsCacheOf};
     ghost use Rattle.recalculate.specs.Reached.{IsReached};
-    ghost use Rattle.recalculate.specs.steps.Moving.{HasMoved, before, moved_touches};
+    ghost use Rattle.edit_history.specs.Moving.{before, moved_touches};
     ghost use Rattle.unchanged_tables.specs.CostChanges.{IsCostChange};
 
     /// The study of a database, without edits. It takes no memory.
@@ -149,40 +130,29 @@ impl<A: Allocator + Copy> Study<A> {
 
     /// Whether the last step touched an area: one of its edits rewrote, removed or added a
     /// router-LSA or network-LSA of it. It takes no memory.
-    #[tactic(auto, using(edit_history::proofs::HistoryLemmas::done_len, edit_history::proofs::HistoryLemmas::undone_len))]
     pub(crate) fn touches(&self, moved: Moved, area: AreaId) -> bool
-        ensures { HasMoved moved self.now → result ≡ moved_touches moved area self.now }
+        ensures { result ≡ moved_touches moved area self.now }
     {
-        let history = &self.history;
-        match moved {
-            Moved::On(count) => count <= history.done() && history.undo_touches(count, area),
-            Moved::Back(count) => count <= history.undone() && history.redo_touches(count, area),
-        }
+        self.history.touches(moved, area)
     }
 
     /// Whether the last step changed an LSA of AS scope. It takes no memory.
-    #[tactic(auto, using(edit_history::proofs::HistoryLemmas::done_len, edit_history::proofs::HistoryLemmas::undone_len))]
     pub(crate) fn changes_as_scope(&self, moved: Moved) -> bool
-        requires { HasMoved moved self.now }
         ensures { result ≡ false → lsas_of AsWide (state self.now)
             ≡ lsas_of AsWide (state (before moved self.now)) }
     {
         let areas = self.database.area_count();
-        match moved {
-            Moved::On(count) => self.history.undo_changes_as_scope(count, areas),
-            Moved::Back(count) => self.history.redo_changes_as_scope(count, areas),
-        }
+        self.history.changes_as_scope(moved, areas)
     }
 
     /// The change of the cost of one interface that the last step made, where it moved over one
     /// edit, and made no other change. It takes no memory.
     pub(crate) fn cost_change(&self, moved: Moved) -> Option<AreaChange>
-        requires { HasMoved moved self.now }
         ensures change { IfSome result (λ made. IsCostChange made.area made.change
             (state (before moved self.now)) (state self.now)) }
         ensures touched { IfSome result (λ made. moved_touches moved made.area self.now ≡ true) }
     {
-        let one = one_change(&self.history, moved)?;
+        let one = self.history.one_change(moved)?;
         let made = cost_change(&self.database, one.slot, one.before)?;
         if !self.touches(moved, made.area) {
             return None;
@@ -233,7 +203,10 @@ impl<A: Allocator + Copy> Study<A> {
         if self.is_at_beginning() {
             return true;
         }
-        match self.history.only_change() {
+        if self.done() != 1 {
+            return false;
+        }
+        match self.history.one_change(Moved::On(1)) {
             Some(change) => {
                 is_unchanged(trees, &self.database, router, change.slot, change.before)
             }

@@ -13,11 +13,11 @@ ghost use Rattle.routing_table.specs.KeptTrees.{less_touched};
 ghost use Rattle.unchanged_tables.specs.CostChanges.{IsCostChange};
 ghost use Rattle.recalculate.specs.Planning.{IsCacheOf};
 ghost use Rattle.recalculate.specs.Reached.{IsReached};
-ghost use Rattle.recalculate.specs.steps.Moving.{HasMoved, before, moved_touches};
+ghost use Rattle.edit_history.specs.Moving.{before, moved_touches};
 
-use crate::moved::Moved;
 use crate::study::Study;
 use crate::table_cache::TableCache;
+use edit_history::Moved;
 use external_routes::ExternalLsas;
 use routing_table::KeptTrees;
 use std::alloc::Allocator;
@@ -27,7 +27,6 @@ impl<A: Allocator + Copy> TableCache<A> {
     /// Follows the last step of a session. The last table goes, and the trees of each area that the
     /// step touched, and the list of the AS-external-LSAs where it changed one. It takes no memory.
     pub(crate) fn follow(&mut self, study: &Study<A>, moved: Moved)
-        requires { HasMoved moved study.now }
         ensures kept { routers_of self.new.trees ≡ less_touched
             (λ area. moved_touches moved area study.now) (routers_of self.old.trees) }
         ensures cache { IsCacheOf (state (before moved study.now)) self.old
@@ -60,7 +59,6 @@ fn keep_changed<A: Allocator + Copy>(trees: &mut KeptTrees<A>, alloc: A, change:
 /// with them, unless the step was one edit of the cost of one interface: then it is changed as the
 /// step did, and kept as the spare one. It takes no memory.
 fn drop_trees<A: Allocator + Copy>(trees: &mut KeptTrees<A>, study: &Study<A>, moved: Moved)
-    requires { HasMoved moved study.now }
     ensures areas { trees.new.areas
         ≡ filter (λ area. not (moved_touches moved area.0 study.now)) trees.old.areas }
     ensures spare { AreOfDatabase (state (before moved study.now)) trees.old
@@ -80,7 +78,6 @@ fn drop_externals<A: Allocator + Copy>(
     study: &Study<A>,
     moved: Moved,
 )
-    requires { HasMoved moved study.now }
     ensures { AreListedOf (lsas_of AsWide (state (before moved study.now))) externals.old
         → AreListedOf (lsas_of AsWide (state study.now)) externals.new }
 {

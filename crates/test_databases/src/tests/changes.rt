@@ -4,7 +4,7 @@ ghost use Rattle.edit_history.specs.Journal.{Links};
 
 use super::edited::{back, edited};
 use super::nets::NETS;
-use edit_history::{Change, History};
+use edit_history::{Change, History, Moved};
 use lsdb::Database;
 use std::alloc::Global;
 use std::test::*;
@@ -19,7 +19,10 @@ fn seen<'a>(change: Option<Change<'a>>) -> Seen<'a> {
 
 /// The changes of the last done edit and of the first undone one.
 fn changes(history: &History) -> (Seen<'_>, Seen<'_>) {
-    (seen(history.last_change()), seen(history.next_change()))
+    (
+        seen(history.one_change(Moved::On(1))),
+        seen(history.one_change(Moved::Back(1))),
+    )
 }
 
 /// The router-LSA of 1.1.1.1 in `NETS`.

@@ -2,7 +2,7 @@ use Rattle.std.proofs.Common.{◌∙◌, IfSome, filter, not, ap, rules, subst, 
 use Rattle.std.proofs.lemmas.Map.Made.{filter_same_pairs}
 use Rattle.edit_history.specs.Session.{state}
 use Rattle.routing_table.specs.AreasTrees.{KeptTreesValue, IsSpareOf}
-use Rattle.recalculate.specs.steps.Moving.{before, moved_touches}
+use Rattle.edit_history.specs.Moving.{before, moved_touches}
 use Rattle.recalculate.proofs.CostSteps.{reached_database}
 use Rattle.recalculate.proofs.TreesSpared.{untouched_changed}
 use Rattle.recalculate.proofs.touched.drop_trees.Goals as goal

@@ -9,9 +9,6 @@ use Rattle.recalculate.specs.Calls.{CarriedOut}
 use Rattle.recalculate.specs.Planning.{PlannerValue, without_last}
 use Rattle.recalculate.proofs.planner.Planner.edit.Goals as goal
 
-pub follow-requires : goal.follow-requires
-follow-requires g c = (edit_step c.self.inside.study c.edit.new.self c.args.edit.now c.in_ok-edit.ensures.ok).enough
-
 pub invariant_of-self-2 : goal.invariant_of-self-2
 invariant_of-self-2 g c =
     let step = edit_step c.self.inside.study c.edit.new.self c.args.edit.now c.in_ok-edit.ensures.ok in

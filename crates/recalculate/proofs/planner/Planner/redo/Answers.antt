@@ -8,9 +8,6 @@ use Rattle.recalculate.specs.Calls.{CarriedOut}
 use Rattle.recalculate.specs.Planning.{PlannerValue, without_last}
 use Rattle.recalculate.proofs.planner.Planner.redo.Goals as goal
 
-pub follow-requires : goal.follow-requires
-follow-requires g c = (redo_step c.self.inside.study c.redo.new.self c.args.count (c.in_ok-redo.ensures.ok.0 refl) c.in_ok-redo.ensures.session).enough
-
 pub invariant_of-self-2 : goal.invariant_of-self-2
 invariant_of-self-2 g c =
     let step = redo_step c.self.inside.study c.redo.new.self c.args.count (c.in_ok-redo.ensures.ok.0 refl) c.in_ok-redo.ensures.session in

@@ -3,7 +3,7 @@ use Rattle.edit_history.specs.Session.{state}
 use Rattle.routing_table.specs.AreasTrees.{routers_of}
 use Rattle.routing_table.specs.KeptTrees.{less_touched}
 use Rattle.recalculate.specs.Planning.{CacheValue, IsCacheOf}
-use Rattle.recalculate.specs.steps.Moving.{before, moved_touches}
+use Rattle.edit_history.specs.Moving.{before, moved_touches}
 use Rattle.recalculate.proofs.Touches.{graphs_stay, untouched_kept}
 use Rattle.recalculate.proofs.table_cache.TableCache.follow.Goals as goal
 
