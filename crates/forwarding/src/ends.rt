@@ -1,13 +1,16 @@
 //! How walks end.
 
 ghost use Rattle.std.specs.Prelude.{◌≡◌};
+ghost use Rattle.std.specs.List.{list_any};
 ghost use Rattle.std.specs.Option.{option_copied};
 ghost use Rattle.lsa_codec.specs.declared.address.RouterId.{RouterId as AnyRouter};
 ghost use Rattle.forwarding.specs.Graphs.{AreEnds, delivers, drops, leaves_network, next_in};
 ghost use Rattle.forwarding.specs.Walks.{AreReached};
+ghost use Rattle.forwarding.specs.Ways.{is_direct, is_exit};
 ghost use Rattle.forwarding.specs.steps.Ending.{either, ends_at, no_ends};
 
 use crate::graph::{ForwardingGraph, RouterStep};
+use crate::way::Way;
 use lsa_codec::RouterId;
 use std::alloc::Allocator;
 
@@ -22,13 +25,27 @@ pub struct Ends {
     pub is_blackhole: bool,
 }
 
+/// Whether one of the ways leads to a network of the router itself.
+fn has_direct(ways: &[Way]) -> bool
+    ensures { result ≡ list_any is_direct ways.now }
+{
+    ways.iter().any(|way| way.is_direct())
+}
+
+/// Whether one of the ways leads out of the network.
+fn has_exit(ways: &[Way]) -> bool
+    ensures { result ≡ list_any is_exit ways.now }
+{
+    ways.iter().any(|way| way.is_exit())
+}
+
 impl<A: Allocator + Copy> RouterStep<A> {
     /// Whether the router delivers packets, on a network of its own.
     pub fn delivers(&self) -> bool
         ensures { result ≡ delivers self.now }
     {
         match &self.matched {
-            Some(found) => found.ways.iter().any(|way| way.is_direct()),
+            Some(found) => has_direct(&found.ways),
             None => false,
         }
     }
@@ -39,7 +56,7 @@ impl<A: Allocator + Copy> RouterStep<A> {
         ensures { result ≡ leaves_network self.now }
     {
         match &self.matched {
-            Some(found) => found.is_own || found.ways.iter().any(|way| way.is_exit()),
+            Some(found) => found.is_own || has_exit(&found.ways),
             None => false,
         }
     }

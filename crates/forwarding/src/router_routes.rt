@@ -2,6 +2,7 @@
 
 ghost use Rattle.std.specs.Prelude.{◌≡◌, false, IfOk};
 ghost use Rattle.std.specs.Option.{option_copied, option_map_or};
+ghost use Rattle.std.specs.List.{list_any};
 ghost use Rattle.lsdb.specs.Lists.{Lists};
 ghost use Rattle.lsdb.specs.Slots.{lists_of};
 ghost use Rattle.forwarding.specs.Matches.{entry_for, is_intra, is_own_hop, is_own_network, match_of, router_in, routes_in};
@@ -49,13 +50,19 @@ fn is_own_hop(hop: Hop) -> bool
     }
 }
 
+/// Whether one of the hops leads to a network of the router itself.
+fn has_own_hop(hops: &[Hop]) -> bool
+    ensures { result ≡ list_any is_own_hop hops.now }
+{
+    hops.iter().any(|hop| is_own_hop(*hop))
+}
+
 /// Whether a route leads to a network of the router itself, if there is a route.
 fn is_own_network<A: Allocator + Copy>(route: Option<&Route<A>>) -> bool
     ensures { result ≡ option_map_or is_own_network (option_copied route.entry) false }
 {
     match route {
-        Some(route) => route.kind == PathType::Intra
-            && route.hops.as_slice().iter().any(|hop| is_own_hop(*hop)),
+        Some(route) => route.kind == PathType::Intra && has_own_hop(route.hops.as_slice()),
         None => false,
     }
 }
