@@ -11,53 +11,53 @@ use Rattle.forwarding.specs.Walks.{IsOnCycle}
 use Rattle.forwarding.specs.Ways.{router_over}
 use Rattle.forwarding.specs.steps.Levels.{has_router}
 use Rattle.forwarding.specs.steps.Looping.{IsFoundFrom}
-use Rattle.forwarding.specs.steps.Settling.{AreSettled, is_settled, leads_into}
+use Rattle.forwarding.specs.steps.LoopFree.{AreLoopFree, leads_into, leads_only_into}
 use Rattle.forwarding.proofs.Rounded.{In_has, has_In}
 use Rattle.forwarding.proofs.RisingMembers.{In_inserted, inserted_In}
 use Rattle.forwarding.proofs.Walked.{stays_in}
 
 module _ (graph : List StepValue) where
-  pub settled_none : AreSettled (next_in graph) []
-  settled_none = record {
+  pub loop_free_none : AreLoopFree (next_in graph) []
+  loop_free_none = record {
     closed = λ v w c step. absurd (In-from_Contains [] v c);
     apart = λ v c. absurd (In-from_Contains [] v c);
   }
 
-  module _ (settled new : List RouterId) (router : RouterId) (are : AreSettled (next_in graph) settled) (is : new ≡ insert_key router_cmp settled router)
-      (fresh : has_router settled router ≡ false) (ends : is_settled graph settled router ≡ true) where
-    -- each step from the router leads to one that is settled
-    sends : (w : RouterId) → In (next_in graph router) w → In settled w
+  module _ (loop_free new : List RouterId) (router : RouterId) (are : AreLoopFree (next_in graph) loop_free) (is : new ≡ insert_key router_cmp loop_free router)
+      (fresh : has_router loop_free router ≡ false) (ends : leads_only_into graph loop_free router ≡ true) where
+    -- each step from the router leads to one of those that no loop passes
+    sends : (w : RouterId) → In (next_in graph router) w → In loop_free w
     sends w i =
         let f = filter_map-In router_over (ways_at graph router) w i in
-        let into : leads_into settled f.0 ≡ true = list_all-In (leads_into settled) (ways_at graph router) ends f.0 f.1 in
-        has_In settled w (sym (ap (λ (o : Option RouterId). option_map_or (λ r. has_router settled r) o true) f.2) ∙ into)
+        let into : leads_into loop_free f.0 ≡ true = list_all-In (leads_into loop_free) (ways_at graph router) ends f.0 f.1 in
+        has_In loop_free w (sym (ap (λ (o : Option RouterId). option_map_or (λ r. has_router loop_free r) o true) f.2) ∙ into)
 
-    stays : (v w : RouterId) → In settled v → In (next_in graph v) w → In settled w
-    stays v w i step = In-from_Contains settled w (are.closed v w (Contains-from_In settled v i) (Contains-from_In (next_in graph v) w step))
+    stays : (v w : RouterId) → In loop_free v → In (next_in graph v) w → In loop_free w
+    stays v w i step = In-from_Contains loop_free w (are.closed v w (Contains-from_In loop_free v i) (Contains-from_In (next_in graph v) w step))
 
-    in_new : (v : RouterId) → In settled v → Contains new v
-    in_new v i = subst (λ (rs : List RouterId). Contains rs v) (sym is) (Contains-from_In (insert_key router_cmp settled router) v (In_inserted settled router v (inl i)))
+    in_new : (v : RouterId) → In loop_free v → Contains new v
+    in_new v i = subst (λ (rs : List RouterId). Contains rs v) (sym is) (Contains-from_In (insert_key router_cmp loop_free router) v (In_inserted loop_free router v (inl i)))
 
-    from_new : (v : RouterId) → Contains new v → In settled v ⊎ (router ≡ v)
-    from_new v c = inserted_In settled router v (In-from_Contains (insert_key router_cmp settled router) v (subst (λ (rs : List RouterId). Contains rs v) is c))
+    from_new : (v : RouterId) → Contains new v → In loop_free v ⊎ (router ≡ v)
+    from_new v c = inserted_In loop_free router v (In-from_Contains (insert_key router_cmp loop_free router) v (subst (λ (rs : List RouterId). Contains rs v) is c))
 
     -- a walk from the router does not come back to it
     no_cycle : ¬ IsOnCycle (next_in graph) router
     no_cycle (u, c, (us, p)) =
-        let first : In settled u = sends u (In-from_Contains (next_in graph router) u c) in
-        let back : In settled router = stays_in (next_in graph) settled stays us u router p first in
-        let has : has_router settled router ≡ true = In_has settled router back in
+        let first : In loop_free u = sends u (In-from_Contains (next_in graph router) u c) in
+        let back : In loop_free router = stays_in (next_in graph) loop_free stays us u router p first in
+        let has : has_router loop_free router ≡ true = In_has loop_free router back in
         let clash : false ≡ true = sym fresh ∙ has in
         absurd (cc)
 
-    pub settled_more : AreSettled (next_in graph) new
-    settled_more = record {
+    pub loop_free_more : AreLoopFree (next_in graph) new
+    loop_free_more = record {
       closed = λ v w c step. ⊎_elim
           (λ i. in_new w (stays v w i (In-from_Contains (next_in graph v) w step)))
           (λ p. in_new w (sends w (In-from_Contains (next_in graph router) w (subst (λ (x : RouterId). Contains (next_in graph x) w) (sym p) step))))
           (from_new v c);
       apart = λ v c. ⊎_elim
-          (λ i. are.apart v (Contains-from_In settled v i))
+          (λ i. are.apart v (Contains-from_In loop_free v i))
           (λ p. subst (λ (x : RouterId). ¬ IsOnCycle (next_in graph) x) p no_cycle)
           (from_new v c);
     }
@@ -70,7 +70,7 @@ module _ (graph : List StepValue) where
   pub alone : (router : RouterId) → ¬ IsOnCycle (next_in graph) router → IsFoundFrom graph router None
   alone router none = λ loop from. none ((from.loop_of.members router).0 (head_in loop router from.least)).0
 
-  -- a router that is settled is on no loop
-  pub settled_alone : (settled : List RouterId) → AreSettled (next_in graph) settled → (router : RouterId) → has_router settled router ≡ true
+  -- a router that no loop passes is on none
+  pub loop_free_alone : (loop_free : List RouterId) → AreLoopFree (next_in graph) loop_free → (router : RouterId) → has_router loop_free router ≡ true
       → IsFoundFrom graph router None
-  settled_alone settled are router h = alone router (are.apart router (Contains-from_In settled router (has_In settled router h)))
+  loop_free_alone loop_free are router h = alone router (are.apart router (Contains-from_In loop_free router (has_In loop_free router h)))

@@ -3,4 +3,4 @@ pub mod Rows
 pub mod Levels
 pub mod Ending
 pub mod Looping
-pub mod Settling
+pub mod LoopFree

@@ -35,15 +35,15 @@ pub(crate) fn target_of<A: Allocator + Copy>(graph: &Graph<A>, edge: &Edge) -> O
     router_at(graph.vertex(edge.to as usize))
 }
 
-/// Adds a router to a list, if there is one.
-pub(crate) fn push_some<A: Allocator + Copy>(
-    routers: &mut Vec<RouterId, A>,
-    router: Option<RouterId>,
+/// Adds an item to a list, if there is one.
+pub(crate) fn push_some<T: Drop, A: Allocator + Copy>(
+    list: &mut Vec<T, A>,
+    item: Option<T>,
 ) -> Result<(), AllocError>
-    ensures { OnOk result (routers.new.items ≡ routers.old.items ++ cons_option router []) }
+    ensures { OnOk result (list.new.items ≡ list.old.items ++ cons_option item []) }
 {
-    if let Some(router) = router {
-        routers.push(router)?;
+    if let Some(item) = item {
+        list.push(item)?;
     }
     Ok(())
 }

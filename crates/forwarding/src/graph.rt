@@ -4,9 +4,10 @@ ghost use Rattle.std.specs.Prelude.{◌≡◌, map};
 ghost use Rattle.std.specs.List.Sorted.{IsStrictlySortedBy};
 ghost use Rattle.std.specs.Option.{option_copied};
 ghost use Rattle.lsa_codec.specs.Order.{router_cmp};
-ghost use Rattle.forwarding.specs.Graphs.{step_at};
+ghost use Rattle.forwarding.specs.Graphs.{step_at, ways_at};
 
 use crate::entry::Match;
+use crate::way::Way;
 use lsa_codec::RouterId;
 use std::alloc::{Allocator, Global};
 use std::marker::Model;
@@ -75,6 +76,19 @@ impl<A: Allocator + Copy> ForwardingGraph<A> {
         match steps.binary_search_by_key(&router, |step| step.router) {
             Ok(index) => Some(&steps[index]),
             Err(_) => None,
+        }
+    }
+
+    /// The ways of a router: none where it is not in the graph, or has no match.
+    pub(crate) fn ways_at(&self, router: RouterId) -> &[Way]
+        ensures { result.now ≡ ways_at self.now router }
+    {
+        let Some(step) = self.step(router) else {
+            return &[];
+        };
+        match &step.matched {
+            Some(found) => &found.ways,
+            None => &[],
         }
     }
 }

@@ -27,9 +27,9 @@ mod router_routes;
 mod ends;
 mod forwarding;
 mod graph;
+mod loop_free;
 mod loops;
 mod reached;
-mod settled;
 
 // What holds of the definitions.
 mod laws;

@@ -1,12 +1,13 @@
 //! Loops of a forwarding graph.
 
-ghost use Rattle.std.specs.Prelude.{◌≡◌, ◌↔◌, ◌++◌, [], List, true, IfOk, OnOk, MatchOption};
-ghost use Rattle.std.specs.List.{cons_option, list_any};
+ghost use Rattle.std.specs.Prelude.{◌≡◌, ◌↔◌, List, true, IfOk, MatchOption};
+ghost use Rattle.std.specs.List.{list_any};
 ghost use Rattle.forwarding.specs.Graphs.{next_in};
 ghost use Rattle.forwarding.specs.Walks.{AreLoops, IsLoopOf, IsOnCycle, Reaches};
 ghost use Rattle.forwarding.specs.steps.Looping.{AreBack, IsFoundFrom, is_first, leads_to, sends_to};
-ghost use Rattle.forwarding.specs.steps.Settling.{AreSettled};
+ghost use Rattle.forwarding.specs.steps.LoopFree.{AreLoopFree};
 
+use crate::far_ends::push_some;
 use crate::graph::ForwardingGraph;
 use crate::in_order::in_order;
 use crate::way::Way;
@@ -59,38 +60,12 @@ fn leads_to(way: Way, router: RouterId) -> bool
     }
 }
 
-/// Whether one of the ways leads to a router.
-fn any_leads_to(ways: &[Way], router: RouterId) -> bool
-    ensures { result ≡ list_any (leads_to router) ways.now }
-{
-    ways.iter().any(|way| leads_to(*way, router))
-}
-
-/// Adds a loop to a list, if there is one.
-fn push_loop<A: Allocator + Copy>(
-    loops: &mut Vec<Loop<A>, A>,
-    found: Option<Loop<A>>,
-) -> Result<(), AllocError>
-    ensures { OnOk result (loops.new.items ≡ loops.old.items ++ cons_option found []) }
-{
-    if let Some(found) = found {
-        loops.push(found)?;
-    }
-    Ok(())
-}
-
 impl<A: Allocator + Copy> ForwardingGraph<A> {
     /// Whether a router sends to another one.
     fn sends_to(&self, to: RouterId, from: RouterId) -> bool
         ensures { result ≡ sends_to self.now to from }
     {
-        let Some(step) = self.step(from) else {
-            return false;
-        };
-        match &step.matched {
-            Some(found) => any_leads_to(&found.ways, to),
-            None => false,
-        }
+        self.ways_at(from).iter().any(|way| leads_to(*way, to))
     }
 
     /// Whether one of some routers sends to another one.
@@ -160,16 +135,16 @@ impl<A: Allocator + Copy> ForwardingGraph<A> {
 
     /// The loop whose least router this is, if there is one, where no loop passes the routers of a
     /// set.
-    fn loop_unless_settled(
+    fn loop_unless_free(
         &self,
         alloc: A,
-        settled: &BTreeSet<RouterId, A>,
+        loop_free: &BTreeSet<RouterId, A>,
         router: RouterId,
     ) -> Result<Option<Loop<A>>, AllocError>
-        requires { AreSettled (next_in self.now) settled.now.keys }
+        requires { AreLoopFree (next_in self.now) loop_free.now.keys }
         ensures { IfOk result (IsFoundFrom self.now router) }
     {
-        if settled.contains(&router) {
+        if loop_free.contains(&router) {
             return Ok(None);
         }
         self.loop_from(alloc, router)
@@ -184,13 +159,13 @@ impl<A: Allocator + Copy> ForwardingGraph<A> {
     pub fn loops(&self, alloc: A, routers: &[RouterId]) -> Result<Vec<Loop<A>, A>, AllocError>
         ensures { IfOk result (λ loops. AreLoops (next_in self.now) routers.now loops.items) }
     {
-        let settled = self.settled(alloc, routers)?;
+        let loop_free = self.loop_free(alloc, routers)?;
         let sorted = in_order(alloc, routers)?;
         let mut loops = Vec::new(alloc);
         for router in &sorted {
-            push_loop(
+            push_some(
                 &mut loops,
-                self.loop_unless_settled(alloc, &settled, *router)?,
+                self.loop_unless_free(alloc, &loop_free, *router)?,
             )?;
         }
         Ok(loops)

@@ -73,13 +73,7 @@ impl<A: Allocator + Copy> ForwardingGraph<A> {
         ensures { OnOk result
             (routers.new.items ≡ routers.old.items ++ unseen_from self.now seen.now.keys router) }
     {
-        let Some(step) = self.step(router) else {
-            return Ok(());
-        };
-        match &step.matched {
-            Some(found) => push_unseen(routers, seen, &found.ways),
-            None => Ok(()),
-        }
+        push_unseen(routers, seen, self.ways_at(router))
     }
 
     /// The routers to which those of a level send, but for those that were seen, in rising order.

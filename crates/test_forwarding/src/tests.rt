@@ -1,5 +1,15 @@
 //! Where packets go in small networks.
 
-// The graphs that the tests build, and texts of them.
+// What the tests build, and what calls answer, as texts.
+mod answers;
 mod built;
+mod texts;
+
+// Where packets go.
+mod areas;
+mod own_externals;
 mod paths;
+mod routers;
+
+// Calls where memory is refused.
+mod growths;

@@ -1,6 +1,6 @@
 //! Paths of packets.
 
-use crate::tests::built::path;
+use super::built::path;
 use std::test::*;
 use test_support::{R1, R4};
 
@@ -23,7 +23,7 @@ router 4.4.4.4: transit 10.5.0.3 data=10.5.0.4 cost=10
 network 10.5.0.3/16 by=3.3.3.3: 1.1.1.1, 3.3.3.3, 4.4.4.4";
 
 /// Two border routers announce a prefix that neither has.
-const BORDERS: &str = "area 0.0.0.0
+pub(super) const BORDERS: &str = "area 0.0.0.0
 router 1.1.1.1 flags=1: point-to-point 2.2.2.2 data=10.0.0.1 cost=10
 router 2.2.2.2 flags=1: point-to-point 1.1.1.1 data=10.0.0.2 cost=10
 summary 10.9.0.0/16 by=1.1.1.1 cost=5

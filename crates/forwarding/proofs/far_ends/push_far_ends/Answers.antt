@@ -16,7 +16,7 @@ loop-edge-preserved g c =
     let t = c.args.graph.now in
     let old = c.args.found.now.items in
     let row = c.edges-edge-items.result.now in
-    adds_at (filter_map_adds (end_over t c.args.interface)) (λ cs. c.loop-edge.found.items ≡ old ++ cs) (λ cs. c.push_some.new.routers.items ≡ old ++ cs)
+    adds_at (filter_map_adds (end_over t c.args.interface)) (λ cs. c.loop-edge.found.items ≡ old ++ cs) (λ cs. c.push_some.new.list.items ≡ old ++ cs)
     row c.loop-edge.edge-index no_edge c.loop-edge-test.true c.loop-edge.invariant (λ cs was.
     c.in_ok-push_some.ensures
     ∙ ap (λ (l : List RouterId). l ++ cons_option c.end_over.result []) was

@@ -15,7 +15,7 @@ loop-other-preserved g c =
     let old = c.args.found.now.items in
     let row = c.edges-other-items.result.now in
     adds_at (filter_map_adds (owner_over t c.args.router c.args.address)) (λ cs. c.loop-other.found.items ≡ old ++ cs)
-    (λ cs. c.push_some.new.routers.items ≡ old ++ cs)
+    (λ cs. c.push_some.new.list.items ≡ old ++ cs)
     row c.loop-other.other-index no_edge c.loop-other-test.true c.loop-other.invariant (λ cs was.
     c.in_ok-push_some.ensures
     ∙ ap (λ (l : List RouterId). l ++ cons_option c.owner_over.result []) was

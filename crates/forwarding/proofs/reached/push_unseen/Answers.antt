@@ -15,7 +15,7 @@ pub loop-way-preserved : goal.loop-way-preserved
 loop-way-preserved g c =
     let old = c.args.routers.now.items in
     let keys = c.args.seen.now.keys in
-    adds_at (filter_map_adds (unseen_over keys)) (λ cs. c.loop-way.routers.items ≡ old ++ cs) (λ cs. c.push_some.new.routers.items ≡ old ++ cs)
+    adds_at (filter_map_adds (unseen_over keys)) (λ cs. c.loop-way.routers.items ≡ old ++ cs) (λ cs. c.push_some.new.list.items ≡ old ++ cs)
     c.args.ways.now c.loop-way.way-index no_way c.loop-way-test.true c.loop-way.invariant (λ cs was.
     c.in_ok-push_some.ensures
     ∙ ap (λ (l : List RouterId). l ++ cons_option c.unseen.result []) was

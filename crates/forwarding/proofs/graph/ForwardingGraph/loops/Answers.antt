@@ -17,10 +17,10 @@ loop-router-preserved g c =
     let router = get_or items i no_router in
     let lt = c.loop-router-test.true in
     let is : items ≡ rising router_cmp c.args.routers.now = c.deref-router-items.ensures.value ∙ c.in_ok-sorted.ensures in
-    subst (λ (xs : List RouterId). AreFrom graph xs c.push_loop.new.loops.items) (sym (take_more items i no_router lt))
-    (subst (λ (ls : List (List RouterId)). AreFrom graph (take i items ++ router ∷ []) ls) (sym c.in_ok-push_loop.ensures)
+    subst (λ (xs : List RouterId). AreFrom graph xs c.push_some.new.list.items) (sym (take_more items i no_router lt))
+    (subst (λ (ls : List (List RouterId)). AreFrom graph (take i items ++ router ∷ []) ls) (sym c.in_ok-push_some.ensures)
     (from_more graph (take i items) c.loop-router.loops.items c.loop-router.invariant router
-    (below_at graph c.args.routers.now items is i no_router lt) c.in_ok-loop_unless_settled.field-0 c.in_ok-loop_unless_settled.ensures))
+    (below_at graph c.args.routers.now items is i no_router lt) c.in_ok-loop_unless_free.field-0 c.in_ok-loop_unless_free.ensures))
 
 pub returns : goal.returns
 returns g c =

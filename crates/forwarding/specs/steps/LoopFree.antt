@@ -11,13 +11,13 @@ use Rattle.forwarding.specs.steps.Levels.{has_router}
 
 -- a way ends, or leads to one of these routers
 abbrev pub leads_into : List RouterId → Way → Bool
-leads_into settled way = option_map_or (λ router. has_router settled router) (router_over way) true
+leads_into loop_free way = option_map_or (λ router. has_router loop_free router) (router_over way) true
 
 -- all ways of a router do
-abbrev pub is_settled : List StepValue → List RouterId → RouterId → Bool
-is_settled graph settled router = list_all (leads_into settled) (ways_at graph router)
+abbrev pub leads_only_into : List StepValue → List RouterId → RouterId → Bool
+leads_only_into graph loop_free router = list_all (leads_into loop_free) (ways_at graph router)
 
 -- no step leads out of these routers, and no walk from one of them comes back to it
-pub record AreSettled (next : RouterId → List RouterId) (settled : List RouterId) : Type 0 where
-  pub closed : (v w : RouterId) → Contains settled v → Contains (next v) w → Contains settled w
-  pub apart : (v : RouterId) → Contains settled v → ¬ IsOnCycle next v
+pub record AreLoopFree (next : RouterId → List RouterId) (loop_free : List RouterId) : Type 0 where
+  pub closed : (v w : RouterId) → Contains loop_free v → Contains (next v) w → Contains loop_free w
+  pub apart : (v : RouterId) → Contains loop_free v → ¬ IsOnCycle next v

@@ -1,0 +1,194 @@
+//! Each call that takes memory, with each of its growths refused in turn.
+
+use super::answers::{
+    of_area_graphs, of_forwarding, of_graph, of_loop, of_loops, of_match, of_routers, of_routes,
+};
+use super::paths::BORDERS;
+use forwarding::{AreaGraphs, Forwarding, ForwardingGraph, RouterRoutes};
+use lsa_codec::{Addr, Prefix, RouterId};
+use lsdb::Database;
+use spf::Meter;
+use std::alloc::Global;
+use std::test::*;
+use test_support::{
+    Answer, FailingAlloc, FallibleCall, NETWORK, Outcome, R1, R2, dump_of_text, growths_of,
+};
+
+/// What is called.
+#[derive(Clone, Copy, Debug)]
+enum Call {
+    AreaGraphs,
+    FarEnds,
+    Owners,
+    Routes,
+    Entry,
+    Match,
+    Forwarding,
+    Graph,
+    Reached,
+    LoopOf,
+    Loops,
+}
+
+const CALLS: &[Call] = &[
+    Call::AreaGraphs,
+    Call::FarEnds,
+    Call::Owners,
+    Call::Routes,
+    Call::Entry,
+    Call::Match,
+    Call::Forwarding,
+    Call::Graph,
+    Call::Reached,
+    Call::LoopOf,
+    Call::Loops,
+];
+
+/// The router whose ways are asked for: 1.1.1.1.
+const ROUTER: RouterId = RouterId(R1);
+
+/// An address of the stub network of 2.2.2.2, which 1.1.1.1 reaches over a link and over a network.
+const ADDRESS: Addr = Addr(0x0a02_0001);
+
+/// The address of which the border routers send packets to each other.
+const LOOPING: Addr = Addr(0x0a09_0001);
+
+/// The interface of 1.1.1.1 on its link to 2.2.2.2.
+const LINK: Addr = Addr(0x0a00_0001);
+
+/// The interfaces of 1.1.1.1 and of 2.2.2.2 on their network.
+const FIRST: Addr = Addr(0x0a05_0001);
+
+const SECOND: Addr = Addr(0x0a05_0002);
+
+/// What the calls are lent.
+#[derive(Drop)]
+struct Lent<'a> {
+    database: Database<&'a FailingAlloc>,
+    graphs: AreaGraphs<&'a FailingAlloc>,
+    routes: RouterRoutes<&'a FailingAlloc>,
+    forwarding: Forwarding<&'a FailingAlloc>,
+    graph: ForwardingGraph<&'a FailingAlloc>,
+    borders: ForwardingGraph<&'a FailingAlloc>,
+}
+
+/// The forwarding graph of the border routers, with a loop.
+fn borders(alloc: Global, failing: &FailingAlloc) -> Result<ForwardingGraph<&FailingAlloc>, Fail> {
+    let dump = dump_of_text(alloc, BORDERS)?;
+    let database = Database::load(failing, &dump)?;
+    let forwarding = Forwarding::of(failing, &database, &mut Meter::new())?;
+    Ok(forwarding.graph(failing, LOOPING)?)
+}
+
+fn lend(alloc: Global, failing: &FailingAlloc) -> Result<Lent<'_>, Fail> {
+    let database = Database::load(failing, NETWORK)?;
+    let graphs = AreaGraphs::of(failing, &database)?;
+    let routes = RouterRoutes::of(failing, &database, ROUTER, &mut Meter::new())?;
+    let forwarding = Forwarding::of(failing, &database, &mut Meter::new())?;
+    let graph = forwarding.graph(failing, ADDRESS)?;
+    Ok(Lent {
+        database,
+        graphs,
+        routes,
+        forwarding,
+        graph,
+        borders: borders(alloc, failing)?,
+    })
+}
+
+/// What a call on a graph answers.
+fn answer_by_graph<'a>(
+    alloc: Global,
+    failing: &'a FailingAlloc,
+    lent: &Lent<'a>,
+    call: Call,
+) -> Result<Answer, Fail> {
+    let borders = &lent.borders;
+    match call {
+        Call::Reached => of_routers(alloc, lent.graph.reached(failing, ROUTER)),
+        Call::LoopOf => of_loop(alloc, borders.loop_of(failing, ROUTER)),
+        _ => {
+            let routers = [RouterId(R1), RouterId(R2)];
+            of_loops(alloc, borders.loops(failing, &routers))
+        }
+    }
+}
+
+/// What a call that makes a graph answers, or one on it.
+fn answer_by_routes<'a>(
+    alloc: Global,
+    failing: &'a FailingAlloc,
+    lent: &Lent<'a>,
+    call: Call,
+) -> Result<Answer, Fail> {
+    let (graphs, routes) = (&lent.graphs, &lent.routes);
+    match call {
+        Call::Entry => {
+            let net = Prefix::masked(ADDRESS, 16);
+            of_match(alloc, routes.entry_for(failing, graphs, net))
+        }
+        Call::Match => of_match(alloc, routes.match_of(failing, graphs, ADDRESS)),
+        Call::Graph => of_graph(alloc, lent.forwarding.graph(failing, ADDRESS)),
+        _ => answer_by_graph(alloc, failing, lent, call),
+    }
+}
+
+/// What a call answers.
+fn answer_of<'a>(
+    alloc: Global,
+    failing: &'a FailingAlloc,
+    lent: &Lent<'a>,
+    call: Call,
+) -> Result<Answer, Fail> {
+    let (database, graphs) = (&lent.database, &lent.graphs);
+    match call {
+        Call::AreaGraphs => of_area_graphs(alloc, failing, AreaGraphs::of(failing, database)),
+        Call::FarEnds => of_routers(alloc, graphs.far_ends(failing, ROUTER, LINK)),
+        Call::Owners => of_routers(alloc, graphs.owners(failing, ROUTER, FIRST, SECOND)),
+        Call::Routes => {
+            let routes = RouterRoutes::of(failing, database, ROUTER, &mut Meter::new());
+            of_routes(alloc, failing, graphs, routes)
+        }
+        Call::Forwarding => {
+            let forwarding = Forwarding::of(failing, database, &mut Meter::new());
+            of_forwarding(alloc, failing, forwarding)
+        }
+        _ => answer_by_routes(alloc, failing, lent, call),
+    }
+}
+
+/// What is seen of a call with this number of growths.
+fn outcome_on<'a>(
+    alloc: Global,
+    failing: &'a FailingAlloc,
+    lent: &Lent<'a>,
+    call: Call,
+    growths: u64,
+) -> Result<Outcome, Fail> {
+    failing.set_remaining(growths);
+    let first = answer_of(alloc, failing, lent, call)?;
+    failing.set_remaining(u64::MAX);
+    let then = answer_of(alloc, failing, lent, call)?;
+    Ok(Outcome::of_answers(alloc, first, then))
+}
+
+impl FallibleCall for Call {
+    fn outcome(
+        &self,
+        alloc: Global,
+        failing: &FailingAlloc,
+        growths: u64,
+    ) -> Result<Outcome, Fail> {
+        let lent = lend(alloc, failing)?;
+        outcome_on(alloc, failing, &lent, *self, growths)
+    }
+}
+
+#[test]
+fn each_growth_of_a_call_refused(rt: HostRuntime) -> Result<(), Fail> {
+    for call in CALLS {
+        let growths = growths_of(rt.alloc(), call)?;
+        assert!(rt; 0 < growths, "{call:?}");
+    }
+    Ok(())
+}
