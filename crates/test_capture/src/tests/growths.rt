@@ -5,7 +5,7 @@
 mod answers;
 mod lent;
 
-use answers::{of_capture, of_database, of_file, of_observations, of_packets, of_printed, of_walk};
+use answers::{of_capture, of_content, of_database, of_file, of_observations, of_walk};
 use capture_files::{End, read_capture};
 use frr_text::read_printed;
 use lent::{AREA, frames, observations, read_bytes};
@@ -71,7 +71,7 @@ fn of_bytes(
     match call {
         Call::Capture => of_capture(alloc, read_capture(failing, bytes)),
         Call::Walk => of_walk(alloc, read_walk(failing, bytes)),
-        Call::Printed => of_printed(alloc, read_printed(failing, bytes)),
+        Call::Printed => of_content(alloc, read_printed(failing, bytes)),
         _ => of_file(alloc, read_file(failing, bytes)),
     }
 }
@@ -88,7 +88,7 @@ fn answer_with(
         Call::Join => of_join(alloc, failing, growths),
         Call::Frames => {
             failing.set_remaining(growths);
-            of_packets(alloc, read_frames(failing, &frames(), End::Whole))
+            of_content(alloc, read_frames(failing, &frames(), End::Whole))
         }
         _ => {
             let bytes = read_bytes(alloc, call)?;

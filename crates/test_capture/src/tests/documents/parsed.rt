@@ -5,8 +5,8 @@ use super::pieces::{
     ROUTER_BYTES, SUMMARY, SUMMARY_BYTES, SUMMARY_KEY, TYPE_1, TYPE_1_BYTES, TYPE_2, TYPE_2_BYTES,
     UNREADABLE,
 };
+use findings::{Finding, ReportedLsa, UnusedReason};
 use frr_json::{JsonFault, is_printed_json, read_printed_json};
-use frr_text::TextFinding;
 use lsa_codec::{AreaId, LsaFault};
 use lsa_instances::Scope;
 use std::alloc::Global;
@@ -24,7 +24,7 @@ fn contains_only(alloc: Global, text: &[u8], scope: Scope, bytes: &[u8]) -> Resu
 }
 
 /// The document gives these findings and no LSA.
-fn lacks(alloc: Global, text: &[u8], findings: &[TextFinding]) -> bool {
+fn lacks(alloc: Global, text: &[u8], findings: &[Finding]) -> bool {
     match read_printed_json(alloc, text) {
         Ok(printed) => printed.observations.is_empty() && printed.findings.as_slice() == findings,
         Err(_) => false,
@@ -60,16 +60,15 @@ fn external_lsas_of_both_metric_types_are_rebuilt(rt: HostRuntime) -> Result<(),
 
 #[test]
 fn what_contains_no_lsa_is_reported(rt: HostRuntime) -> Result<(), Fail> {
-    let refused = TextFinding::Refused(SUMMARY_KEY, LsaFault::Checksum);
+    let lsa = ReportedLsa {
+        area: None,
+        key: SUMMARY_KEY,
+    };
+    let refused = Finding::Unused(lsa, UnusedReason::Refused(LsaFault::Checksum));
     assert!(rt; lacks(rt.alloc(), OTHER_METRIC, &[refused]));
-    assert!(rt; lacks(rt.alloc(), NO_AREA, &[TextFinding::NoArea(SUMMARY_KEY)]));
-    assert!(rt;
-        lacks(
-            rt.alloc(),
-            UNREADABLE,
-            &[TextFinding::Unreadable, TextFinding::Unreadable]
-        )
-    );
+    let without_area = Finding::Unused(lsa, UnusedReason::NoArea);
+    assert!(rt; lacks(rt.alloc(), NO_AREA, &[without_area]));
+    assert!(rt; lacks(rt.alloc(), UNREADABLE, &[Finding::Unreadable(2)]));
     Ok(())
 }
 

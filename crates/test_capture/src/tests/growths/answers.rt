@@ -1,13 +1,12 @@
 //! What calls answer, as bytes that say all of it.
 
 use capture_files::{Capture, CaptureFault};
-use frr_text::Printed;
+use findings::Content;
 use lsa_instances::{AreaReport, Header, Observation};
 use lsdb::Database;
 use lsdb_merge::JoinFault;
 use network_files::{FileFault, ParsedFile};
-use ospf_packets::Packets;
-use snmp_walk::{Walk, WalkFault};
+use snmp_walk::WalkFault;
 use std::alloc::{AllocError, Global};
 use std::test::*;
 use test_support::{Answer, FailingAlloc};
@@ -65,65 +64,36 @@ pub(super) fn of_capture(
     }
 }
 
-/// What packets contain.
-fn packets_text(alloc: Global, packets: &Packets<&FailingAlloc>) -> Result<String, Fail> {
-    let findings = packets.findings.as_slice();
+/// What a file contains, whatever its format.
+fn content_text(alloc: Global, content: &Content<&FailingAlloc>) -> Result<String, Fail> {
+    let findings = content.findings.as_slice();
     let mut text = format!(in alloc; "{findings:?}\n")?;
-    push_observations(&mut text, &packets.observations)?;
-    push_kinds(&mut text, &packets.kinds)?;
-    push_headers(&mut text, &packets.headers)?;
+    push_observations(&mut text, &content.observations)?;
+    push_kinds(&mut text, &content.kinds)?;
+    push_headers(&mut text, &content.headers)?;
     Ok(text)
 }
 
-/// The answer that is what packets contain.
-pub(super) fn of_packets(
+/// The answer that is what frames contain, or what a router prints.
+pub(super) fn of_content(
     alloc: Global,
-    packets: Result<Packets<&FailingAlloc>, AllocError>,
+    content: Result<Content<&FailingAlloc>, AllocError>,
 ) -> Result<Answer, Fail> {
-    match packets {
-        Ok(packets) => Ok(Some(packets_text(alloc, &packets)?.into_bytes())),
+    match content {
+        Ok(content) => Ok(Some(content_text(alloc, &content)?.into_bytes())),
         Err(AllocError) => Ok(None),
     }
-}
-
-/// What a walk contains.
-fn walk_text(alloc: Global, walk: &Walk<&FailingAlloc>) -> Result<String, Fail> {
-    let findings = walk.findings.as_slice();
-    let mut text = format!(in alloc; "{findings:?}\n")?;
-    push_observations(&mut text, &walk.observations)?;
-    push_kinds(&mut text, &walk.kinds)?;
-    Ok(text)
 }
 
 /// The answer that is what a walk contains.
 pub(super) fn of_walk(
     alloc: Global,
-    walk: Result<Walk<&FailingAlloc>, WalkFault>,
+    walk: Result<Content<&FailingAlloc>, WalkFault>,
 ) -> Result<Answer, Fail> {
     match walk {
-        Ok(walk) => Ok(Some(walk_text(alloc, &walk)?.into_bytes())),
+        Ok(walk) => Ok(Some(content_text(alloc, &walk)?.into_bytes())),
         Err(WalkFault::OutOfMemory) => Ok(None),
         Err(fault) => Err(fault)?,
-    }
-}
-
-/// What a router prints.
-fn printed_text(alloc: Global, printed: &Printed<&FailingAlloc>) -> Result<String, Fail> {
-    let findings = printed.findings.as_slice();
-    let mut text = format!(in alloc; "{findings:?}\n")?;
-    push_observations(&mut text, &printed.observations)?;
-    push_kinds(&mut text, &printed.kinds)?;
-    Ok(text)
-}
-
-/// The answer that is what a router prints.
-pub(super) fn of_printed(
-    alloc: Global,
-    printed: Result<Printed<&FailingAlloc>, AllocError>,
-) -> Result<Answer, Fail> {
-    match printed {
-        Ok(printed) => Ok(Some(printed_text(alloc, &printed)?.into_bytes())),
-        Err(AllocError) => Ok(None),
     }
 }
 

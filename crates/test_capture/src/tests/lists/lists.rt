@@ -1,9 +1,10 @@
 //! What lists contain, and which texts are none.
 
 use super::pieces::{OF_LINKS, SECTIONS, STUB_AREA, TABLES, WHOLE_LSA};
+use findings::{Finding, ReportedLsa, UnusedReason};
 use lsa_codec::{Addr, AreaId, Key, RouterId};
 use lsa_instances::{Place, Scope};
-use lsdb_listing::{Header, InstanceId, ListFault, ListFinding, read_list};
+use lsdb_listing::{Header, InstanceId, ListFault, read_list};
 use std::alloc::Global;
 use std::test::*;
 
@@ -42,7 +43,7 @@ fn contains(alloc: Global, text: &[u8], first: Header, second: Header) -> Result
 }
 
 /// The text gives this finding alone.
-fn lacks(alloc: Global, text: &[u8], finding: ListFinding) -> Result<bool, Fail> {
+fn lacks(alloc: Global, text: &[u8], finding: Finding) -> Result<bool, Fail> {
     let list = read_list(alloc, text)?;
     Ok(list.headers.is_empty() && list.findings.as_slice() == [finding].as_slice())
 }
@@ -98,16 +99,16 @@ fn sections_of_the_as_and_of_an_area(rt: HostRuntime) -> Result<(), Fail> {
 #[test]
 fn a_row_that_was_cut_is_reported(rt: HostRuntime) -> Result<(), Fail> {
     let cut = b"Net Link States (Area 0.0.0.1)\n192.168.50.4   4.4.4.4           17 0x8000";
-    assert!(rt; lacks(rt.alloc(), cut, ListFinding::Unreadable)?);
+    assert!(rt; lacks(rt.alloc(), cut, Finding::Unreadable(1))?);
     Ok(())
 }
 
 #[test]
 fn a_checksum_that_was_cut_is_reported(rt: HostRuntime) -> Result<(), Fail> {
     let row = b"AS External Link States\n10.91.0.0      10.255.0.5        34 0x80000001 0x84c";
-    assert!(rt; lacks(rt.alloc(), row, ListFinding::Unreadable)?);
+    assert!(rt; lacks(rt.alloc(), row, Finding::Unreadable(1))?);
     let row = b"Global\n 0005  0.0.0.0         3.3.3.3          80000001    31    ecc";
-    assert!(rt; lacks(rt.alloc(), row, ListFinding::Unreadable)?);
+    assert!(rt; lacks(rt.alloc(), row, Finding::Unreadable(1))?);
     Ok(())
 }
 
@@ -123,7 +124,7 @@ fn lsas_of_links_are_ignored(rt: HostRuntime) -> Result<(), Fail> {
 fn an_unknown_heading_is_reported_and_ends_its_table(rt: HostRuntime) -> Result<(), Fail> {
     let text = b"Net Link States (Area 0.0.0.1)\n\nOther Link States (Area 0.0.0.1)\n\
         192.168.50.4   4.4.4.4           17 0x80000001 0xc67f\n";
-    assert!(rt; lacks(rt.alloc(), text, ListFinding::Unreadable)?);
+    assert!(rt; lacks(rt.alloc(), text, Finding::Unreadable(1))?);
     Ok(())
 }
 
@@ -135,7 +136,9 @@ fn a_row_of_an_area_under_no_area_is_reported(rt: HostRuntime) -> Result<(), Fai
         adv: RouterId(0x0101_0101),
     };
     let text = b"Global\n 0001  1.1.1.1         1.1.1.1          80000003    29    46bb\n";
-    assert!(rt; lacks(rt.alloc(), text, ListFinding::NoArea(key))?);
+    let lsa = ReportedLsa { area: None, key };
+    let without_area = Finding::Unused(lsa, UnusedReason::NoArea);
+    assert!(rt; lacks(rt.alloc(), text, without_area)?);
     Ok(())
 }
 

@@ -2,18 +2,18 @@
 
 use super::frames::{BACK, FRONT, MIDDLE, TWO_LSAS, UPDATE, whole, with};
 use capture_files::{End, Frame, LinkType};
-use findings::{Finding, FrameWarning};
-use ospf_packets::{Packets, read_frames};
+use findings::{Content, Finding, FrameWarning};
+use ospf_packets::read_frames;
 use std::alloc::{AllocError, Global};
 use std::test::*;
 
 /// What frames contain.
-fn read(alloc: Global, frames: &[Frame<'_>]) -> Result<Packets, AllocError> {
+fn read(alloc: Global, frames: &[Frame<'_>]) -> Result<Content, AllocError> {
     read_frames(alloc, frames, End::Whole)
 }
 
 /// Whether both LSAs are read, without a finding.
-fn is_whole(packets: &Packets) -> bool {
+fn is_whole(packets: &Content) -> bool {
     match packets.observations.as_slice() {
         [first, second] => {
             let same = first.lsa.bytes() == &TWO_LSAS[62..134]
@@ -25,7 +25,7 @@ fn is_whole(packets: &Packets) -> bool {
 }
 
 /// Whether this number of fragments are missing, without another finding, and no LSA is read.
-fn is_missing(packets: &Packets, count: usize) -> bool {
+fn is_missing(packets: &Content, count: usize) -> bool {
     let missing = Finding::Frames(FrameWarning::MissingFragment, count);
     packets.findings.as_slice() == [missing].as_slice() && packets.observations.is_empty()
 }

@@ -2,9 +2,9 @@
 //! separate program.
 
 use capture_files::{End, Frame, LinkType};
-use findings::{Finding, FrameWarning};
+use findings::{Content, Finding, FrameWarning};
 use lsa_instances::Scope;
-use ospf_packets::{Packets, read_frames};
+use ospf_packets::read_frames;
 use std::alloc::{AllocError, Global};
 
 /// Ethernet. A Link State Update packet of area 0.0.0.0 with a network-LSA, from byte 62 on.
@@ -147,7 +147,7 @@ pub(in crate::tests) fn whole(link: LinkType, bytes: &[u8]) -> Frame<'_> {
 }
 
 /// What a frame contains.
-pub(super) fn read(alloc: Global, link: LinkType, bytes: &[u8]) -> Result<Packets, AllocError> {
+pub(super) fn read(alloc: Global, link: LinkType, bytes: &[u8]) -> Result<Content, AllocError> {
     read_frames(alloc, &[whole(link, bytes)], End::Whole)
 }
 
@@ -178,7 +178,7 @@ pub(super) fn with_word(
 }
 
 /// Whether one LSA alone is read, with these bytes and this scope, without a finding.
-pub(super) fn is_only(packets: &Packets, scope: Scope, bytes: &[u8]) -> bool {
+pub(super) fn is_only(packets: &Content, scope: Scope, bytes: &[u8]) -> bool {
     match packets.observations.as_slice() {
         [one] => {
             let same = one.lsa.bytes() == bytes && one.scope == scope && one.seen == SEEN;
@@ -189,7 +189,7 @@ pub(super) fn is_only(packets: &Packets, scope: Scope, bytes: &[u8]) -> bool {
 }
 
 /// Whether this is the only warning about the frames, and this number of LSAs are read.
-pub(super) fn is_warning(packets: &Packets, warning: FrameWarning, lsas: usize) -> bool {
+pub(super) fn is_warning(packets: &Content, warning: FrameWarning, lsas: usize) -> bool {
     packets.findings.as_slice() == [Finding::Frames(warning, 1)].as_slice()
         && packets.observations.len() == lsas
 }

@@ -5,7 +5,8 @@ use super::pieces::{
     OTHER_METRIC, ROUTER, ROUTER_BYTES, SUMMARY, SUMMARY_BYTES, SUMMARY_KEY, TYPE_1_BYTES,
     TYPE_2_BYTES,
 };
-use frr_text::{TextFinding, is_printed, read_printed};
+use findings::{Finding, ReportedLsa, UnusedReason};
+use frr_text::{is_printed, read_printed};
 use lsa_codec::{AreaId, LsaFault};
 use lsa_instances::{AreaKind, AreaReport, Scope};
 use std::alloc::Global;
@@ -35,7 +36,11 @@ fn an_asbr_summary_lsa_is_of_type_4(rt: HostRuntime) -> Result<(), Fail> {
 #[test]
 fn another_checksum_than_the_printed_one_is_refused(rt: HostRuntime) -> Result<(), Fail> {
     let printed = read_printed(rt.alloc(), OTHER_METRIC)?;
-    let refused = TextFinding::Refused(SUMMARY_KEY, LsaFault::Checksum);
+    let lsa = ReportedLsa {
+        area: None,
+        key: SUMMARY_KEY,
+    };
+    let refused = Finding::Unused(lsa, UnusedReason::Refused(LsaFault::Checksum));
     assert_eq!(rt; printed.observations.len(), 0);
     assert!(rt; printed.findings.as_slice() == [refused].as_slice());
     Ok(())
@@ -77,7 +82,7 @@ fn external_lsas_of_both_metric_types_are_rebuilt(rt: HostRuntime) -> Result<(),
 #[test]
 fn an_opaque_lsa_is_reported_as_unreadable(rt: HostRuntime) -> Result<(), Fail> {
     let printed = read_printed(rt.alloc(), OPAQUE)?;
-    assert!(rt; printed.findings.as_slice() == [TextFinding::Unreadable].as_slice());
+    assert!(rt; printed.findings.as_slice() == [Finding::Unreadable(1)].as_slice());
     Ok(())
 }
 

@@ -1,7 +1,8 @@
 //! Pieces of walks of the router 1.1.1.1.
 
+use findings::Content;
 use lsa_codec::{Addr, Key, RouterId};
-use snmp_walk::{Walk, read_walk};
+use snmp_walk::read_walk;
 use std::alloc::Global;
 use std::test::*;
 
@@ -35,6 +36,6 @@ pub(super) const EXTERNAL_KEY: Key = Key {
 };
 
 /// What a text contains.
-pub(super) fn parsed(alloc: Global, text: &[u8]) -> Result<Walk, Fail> {
+pub(super) fn parsed(alloc: Global, text: &[u8]) -> Result<Content, Fail> {
     Ok(read_walk(alloc, text)?)
 }
