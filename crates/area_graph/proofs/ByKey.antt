@@ -28,7 +28,7 @@ use Rattle.area_graph.proofs.UsedLemmas.{kind_cases, origin_of}
 
 -- ---- keys of a vertex's LSAs
 
-pub router_between : (router : RouterId) → HaveKeysBetween (IsOfVertex (Router router)) (router_key router) (router_key router)
+router_between : (router : RouterId) → HaveKeysBetween (IsOfVertex (Router router)) (router_key router) (router_key router)
 router_between router lsa widths h =
     let is = router_lsa_of lsa router h.own in
     let origin : link_state_id_of lsa ≡ advertising_router_of lsa = origin_of lsa h.accepted is.0 in
@@ -37,14 +37,18 @@ router_between router lsa widths h =
     between_fields (router_key router) (router_key router) (key_of lsa)
     (omega arith) (omega arith) (omega arith) (omega arith) (omega arith) (omega arith)
 
+pub router_keys : (router : RouterId) (low high : Key) → low ≡ router_key router → high ≡ router_key router
+    → HaveKeysBetween (IsOfVertex (Router router)) low high
+router_keys router low high is_low is_high = rw (is_low, is_high) (router_between router)
+
 network_kind : (lsa : List ℕ) (network : Addr) → is_vertex_lsa lsa ≡ true → vertex_of lsa ≡ Network network → kind_of lsa ≡ 2
 network_kind lsa network live e = ⊎_elim
     (λ router. absurd (let no : true ≡ false = sym router ∙ not_router_of lsa network e in cc))
     (λ other. eqb-true _ _ other.1) (kind_cases lsa live)
 
-pub network_between : (network : Addr) (low high : Key) → HaveKeysBetween (λ lsa. is_network network lsa ≡ true) low high
+pub network_keys : (network : Addr) (low high : Key) → HaveKeysBetween (λ lsa. is_network network lsa ≡ true) low high
     → HaveKeysBetween (IsOfVertex (Network network)) low high
-network_between network low high keyed lsa widths h =
+network_keys network low high keyed lsa widths h =
     keyed lsa widths (and_from _ _ (eq-eqb _ _ (network_kind lsa network h.live h.own)) (eq-eqb _ _ (network_number lsa network h.own)))
 
 -- ---- places and their LSAs
