@@ -3,6 +3,7 @@
 // What the calls are made on, and what they answer.
 mod answers;
 mod network;
+mod outcomes;
 
 // The calls.
 mod branch_calls;

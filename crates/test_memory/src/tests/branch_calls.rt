@@ -2,6 +2,7 @@
 
 use super::answers::{of_bytes, of_routers};
 use super::network::{ROUTER, database_of};
+use super::outcomes::{Subject, outcome_of};
 use branches::{Branches, reply_text};
 use edit_script::{Command, parse};
 use std::alloc::{AllocError, Global};
@@ -165,47 +166,29 @@ fn is_answered(call: Call) -> bool {
     }
 }
 
-/// What a call answers.
-fn answer_of<'a>(
-    alloc: Global,
-    failing: &'a FailingAlloc,
-    branches: &mut Branches<&'a FailingAlloc>,
-    call: Call,
-) -> Result<Answer, Fail> {
-    match call {
-        Call::Routers => of_routers(alloc, branches.routers(1)),
-        Call::RoutersUnnamed => of_routers(alloc, branches.routers(2)),
-        Call::PushTable | Call::PushFirstTable => pushed(alloc, failing, branches),
-        Call::Dump => of_bytes(alloc, branches.dump(0)),
-        Call::DumpNamed => of_bytes(alloc, branches.dump(1)),
-        Call::DumpUnnamed => of_bytes(alloc, branches.dump(2)),
-        Call::Save => of_bytes(alloc, branches.save()),
-        call if is_answered(call) => answered(alloc, branches, call),
-        call => stepped(alloc, failing, branches, call),
+impl<'a> Subject<'a, Call> for Branches<&'a FailingAlloc> {
+    fn bytes(&mut self, alloc: Global) -> Result<Vec<u8>, Fail> {
+        bytes_of(alloc, self)
     }
-}
 
-/// What is seen of a call of branches.
-fn outcome_on<'a>(
-    alloc: Global,
-    failing: &'a FailingAlloc,
-    branches: &mut Branches<&'a FailingAlloc>,
-    call: Call,
-    growths: u64,
-) -> Result<Outcome, Fail> {
-    prepare(branches, call)?;
-    let before = bytes_of(alloc, branches)?;
-    failing.set_remaining(growths);
-    let first = answer_of(alloc, failing, branches, call)?;
-    failing.set_remaining(u64::MAX);
-    let between = bytes_of(alloc, branches)?;
-    let then = answer_of(alloc, failing, branches, call)?;
-    Ok(Outcome {
-        first,
-        then,
-        before,
-        between,
-    })
+    fn answer(
+        &mut self,
+        alloc: Global,
+        failing: &'a FailingAlloc,
+        call: Call,
+    ) -> Result<Answer, Fail> {
+        match call {
+            Call::Routers => of_routers(alloc, self.routers(1)),
+            Call::RoutersUnnamed => of_routers(alloc, self.routers(2)),
+            Call::PushTable | Call::PushFirstTable => pushed(alloc, failing, self),
+            Call::Dump => of_bytes(alloc, self.dump(0)),
+            Call::DumpNamed => of_bytes(alloc, self.dump(1)),
+            Call::DumpUnnamed => of_bytes(alloc, self.dump(2)),
+            Call::Save => of_bytes(alloc, self.save()),
+            call if is_answered(call) => answered(alloc, self, call),
+            call => stepped(alloc, failing, self, call),
+        }
+    }
 }
 
 impl FallibleCall for Call {
@@ -216,7 +199,8 @@ impl FallibleCall for Call {
         growths: u64,
     ) -> Result<Outcome, Fail> {
         let mut branches = Branches::new(failing, database_of(failing)?);
-        outcome_on(alloc, failing, &mut branches, *self, growths)
+        prepare(&mut branches, *self)?;
+        outcome_of(alloc, failing, &mut branches, *self, growths)
     }
 
     fn may_be_done(&self) -> bool {

@@ -2,6 +2,7 @@
 
 use super::answers::{of_bytes, of_fault, of_made_table, of_routers, of_table, of_table_of};
 use super::network::{OTHER, ROUTER, cost, database_of, no_link};
+use super::outcomes::{Subject, outcome_of};
 use edit_history::EditFault;
 use lsa_codec::RouterId;
 use lsdb::Database;
@@ -172,55 +173,37 @@ fn of_edited_table<'a>(
     Ok(done.and(table))
 }
 
-/// What a call answers.
-fn answer_of<'a>(
-    alloc: Global,
-    failing: &'a FailingAlloc,
-    planner: &mut Planner<&'a FailingAlloc>,
-    call: Call,
-) -> Result<Answer, Fail> {
-    match call {
-        Call::Edit => of_edit(alloc, planner.edit(&cost(7))),
-        Call::EditThenTable => of_edited_table(alloc, failing, planner),
-        Call::Dump => of_bytes(alloc, planner.dump()),
-        Call::DumpBase => of_bytes(alloc, planner.dump_base()),
-        Call::Base | Call::BaseOfCopy => of_database(alloc, failing, planner.base()),
-        Call::Routers => of_routers(alloc, planner.routers()),
-        Call::BaseTable => of_table(alloc, failing, planner.base_table(ROUTER)),
-        Call::BaselineTable | Call::CopyForBaseTable | Call::BaseTableOverCopy =>
-            match planner.baseline_table(ROUTER) {
+impl<'a> Subject<'a, Call> for Planner<&'a FailingAlloc> {
+    fn bytes(&mut self, alloc: Global) -> Result<Vec<u8>, Fail> {
+        bytes_of(alloc, self)
+    }
+
+    fn answer(
+        &mut self,
+        alloc: Global,
+        failing: &'a FailingAlloc,
+        call: Call,
+    ) -> Result<Answer, Fail> {
+        match call {
+            Call::Edit => of_edit(alloc, self.edit(&cost(7))),
+            Call::EditThenTable => of_edited_table(alloc, failing, self),
+            Call::Dump => of_bytes(alloc, self.dump()),
+            Call::DumpBase => of_bytes(alloc, self.dump_base()),
+            Call::Base | Call::BaseOfCopy => of_database(alloc, failing, self.base()),
+            Call::Routers => of_routers(alloc, self.routers()),
+            Call::BaseTable => of_table(alloc, failing, self.base_table(ROUTER)),
+            Call::BaselineTable | Call::CopyForBaseTable | Call::BaseTableOverCopy =>
+                match self.baseline_table(ROUTER) {
+                    Ok(table) => of_made_table(alloc, failing, &table),
+                    Err(fault) => of_fault(fault),
+                },
+            Call::CachedTable => match self.cached_table(ROUTER) {
                 Ok(table) => of_made_table(alloc, failing, &table),
                 Err(fault) => of_fault(fault),
             },
-        Call::CachedTable => match planner.cached_table(ROUTER) {
-            Ok(table) => of_made_table(alloc, failing, &table),
-            Err(fault) => of_fault(fault),
-        },
-        _ => of_table_now(alloc, failing, planner),
+            _ => of_table_now(alloc, failing, self),
+        }
     }
-}
-
-/// What is seen of a call of a planner.
-fn outcome_on<'a>(
-    alloc: Global,
-    failing: &'a FailingAlloc,
-    planner: &mut Planner<&'a FailingAlloc>,
-    call: Call,
-    growths: u64,
-) -> Result<Outcome, Fail> {
-    prepare(planner, call)?;
-    let before = bytes_of(alloc, planner)?;
-    failing.set_remaining(growths);
-    let first = answer_of(alloc, failing, planner, call)?;
-    failing.set_remaining(u64::MAX);
-    let between = bytes_of(alloc, planner)?;
-    let then = answer_of(alloc, failing, planner, call)?;
-    Ok(Outcome {
-        first,
-        then,
-        before,
-        between,
-    })
 }
 
 impl FallibleCall for Call {
@@ -231,7 +214,8 @@ impl FallibleCall for Call {
         growths: u64,
     ) -> Result<Outcome, Fail> {
         let mut planner = Planner::new(failing, database_of(failing)?);
-        outcome_on(alloc, failing, &mut planner, *self, growths)
+        prepare(&mut planner, *self)?;
+        outcome_of(alloc, failing, &mut planner, *self, growths)
     }
 }
 

@@ -1,7 +1,8 @@
 //! Datagrams that are put together, and fragments that are missing.
 
 use super::frames::{
-    BACK, FRONT, MIDDLE, Part, Row, Shot, TWO_LSAS, UPDATE, changed, contain, read_shots, whole,
+    BACK, Captured, FRONT, MIDDLE, Part, Row, TWO_LSAS, UPDATE, changed, contain, read_captured,
+    whole,
 };
 use capture_files::{End, LinkType};
 use findings::{Finding, FrameWarning};
@@ -9,17 +10,17 @@ use ospf_packets::read_frames;
 use std::test::*;
 
 /// The fragments in their order.
-const FIRST: Shot = (LinkType::RAW, (FRONT, 0, FRONT.len()), FRONT.len());
+const FIRST: Captured = (LinkType::RAW, (FRONT, 0, FRONT.len()), FRONT.len());
 
-const SECOND: Shot = (LinkType::RAW, (MIDDLE, 0, MIDDLE.len()), MIDDLE.len());
+const SECOND: Captured = (LinkType::RAW, (MIDDLE, 0, MIDDLE.len()), MIDDLE.len());
 
-const LAST: Shot = (LinkType::RAW, (BACK, 0, BACK.len()), BACK.len());
+const LAST: Captured = (LinkType::RAW, (BACK, 0, BACK.len()), BACK.len());
 
 /// The LSAs of their datagram.
 const LSAS: &[Part] = &[(TWO_LSAS, 62, 134), (TWO_LSAS, 134, 170)];
 
 /// A frame that has no fragment.
-const OTHER: Shot = (LinkType::ETHERNET, (UPDATE, 0, UPDATE.len()), UPDATE.len());
+const OTHER: Captured = (LinkType::ETHERNET, (UPDATE, 0, UPDATE.len()), UPDATE.len());
 
 /// What is reported where this number of fragments are missing.
 const ONE: &[Finding] = &[Finding::Frames(FrameWarning::MissingFragment, 1)];
@@ -54,8 +55,8 @@ const FRAGMENTS: &[Row] = &[
 
 #[test]
 fn contents_of_fragments(rt: HostRuntime) -> Result<(), Fail> {
-    for (name, shots, lsas, kinds, findings) in FRAGMENTS {
-        let packets = read_shots(rt.alloc(), shots)?;
+    for (name, frames, lsas, kinds, findings) in FRAGMENTS {
+        let packets = read_captured(rt.alloc(), frames)?;
         assert!(rt; contain(&packets, lsas, kinds, findings), "{name}");
     }
     Ok(())

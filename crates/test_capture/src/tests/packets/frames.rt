@@ -152,30 +152,30 @@ pub(in crate::tests) fn whole(link: LinkType, bytes: &[u8]) -> Frame<'_> {
 pub(super) type Part = (&'static [u8], usize, usize);
 
 /// A frame: its link, what was captured of it, and how many bytes it had on the link.
-pub(super) type Shot = (LinkType, Part, usize);
+pub(super) type Captured = (LinkType, Part, usize);
 
 /// What stands in a table of frames: a name, the frames, and what they contain: LSAs of the
 /// backbone, kinds of areas, and findings.
 pub(super) type Row = (
     &'static str,
-    &'static [Shot],
+    &'static [Captured],
     &'static [Part],
     &'static [AreaReport],
     &'static [Finding],
 );
 
-/// The frame of a shot.
-fn frame(shot: &Shot) -> Option<Frame<'static>> {
-    let (link, (bytes, from, to), original) = *shot;
-    let captured = bytes.get(from..to)?;
-    Some(cut(link, captured, original.min(65_535) as u32))
+/// A frame as it was captured.
+fn frame(captured: &Captured) -> Option<Frame<'static>> {
+    let (link, (bytes, from, to), original) = *captured;
+    let part = bytes.get(from..to)?;
+    Some(cut(link, part, original.min(65_535) as u32))
 }
 
 /// What frames contain.
-pub(super) fn read_shots(alloc: Global, shots: &[Shot]) -> Result<Packets, Fail> {
+pub(super) fn read_captured(alloc: Global, captured: &[Captured]) -> Result<Packets, Fail> {
     let mut frames = Vec::new(alloc);
-    for shot in shots {
-        frames.push(frame(shot).ok_or("a part")?)?;
+    for one in captured {
+        frames.push(frame(one).ok_or("a part")?)?;
     }
     Ok(read_frames(alloc, &frames, End::Whole)?)
 }

@@ -1,8 +1,8 @@
 //! What frames contain, over each type of link, whole ones and others.
 
 use super::frames::{
-    ACKNOWLEDGMENT, COOKED, COOKED_2, DIGEST, Part, Row, STUB_HELLO, Shot, TAGGED, TWO_LSAS,
-    UPDATE, contain, read_shots,
+    ACKNOWLEDGMENT, COOKED, COOKED_2, Captured, DIGEST, Part, Row, STUB_HELLO, TAGGED, TWO_LSAS,
+    UPDATE, contain, read_captured,
 };
 use capture_files::LinkType;
 use findings::{Finding, FrameWarning};
@@ -11,7 +11,7 @@ use lsa_instances::{AreaKind, AreaReport};
 use std::test::*;
 
 /// The frame with an update of one LSA, and that LSA.
-const WITH_LSA: Shot = (LinkType::ETHERNET, (UPDATE, 0, UPDATE.len()), UPDATE.len());
+const WITH_LSA: Captured = (LinkType::ETHERNET, (UPDATE, 0, UPDATE.len()), UPDATE.len());
 
 const LSA: Part = (UPDATE, 62, 94);
 
@@ -21,7 +21,7 @@ const FIRST: Part = (TWO_LSAS, 62, 134);
 const SECOND: Part = (TWO_LSAS, 134, 170);
 
 /// The frame with a Hello packet, and the area of that.
-const WITH_HELLO: Shot = (
+const WITH_HELLO: Captured = (
     LinkType::ETHERNET,
     (STUB_HELLO, 0, STUB_HELLO.len()),
     STUB_HELLO.len(),
@@ -133,8 +133,8 @@ const FRAMES: &[Row] = &[
 
 #[test]
 fn contents_of_frames(rt: HostRuntime) -> Result<(), Fail> {
-    for (name, shots, lsas, kinds, findings) in FRAMES {
-        let packets = read_shots(rt.alloc(), shots)?;
+    for (name, frames, lsas, kinds, findings) in FRAMES {
+        let packets = read_captured(rt.alloc(), frames)?;
         assert!(rt; contain(&packets, lsas, kinds, findings), "{name}");
     }
     Ok(())
