@@ -7,11 +7,11 @@ use branches::{Branches, reply_text};
 use edit_script::{Command, parse};
 use std::alloc::{AllocError, Global};
 use std::test::*;
-use test_support::{Answer, FailingAlloc, FallibleCall, Outcome, growths_of};
+use test_support::{Answer, FailingAlloc, FallibleCall, Outcome, first_wrong};
 
 /// What is called. The first command in a branch, 1, is made where no other branch but 0 was
 /// named. Branch 1 is named before each other call.
-#[derive(Clone, Copy, Debug)]
+#[derive(Clone, Copy)]
 enum Call {
     StepEdit,
     StepTable,
@@ -210,9 +210,6 @@ impl FallibleCall for Call {
 
 #[test]
 fn each_growth_of_a_call_refused(rt: HostRuntime) -> Result<(), Fail> {
-    for call in CALLS {
-        let growths = growths_of(rt.alloc(), call)?;
-        assert!(rt; 0 < growths, "{call:?}");
-    }
+    assert_eq!(rt; first_wrong(rt.alloc(), CALLS)?, None);
     Ok(())
 }

@@ -7,10 +7,10 @@ use recalculate::Planner;
 use saved_sessions::SavedSession;
 use std::alloc::{AllocError, Global};
 use std::test::*;
-use test_support::{Answer, FailingAlloc, FallibleCall, NETWORK, Outcome, growths_of};
+use test_support::{Answer, FailingAlloc, FallibleCall, NETWORK, Outcome, first_wrong};
 
 /// What is called.
-#[derive(Clone, Copy, Debug)]
+#[derive(Clone, Copy)]
 enum Call {
     Open,
     OpenDump,
@@ -132,9 +132,6 @@ impl FallibleCall for Call {
 
 #[test]
 fn each_growth_of_a_call_refused(rt: HostRuntime) -> Result<(), Fail> {
-    for call in CALLS {
-        let growths = growths_of(rt.alloc(), call)?;
-        assert!(rt; 0 < growths, "{call:?}");
-    }
+    assert_eq!(rt; first_wrong(rt.alloc(), CALLS)?, None);
     Ok(())
 }
