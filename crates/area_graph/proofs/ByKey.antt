@@ -1,8 +1,8 @@
 -- The LSA in use of a vertex, by its key.
 use Rattle.std.proofs.Common.{subst, ◌≡◌, ℕ, zero, suc, ◌<◌, Bool, true, false, List, [], ◌∷◌, length, Option, Some, None, refl, sym, ap, ◌∙◌, arith, ◌⊎◌, inl, inr, ⊎_elim}
-use Rattle.std.specs.Prelude.{All, Contains, IfSome, not, ◌-◌, ◌^◌, ◌≤◌}
+use Rattle.std.specs.Prelude.{All, Contains, IfSome, not, ◌≤◌}
 use Rattle.std.specs.List.{list_any}
-use Rattle.std.proofs.lemmas.Bool.{and_parts, eqb-true, false_from_ne_true, ltb-true}
+use Rattle.std.proofs.lemmas.Bool.{and_from, and_parts, eq-eqb, eqb-true, false_from_ne_true, ltb-true}
 use Rattle.std.proofs.lemmas.List.Elements.{All-contains, All-head, All-nil, All-tail}
 use Rattle.lsa_codec.specs.declared.address.Addr.{Addr}
 use Rattle.lsa_codec.specs.declared.address.RouterId.{RouterId}
@@ -13,42 +13,43 @@ use Rattle.lsa_codec.specs.Key.{key_of, router_key}
 use Rattle.lsdb.specs.declared.slot.SlotId.{SlotId}
 use Rattle.std.specs.Iterator.{YieldsFirst}
 use Rattle.std.specs.Option.{is_some}
-use Rattle.lsdb.specs.KeyRanges.{AreKeysBetween, KeyAt}
-use Rattle.lsdb.specs.Lists.{IsDatabase, IsSection, Lists}
+use Rattle.lsdb.specs.KeyRanges.{AreKeysBetween, HaveKeysBetween, KeyAt}
+use Rattle.lsdb.specs.Lists.{IsDatabase, IsSection, Lists, is_network}
 use Rattle.lsdb.specs.Slots.{Slot, Slots, SectionSlots, full, item_at, lists_of, lsas_in, lsas_or_none, slot_in, slots_in, slots_or_none, slot_at}
 use Rattle.lsdb.proofs.KeyLemmas.{between_fields}
 use Rattle.area_graph.specs.declared.vertex.Vertex.{Vertex}
 use Rattle.area_graph.specs.declared.vertex.Vertex.TheVariants.{Network, Router}
 use Rattle.area_graph.specs.Area.{is_outranked_by, is_network_lsa, is_vertex_lsa, outranks, used, vertex_lsas, vertex_of}
 use Rattle.area_graph.specs.InUse.{IsLsaOf}
-use Rattle.area_graph.specs.steps.KeyRange.{HasKeysBetween}
+use Rattle.area_graph.specs.steps.KeyRange.{IsOfVertex}
 use Rattle.area_graph.proofs.AreaLemmas.{network_number, not_router_of, router_lsa_of, vertex_of_network}
 use Rattle.area_graph.proofs.MemberLemmas.{Contains-from_In, In, In-filter, In-from_Contains, filter-In, list_any-In}
 use Rattle.area_graph.proofs.UsedLemmas.{kind_cases, origin_of}
 
 -- ---- keys of a vertex's LSAs
 
-pub router_between : (router : RouterId) → HasKeysBetween (Router router) (router_key router) (router_key router)
-router_between router lsa accepted widths live e =
-    let is = router_lsa_of lsa router e in
-    let origin : link_state_id_of lsa ≡ advertising_router_of lsa = origin_of lsa accepted is.0 in
+router_between : (router : RouterId) → HaveKeysBetween (IsOfVertex (Router router)) (router_key router) (router_key router)
+router_between router lsa widths h =
+    let is = router_lsa_of lsa router h.own in
+    let origin : link_state_id_of lsa ≡ advertising_router_of lsa = origin_of lsa h.accepted is.0 in
     let kinds : kind_of lsa ≡ 1 = is.0 in
     let ids : link_state_id_of lsa ≡ router.0 = is.1 in
     between_fields (router_key router) (router_key router) (key_of lsa)
     (omega arith) (omega arith) (omega arith) (omega arith) (omega arith) (omega arith)
+
+pub router_keys : (router : RouterId) (low high : Key) → low ≡ router_key router → high ≡ router_key router
+    → HaveKeysBetween (IsOfVertex (Router router)) low high
+router_keys router low high is_low is_high = rw (is_low, is_high) (router_between router)
 
 network_kind : (lsa : List ℕ) (network : Addr) → is_vertex_lsa lsa ≡ true → vertex_of lsa ≡ Network network → kind_of lsa ≡ 2
 network_kind lsa network live e = ⊎_elim
     (λ router. absurd (let no : true ≡ false = sym router ∙ not_router_of lsa network e in cc))
     (λ other. eqb-true _ _ other.1) (kind_cases lsa live)
 
-pub network_between : (network : Addr) → let low : Key = record { kind = 2; id = network; adv = record { 0 = 0 } } in
-    let high : Key = record { kind = 2; id = network; adv = record { 0 = 2 ^ 32 - 1 } } in HasKeysBetween (Network network) low high
-network_between network lsa accepted widths live e =
-    let kinds : kind_of lsa ≡ 2 = network_kind lsa network live e in
-    let ids : link_state_id_of lsa ≡ network.0 = network_number lsa network e in
-    between_fields (record { kind = 2; id = network; adv = record { 0 = 0 } }) (record { kind = 2; id = network; adv = record { 0 = 2 ^ 32 - 1 } }) (key_of lsa)
-    (omega arith) (omega arith) (omega arith) (omega arith) (omega arith) (omega (arith, widths.adv))
+pub network_keys : (network : Addr) (low high : Key) → HaveKeysBetween (λ lsa. is_network network lsa ≡ true) low high
+    → HaveKeysBetween (IsOfVertex (Network network)) low high
+network_keys network low high keyed lsa widths h =
+    keyed lsa widths (and_from _ _ (eq-eqb _ _ (network_kind lsa network h.live h.own)) (eq-eqb _ _ (network_number lsa network h.own)))
 
 -- ---- places and their LSAs
 
@@ -97,7 +98,7 @@ one_key keys rest left noted None is none steps = ap length is ∙ ap (λ (ks : 
 one_key keys rest left noted (Some e) is none steps = absurd cc
 
 module _ (d : Slots) (section : ℕ) (vertex : Vertex) (low high : Key) (keys : List KeyAt) (sound : IsDatabase (lists_of d))
-    (keyed : AreKeysBetween (slots_in d section) low high keys) (covered : HasKeysBetween vertex low high) (one : length keys ≡ 1) where
+    (keyed : AreKeysBetween (slots_in d section) low high keys) (covered : HaveKeysBetween (IsOfVertex vertex) low high) (one : length keys ≡ 1) where
   -- an LSA of the vertex at a place of the section
   record Stands (i : ℕ) (lsa : List ℕ) : Type 0 where
     at : item_at (slots_in d section) i ≡ Some (Some lsa)
@@ -111,7 +112,7 @@ module _ (d : Slots) (section : ℕ) (vertex : Vertex) (low high : Key) (keys : 
   noted i lsa s =
       let accepted = All-contains IsAccepted (lsas_in d section) lsa (accepted_at (lists_of d) section sound.sections)
       (Contains-from_In (lsas_in d section) lsa (in_section i lsa s.at)) in
-      In-from_Contains keys _ (keyed.whole i lsa s.at (covered lsa accepted (keyed.widths i lsa s.at) s.live s.own))
+      In-from_Contains keys _ (keyed.whole i lsa s.at (covered lsa (keyed.widths i lsa s.at) (record { accepted = accepted; live = s.live; own = s.own })))
 
   one_lsa : (i j : ℕ) (a b : List ℕ) → Stands i a → Stands j b → a ≡ b
   one_lsa i j a b s t =

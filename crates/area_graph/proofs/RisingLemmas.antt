@@ -24,7 +24,7 @@ module _ {K : Type 0} {R : K → K → Ordering} (o : IsTotalOrder R) (exact : C
       differ : Less ≡ Greater → ⊥
       differ e = absurd (cc)
 
-  In-insert : (ks : List K) (k x : K) → In ks x ⊎ (k ≡ x) → In (insert_key R ks k) x
+  pub In-insert : (ks : List K) (k x : K) → In ks x ⊎ (k ≡ x) → In (insert_key R ks k) x
   In-insert [] k x (inl i) = absurd i
   In-insert [] k x (inr q) = inl q
   In-insert (y ∷ ys) k x h = by_order (R k y) refl h (In-insert ys k x)
@@ -39,7 +39,7 @@ module _ {K : Type 0} {R : K → K → Ordering} (o : IsTotalOrder R) (exact : C
       by_order Greater is (inl (inr i)) rest = inr (rest (inl i))
       by_order Greater is (inr q) rest = inr (rest (inr q))
 
-  insert-In : (ks : List K) (k x : K) → In (insert_key R ks k) x → In ks x ⊎ (k ≡ x)
+  pub insert-In : (ks : List K) (k x : K) → In (insert_key R ks k) x → In ks x ⊎ (k ≡ x)
   insert-In [] k x (inl q) = inr q
   insert-In [] k x (inr i) = absurd i
   insert-In (y ∷ ys) k x h = by_order (R k y) h (insert-In ys k x)
@@ -52,12 +52,12 @@ module _ {K : Type 0} {R : K → K → Ordering} (o : IsTotalOrder R) (exact : C
       by_order Greater (inl p) rest = inl (inl p)
       by_order Greater (inr i) rest = ⊎_elim (λ j. inl (inr j)) (λ q. inr q) (rest i)
 
-  In-rising : (ks : List K) (x : K) → In ks x → In (rising R ks) x
+  pub In-rising : (ks : List K) (x : K) → In ks x → In (rising R ks) x
   In-rising [] x i = i
   In-rising (k ∷ ks) x (inl q) = In-insert (rising R ks) k x (inr q)
   In-rising (k ∷ ks) x (inr i) = In-insert (rising R ks) k x (inl (In-rising ks x i))
 
-  rising-In : (ks : List K) (x : K) → In (rising R ks) x → In ks x
+  pub rising-In : (ks : List K) (x : K) → In (rising R ks) x → In ks x
   rising-In [] x i = i
   rising-In (k ∷ ks) x i = ⊎_elim (λ j. inr (rising-In ks x j)) (λ q. inl q) (insert-In (rising R ks) k x i)
 

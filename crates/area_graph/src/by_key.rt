@@ -1,39 +1,22 @@
 //! The LSA in use of a vertex, found by its key.
 
 ghost use Rattle.std.specs.Prelude.{◌≡◌, Some, true, IsSome, IfSome};
+ghost use Rattle.lsdb.specs.KeyRanges.{HaveKeysBetween};
 ghost use Rattle.lsdb.specs.Slots.{item_at, slot_at, lsas_in};
-ghost use Rattle.area_graph.specs.declared.vertex.Vertex.TheVariants.{Network};
 ghost use Rattle.area_graph.specs.Area.{is_vertex_lsa, vertex_of};
 ghost use Rattle.area_graph.specs.InUse.{IsLsaOf};
-ghost use Rattle.area_graph.specs.steps.KeyRange.{HasKeysBetween};
+ghost use Rattle.area_graph.specs.steps.KeyRange.{IsOfVertex};
 
 use crate::used::{VertexLsa, is_vertex_lsa, vertex_of};
 use crate::vertex::Vertex;
-use lsa_codec::{Addr, Key, NETWORK_LSA, RouterId};
-use lsdb::{Database, SlotId};
+use lsa_codec::Key;
+use lsdb::{Database, SlotId, network_keys};
 use std::alloc::Allocator;
-
-/// The least and the greatest key that the network-LSA of a network may have: any router may have
-/// originated it (RFC 2328, 12.1.4).
-fn network_keys(network: Addr) -> (Key, Key)
-    ensures { HasKeysBetween (Network network) result.0 result.1 }
-{
-    let least = Key {
-        kind: NETWORK_LSA,
-        id: network,
-        adv: RouterId(0),
-    };
-    let greatest = Key {
-        adv: RouterId(u32::MAX),
-        ..least
-    };
-    (least, greatest)
-}
 
 /// The least and the greatest key that the LSA of a vertex may have. A router's has one key alone
 /// (RFC 2328, 12.1.4).
 fn key_range(vertex: Vertex) -> (Key, Key)
-    ensures { HasKeysBetween vertex result.0 result.1 }
+    ensures { HaveKeysBetween (IsOfVertex vertex) result.0 result.1 }
 {
     match vertex {
         Vertex::Router(router) => (Key::of_router(router), Key::of_router(router)),

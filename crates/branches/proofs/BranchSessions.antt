@@ -1,5 +1,5 @@
 -- The sessions of branches when one of them goes on.
-use Rattle.std.proofs.Common.{◌≡◌, ℕ, List, [], ◌∷◌, Bool, true, false, eqb, cond, Option, None, Some, Result, Ok, Err, refl, sym, ap, subst, ◌∙◌}
+use Rattle.std.proofs.Common.{◌≡◌, ◌≢◌, ℕ, List, [], ◌∷◌, Bool, true, false, eqb, cond, Option, None, Some, Result, Ok, Err, refl, sym, ap, subst, ◌∙◌}
 use Rattle.std.proofs.Common.{zero, suc, length, ltb, true≢false}
 use Rattle.std.specs.Prelude.{◌||◌, nat_le, is_some, IfSome, IsSome}
 use Rattle.std.specs.Map.{lookup, set_value}
@@ -11,7 +11,7 @@ use Rattle.std.proofs.lemmas.Map.Steps.{set_value_same}
 use Rattle.std.specs.Ordering.{nat_cmp, eq_by_cmp}
 use Rattle.std.specs.Result.{OnOk, OnErr}
 use Rattle.std.proofs.Math.Dec.{eqb-zero-suc}
-use Rattle.std.proofs.lemmas.Bool.{eqb-true}
+use Rattle.std.proofs.lemmas.Bool.{eqb-true, ne_eqb}
 use Rattle.lsdb.specs.Lists.{Lists}
 use Rattle.edit_script.specs.declared.edit.Edit.{Edit}
 use Rattle.edit_script.specs.declared.command.Command.{Command}
@@ -139,7 +139,7 @@ planner_at ps branch = lookup (eq_by_cmp nat_cmp branch) ps
 pub shown : (ps : List (ℕ × PlannerValue)) (branch : ℕ) → found (sessions_by ps) branch ≡ option_map its_session (planner_at ps branch)
 shown ps branch = lookup-map_values its_session (eq_by_cmp nat_cmp branch) ps
 
-pub shown_some : (ps : List (ℕ × PlannerValue)) (branch : ℕ) (p : PlannerValue) → Some p ≡ planner_at ps branch → Some p.session ≡ found (sessions_by ps) branch
+shown_some : (ps : List (ℕ × PlannerValue)) (branch : ℕ) (p : PlannerValue) → Some p ≡ planner_at ps branch → Some p.session ≡ found (sessions_by ps) branch
 shown_some ps branch p was = ap (option_map its_session) was ∙ sym (shown ps branch)
 
 -- the map after an insertion, or after a branch in it went on
@@ -150,31 +150,56 @@ inserted old new branch p updates = record {
   others = λ other e. shown new.entries other ∙ ap (option_map its_session) (updates.2 other (unsigned_tied branch other ∙ e)) ∙ sym (shown old.entries other);
 }
 
-pub written : (old new : BTreeMap ℕ PlannerValue) (branch : ℕ) (p q : PlannerValue)
+written : (old new : BTreeMap ℕ PlannerValue) (branch : ℕ) (p q : PlannerValue)
     → Some p ≡ planner_at old.entries branch → WritesThrough nat_cmp (nat_cmp branch) old q new
     → GoesOn (sessions_by old.entries) (sessions_by new.entries) branch q.session
 written old new branch p q was writes = inserted old new branch q (writes.3 (subst (λ o. IsSome o) was refl))
 
 -- the session of a branch other than 0, where there is a planner for it and where there is none
-pub session_of_named : (first : PlannerValue) (ps : List (ℕ × PlannerValue)) (branch : ℕ) (p : PlannerValue)
+named_session : (first : PlannerValue) (ps : List (ℕ × PlannerValue)) (branch : ℕ) (p : PlannerValue)
     → eqb branch 0 ≡ false → Some p ≡ planner_at ps branch
     → sessions_of (named_by first ps) branch ≡ p.session
-session_of_named first ps branch p not_first was = rw (not_first, shown ps branch, sym was) refl
+named_session first ps branch p not_first was = rw (not_first, shown ps branch, sym was) refl
 
-pub session_of_first : (first : PlannerValue) (ps : List (ℕ × PlannerValue)) (branch : ℕ) → branch ≡ 0
-    → sessions_of (named_by first ps) branch ≡ first.session
-session_of_first first ps branch zeroth = rw zeroth refl
+first_session : (first : PlannerValue) (ps : List (ℕ × PlannerValue)) (branch : ℕ) → branch ≡ 0 → sessions_of (named_by first ps) branch ≡ first.session
+first_session first ps branch zeroth = rw zeroth refl
 
-pub session_of_unnamed : (first : PlannerValue) (ps : List (ℕ × PlannerValue)) (branch : ℕ) → eqb branch 0 ≡ false → None ≡ planner_at ps branch
+unnamed_session : (first : PlannerValue) (ps : List (ℕ × PlannerValue)) (branch : ℕ) → eqb branch 0 ≡ false → None ≡ planner_at ps branch
     → sessions_of (named_by first ps) branch ≡ start first.session.base
-session_of_unnamed first ps branch not_first none = rw (not_first, shown ps branch, sym none) refl
+unnamed_session first ps branch not_first none = rw (not_first, shown ps branch, sym none) refl
 
-pub not_named : (first : PlannerValue) (ps : List (ℕ × PlannerValue)) (branch : ℕ) → eqb branch 0 ≡ false
+unnamed : (first : PlannerValue) (ps : List (ℕ × PlannerValue)) (branch : ℕ) → eqb branch 0 ≡ false
     → None ≡ planner_at ps branch → has_planner (named_by first ps) branch ≡ false
-not_named first ps branch not_first none = rw (not_first, shown ps branch, sym none) refl
+unnamed first ps branch not_first none = rw (not_first, shown ps branch, sym none) refl
 
-pub base_of : (named : Named) (branch : ℕ) (s : Session) → Some s ≡ found named.others branch → HaveOneBase named → s.base ≡ named.first.base
+pub not_named : (first : PlannerValue) (old new : BTreeMap ℕ PlannerValue) (branch : ℕ) → new ≡ old → branch ≢ 0
+    → None ≡ planner_at old.entries branch → has_planner (named_by first new.entries) branch ≡ false
+not_named first old new branch same other none =
+    subst (λ (m : BTreeMap ℕ PlannerValue). has_planner (named_by first m.entries) branch ≡ false) (sym same)
+    (unnamed first old.entries branch (ne_eqb branch 0 other) none)
+
+-- what the planners show of a branch
+module _ (first : PlannerValue) (ps : List (ℕ × PlannerValue)) (branch : ℕ) (named : Named) (shows : named_by first ps ≡ named) where
+  pub session_of_first : branch ≡ 0 → first.session ≡ sessions_of named branch
+  session_of_first zeroth = sym (first_session first ps branch zeroth) ∙ ap (λ (n : Named). sessions_of n branch) shows
+
+  pub session_of_named : (p : PlannerValue) → branch ≢ 0 → Some p ≡ planner_at ps branch → p.session ≡ sessions_of named branch
+  session_of_named p other was = sym (named_session first ps branch p (ne_eqb branch 0 other) was) ∙ ap (λ (n : Named). sessions_of n branch) shows
+
+  pub session_of_unnamed : branch ≢ 0 → None ≡ planner_at ps branch → start first.session.base ≡ sessions_of named branch
+  session_of_unnamed other none = sym (unnamed_session first ps branch (ne_eqb branch 0 other) none) ∙ ap (λ (n : Named). sessions_of n branch) shows
+
+base_of : (named : Named) (branch : ℕ) (s : Session) → Some s ≡ found named.others branch → HaveOneBase named → s.base ≡ named.first.base
 base_of named branch s was one = subst (λ o. IfSome o (λ (x : Session). x.base ≡ named.first.base)) (sym was) (one branch)
+
+-- a planner went on from the base that it had
+pub still_one_base : (first : PlannerValue) (old new : BTreeMap ℕ PlannerValue) (branch : ℕ) (p q : PlannerValue)
+    → Some p ≡ planner_at old.entries branch → WritesThrough nat_cmp (nat_cmp branch) old q new → q.session.base ≡ p.session.base
+    → HaveOneBase (named_by first old.entries) → HaveOneBase (named_by first new.entries)
+still_one_base first old new branch p q was writes same one =
+    let named : Named = named_by first old.entries in
+    one_base named (sessions_by new.entries) branch q.session (same ∙ base_of named branch p.session (shown_some old.entries branch p was) one)
+    (written old new branch p q was writes) one
 
 pub written_on : (first : PlannerValue) (old new : BTreeMap ℕ PlannerValue) (branch : ℕ) (p q : PlannerValue) (c : Command) → eqb branch 0 ≡ false
     → Some p ≡ planner_at old.entries branch → WritesThrough nat_cmp (nat_cmp branch) old q new → q.session ≡ after p.session c
@@ -184,7 +209,7 @@ written_on first old new branch p q c not_first was writes is =
     let named : Named = named_by first old.entries in
     other_goes_on named (sessions_by new.entries) branch q.session not_first (written old new branch p q was writes)
     ∙ ap (λ (u : Session). with_session branch u (sessions_of named))
-    (is ∙ ap (λ (u : Session). after u c) (sym (session_of_named first old.entries branch p not_first was)))
+    (is ∙ ap (λ (u : Session). after u c) (sym (named_session first old.entries branch p not_first was)))
 
 -- a planner that was written back with its session
 set_at : (k : ℕ) (v q : PlannerValue) (ps : List (ℕ × PlannerValue)) (news : List (ℕ × PlannerValue))

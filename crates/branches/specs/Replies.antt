@@ -5,11 +5,11 @@ use Rattle.lsdb.specs.Lists.{Lists}
 use Rattle.edit_script.specs.declared.command.Command.{Command}
 use Rattle.edit_script.specs.declared.command.Command.TheVariants as command
 use Rattle.edit_script.specs.declared.fault.ScriptFault.{ScriptFault}
-use Rattle.edit_script.specs.Fault.{code_of as script_code, name_of as script_name}
+use Rattle.edit_script.specs.Fault.{texts_of as script_texts}
 use Rattle.edit_history.specs.declared.fault.EditFault.{EditFault}
 use Rattle.edit_history.specs.declared.fault.UndoFault.TheVariants.{NothingToUndo}
 use Rattle.edit_history.specs.declared.fault.RedoFault.TheVariants.{NothingToRedo}
-use Rattle.edit_history.specs.Fault.{code_of as edit_code, name_of as edit_name}
+use Rattle.edit_history.specs.Fault.{texts_of as edit_texts}
 use Rattle.edit_history.specs.Session.{Session, state, accepted_or, edited, moved_back, moved_on}
 use Rattle.routing_table.specs.declared.table.TableFault.TheVariants.{NoRouter}
 use Rattle.recalculate.specs.declared.counts.Info.{Info}
@@ -108,17 +108,16 @@ pub record Answer : Type 0 where
   pub text : List ℕ
   pub refused : Bool
 
-abbrev pub refusal_code : Refusal → List ℕ
-refusal_code (refusal.Edit fault) = edit_code fault
-refusal_code (refusal.Undo NothingToUndo) = codes "U1"
-refusal_code (refusal.Redo NothingToRedo) = codes "U2"
-refusal_code (refusal.Table fault) = table_code fault
+-- the code and the name of a refusal
+abbrev pub refusal_texts : Refusal → List ℕ × List ℕ
+refusal_texts (refusal.Edit fault) = edit_texts fault
+refusal_texts (refusal.Undo NothingToUndo) = (codes "U1", codes "NothingToUndo")
+refusal_texts (refusal.Redo NothingToRedo) = (codes "U2", codes "NothingToRedo")
+refusal_texts (refusal.Table fault) = (table_code fault, table_name fault)
 
-abbrev pub refusal_name : Refusal → List ℕ
-refusal_name (refusal.Edit fault) = edit_name fault
-refusal_name (refusal.Undo NothingToUndo) = codes "NothingToUndo"
-refusal_name (refusal.Redo NothingToRedo) = codes "NothingToRedo"
-refusal_name (refusal.Table fault) = table_name fault
+-- a word, and after it a code and a name
+abbrev pub reported_text : List ℕ → List ℕ × List ℕ → List ℕ
+reported_text word texts = word ++ texts.0 ++ codes " " ++ texts.1 ++ codes "\n"
 
 -- the branch's mark and a space, before each reply
 abbrev pub mark_of : ℕ → List ℕ
@@ -140,7 +139,7 @@ info_text info = lsa_counts info ++ link_counts info ++ edit_counts info
 -- `ok`, `refused CODE NAME`, the text of a table, of tables or of a comparison, or counts
 abbrev pub said_text : Said → List ℕ
 said_text done = codes "ok\n"
-said_text (refused why) = codes "refused " ++ refusal_code why ++ codes " " ++ refusal_name why ++ codes "\n"
+said_text (refused why) = reported_text (codes "refused ") (refusal_texts why)
 said_text (table t) = table_text t
 said_text (tables ts) = codes "tables " ++ decimal (length ts) ++ codes "\n" ++ flat_map table_text ts
 said_text (compared router before now) = compare_text router before now
@@ -168,4 +167,4 @@ router_texts db routers = flat_map (router_text db) routers
 
 -- `script CODE NAME`
 abbrev pub script_text : ScriptFault → List ℕ
-script_text fault = codes "script " ++ script_code fault ++ codes " " ++ script_name fault ++ codes "\n"
+script_text fault = reported_text (codes "script ") (script_texts fault)

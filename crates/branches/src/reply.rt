@@ -3,7 +3,7 @@
 ghost use Rattle.std.specs.Prelude.{◌≡◌, ◌++◌, IfOk, OnOk, codes, decimal, flat_map, length};
 ghost use Rattle.std.specs.String.{string_bytes};
 ghost use Rattle.table_report.specs.Texts.{table_text};
-ghost use Rattle.branches.specs.Replies.{refusal_code, refusal_name, lsa_counts, link_counts, edit_counts, info_text, said_by, said_text, mark_of, tables_head, reply_text, script_text, is_refusal};
+ghost use Rattle.branches.specs.Replies.{refusal_texts, reported_text, lsa_counts, link_counts, edit_counts, info_text, said_by, said_text, mark_of, tables_head, reply_text, script_text, is_refusal};
 
 use edit_history::{EditFault, RedoFault, UndoFault};
 use edit_script::ScriptFault;
@@ -77,27 +77,16 @@ impl<A: Allocator> Model for Answer<A> {
 }
 
 impl Refusal {
-    /// The printed code, such as `E4`.
-    fn code(self) -> &'static str
-        ensures { result.now ≡ refusal_code self }
+    /// The printed code and name, such as `E4` and `ZeroCost`.
+    fn texts(self) -> (&'static str, &'static str)
+        ensures code { result.0.now ≡ (refusal_texts self).0 }
+        ensures name { result.1.now ≡ (refusal_texts self).1 }
     {
         match self {
-            Refusal::Edit(fault) => fault.code(),
-            Refusal::Undo(fault) => fault.code(),
-            Refusal::Redo(fault) => fault.code(),
-            Refusal::Table(fault) => fault.code(),
-        }
-    }
-
-    /// The printed name, such as `ZeroCost`.
-    fn name(self) -> &'static str
-        ensures { result.now ≡ refusal_name self }
-    {
-        match self {
-            Refusal::Edit(fault) => fault.name(),
-            Refusal::Undo(fault) => fault.name(),
-            Refusal::Redo(fault) => fault.name(),
-            Refusal::Table(fault) => fault.name(),
+            Refusal::Edit(fault) => (fault.code(), fault.name()),
+            Refusal::Undo(fault) => (fault.code(), fault.name()),
+            Refusal::Redo(fault) => (fault.code(), fault.name()),
+            Refusal::Table(fault) => (fault.code(), fault.name()),
         }
     }
 }
@@ -171,9 +160,10 @@ fn push_said<A: Allocator + Copy>(
 fn push_refusal<A: Allocator + Copy>(text: &mut String<A>, why: Refusal) -> Result<(), AllocError>
     ensures { OnOk result
         (string_bytes text.new ≡ string_bytes text.old
-        ++ (codes "refused " ++ refusal_code why ++ codes " " ++ refusal_name why ++ codes "\n")) }
+        ++ reported_text (codes "refused ") (refusal_texts why)) }
 {
-    push_reported(text, "refused ", why.code(), why.name())
+    let (code, name) = why.texts();
+    push_reported(text, "refused ", code, name)
 }
 
 /// Adds a word, and after it a code, a name and a line feed. Pieces are added as they are, which
@@ -186,7 +176,7 @@ fn push_reported<A: Allocator + Copy>(
 ) -> Result<(), AllocError>
     ensures { OnOk result
         (string_bytes text.new ≡ string_bytes text.old
-        ++ (word.now ++ code.now ++ codes " " ++ name.now ++ codes "\n")) }
+        ++ reported_text word.now (code.now, name.now)) }
 {
     text.push_str(word)?;
     text.push_str(code)?;

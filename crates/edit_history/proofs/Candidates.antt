@@ -7,11 +7,11 @@ use Rattle.std.proofs.lemmas.List.{take_more}
 use Rattle.std.proofs.lemmas.List.Elements.{All-append, All-contains, All-cons, All-nil}
 use Rattle.lsa_codec.specs.declared.key.Key.{Key}
 use Rattle.lsa_codec.specs.Key.{key_of}
-use Rattle.lsdb.specs.KeyRanges.{AreKeysBetween, KeyAt}
+use Rattle.lsdb.specs.KeyRanges.{AreKeysBetween, HaveKeysBetween, KeyAt}
 use Rattle.lsdb.specs.Slots.{Slot, Slots, SectionSlots, item_at, slot_at, slot_in, full, lsas_in, slots_in, slots_or_none, IsFirstSlot}
 use Rattle.edit_history.specs.declared.lookup.Wanted.{Wanted}
 use Rattle.edit_history.specs.steps.Plans.{is_wanted, passes, slot_of}
-use Rattle.edit_history.specs.steps.Searching.{HaveKeysBetween, is_wanted_by_key, lesser}
+use Rattle.edit_history.specs.steps.Searching.{is_wanted_by_key, lesser}
 use Rattle.edit_history.proofs.Searches.{lsas_full, slot_there}
 use Rattle.edit_history.proofs.WantedKeys.{has_marked_key}
 
@@ -144,7 +144,7 @@ none_at w d section none =
 -- ---- all of them
 
 module _ (w : Wanted) (d : Slots) (section : ℕ) (low high : Key) (keys : List KeyAt) (first : Option ℕ)
-    (keyed : AreKeysBetween (slots_in d section) low high keys) (covered : HaveKeysBetween (is_wanted w) low high)
+    (keyed : AreKeysBetween (slots_in d section) low high keys) (covered : HaveKeysBetween (λ lsa. is_wanted w lsa ≡ true) low high)
     (found : IsLeast w d section keys first) where
   -- a wanted LSA is not before the one that was found
   up_to : (i : ℕ) (lsa : List ℕ) → item_at (slots_in d section) i ≡ Some (Some lsa) → is_wanted w lsa ≡ true → IsUpTo first i

@@ -18,12 +18,12 @@ use Rattle.lsa_codec.specs.Making.{without_links, leads_to, leads_to_net}
 use Rattle.lsa_codec.proofs.LsaLemmas.{links_rewritten}
 use Rattle.lsdb.specs.declared.section.Section.{Section}
 use Rattle.lsdb.specs.declared.slot.SlotId.{SlotId}
-use Rattle.lsdb.specs.Lists.{AreaHead, SectionLsas, IsBefore, IsDatabase, heads_of, has_key, is_head_of, is_section}
+use Rattle.lsdb.specs.Lists.{AreaHead, SectionLsas, IsBefore, IsDatabase, heads_of, has_key, is_head_of, is_section, is_network}
 use Rattle.lsdb.specs.Slots.{Slot, Slots, SectionSlots, item_at, slot_at, section_of, lists_of, slots_in, slots_or_none, head_or_none, IsNamed}
 use Rattle.lsdb.proofs.KeyLemmas.{same_key_true}
 use Rattle.lsdb.proofs.ListLemmas.{pairs_head, pairs_tail}
 use Rattle.edit_history.specs.Rules.{Fate, Fates, stays, by_fates, within, section_name}
-use Rattle.edit_history.specs.Effect.{is_network, cut, link_fate, net_fate, router_fate}
+use Rattle.edit_history.specs.Effect.{cut, link_fate, net_fate, router_fate}
 use Rattle.edit_history.specs.Exchange.{SwapData}
 use Rattle.edit_history.specs.steps.Plans.{slot_of, swap_for, section_swaps, swaps_from, slot_swap}
 use Rattle.edit_history.proofs.Keys.{found_passes, head_before, head_after, name_is}

@@ -8,13 +8,13 @@ use Rattle.lsa_codec.specs.declared.address.AreaId.{AreaId}
 use Rattle.lsa_codec.specs.declared.address.RouterId.{RouterId}
 use Rattle.lsdb.specs.declared.section.Section.TheVariants.{Area}
 use Rattle.lsdb.specs.declared.slot.SlotId.{SlotId}
-use Rattle.lsdb.specs.Lists.{SectionLsas, Lists, is_section, has_key, lsas_of}
+use Rattle.lsdb.specs.Lists.{SectionLsas, Lists, is_section, has_key, lsas_of, is_network}
 use Rattle.lsdb.specs.Slots.{Slots, lists_of, IsNamed}
 use Rattle.edit_script.specs.declared.edit.Edit.TheVariants.{FailLink, FailNet, FailRouter}
 use Rattle.edit_history.specs.declared.fault.EditFault.{EditFault}
 use Rattle.edit_history.specs.declared.fault.EditFault.TheVariants.{NoArea, NoRouter, NoLink, SameRouter, NoNetwork}
 use Rattle.edit_history.specs.Rules.{Rule, by_fates, within}
-use Rattle.edit_history.specs.Effect.{area_of, router_lsa_in, or_refused, has_router, is_network, are_linked, link_fate, net_fate, router_fate, rule_of, ◌>>=◌}
+use Rattle.edit_history.specs.Effect.{area_of, router_lsa_in, or_refused, has_router, are_linked, link_fate, net_fate, router_fate, rule_of, ◌>>=◌}
 use Rattle.edit_history.specs.Applied.{IsRefused}
 use Rattle.edit_history.specs.steps.Plans.{IsFirstLsa}
 use Rattle.edit_history.proofs.NamedLsas.{no_area, has_area, named_there}

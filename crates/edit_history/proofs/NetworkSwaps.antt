@@ -13,10 +13,11 @@ use Rattle.lsa_codec.specs.declared.fault.MakeFault.TheVariants.{NoLink}
 use Rattle.lsa_codec.specs.Making.{leads_to_net, with_links, without_links}
 use Rattle.lsdb.specs.declared.section.Section.{Section}
 use Rattle.lsdb.specs.declared.transit_filters.TransitFilter.{TransitFilter}
+use Rattle.lsdb.specs.Lists.{is_network}
 use Rattle.lsdb.specs.Slots.{Slot, Slots, item_at, slots_in, slot_at}
 use Rattle.lsdb.specs.TransitFilters.{is_of_network, may_have, AreTransitFilters}
 use Rattle.edit_history.specs.Rules.{stays, removed}
-use Rattle.edit_history.specs.Effect.{cut, is_network, net_fate}
+use Rattle.edit_history.specs.Effect.{cut, net_fate}
 use Rattle.edit_history.specs.Exchange.{SwapData}
 use Rattle.edit_history.specs.steps.Plans.{slot_swap, section_swaps, slot_of, swap_for}
 use Rattle.edit_history.proofs.FailureFates.{slot_turn}

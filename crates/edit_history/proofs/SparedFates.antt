@@ -13,11 +13,11 @@ use Rattle.lsa_codec.specs.Key.{key_of, router_key}
 use Rattle.lsa_codec.proofs.LsaLemmas.{metric_rewritten}
 use Rattle.lsdb.specs.declared.section.Section.{Section}
 use Rattle.lsdb.specs.declared.section.Section.TheVariants.{Area}
-use Rattle.lsdb.specs.Lists.{AreaHead, Lists, is_head_of, has_key}
+use Rattle.lsdb.specs.Lists.{AreaHead, Lists, is_head_of, has_key, is_network}
 use Rattle.lsdb.proofs.KeyLemmas.{same_key_true}
 use Rattle.summary_metrics.specs.Refreshed.{id_of, is_stale, due_in, refreshed_areas}
 use Rattle.edit_history.specs.Rules.{Fate, stays, removed, rewritten, Rule, by_fates, one_lsa, within}
-use Rattle.edit_history.specs.Effect.{is_network, link_fate, net_fate, router_fate, is_graph_kind}
+use Rattle.edit_history.specs.Effect.{link_fate, net_fate, router_fate, is_graph_kind}
 use Rattle.edit_history.specs.Refreshing.{with_due, metric_fate, refresh_fates}
 use Rattle.edit_history.proofs.RefreshFates.{stale_has_metric}
 

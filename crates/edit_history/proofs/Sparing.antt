@@ -20,7 +20,7 @@ use Rattle.lsa_codec.specs.Originating.{with_metric, new_summary, new_external}
 use Rattle.lsa_codec.proofs.LsaLemmas.{metric_rewritten}
 use Rattle.lsdb.specs.declared.section.Section.{Section}
 use Rattle.lsdb.specs.declared.section.Section.TheVariants.{Area, AsWide}
-use Rattle.lsdb.specs.Lists.{AreaHead, SectionLsas, Lists, IsDatabase, IsSection, is_head_of, is_section, lsas_or_none, lsas_of}
+use Rattle.lsdb.specs.Lists.{AreaHead, SectionLsas, Lists, IsDatabase, IsSection, is_head_of, is_section, lsas_or_none, lsas_of, is_network}
 use Rattle.edit_script.specs.declared.edit.Edit.{Edit}
 use Rattle.edit_script.specs.declared.edit.Edit.TheVariants.{Cost, DropLink, FailLink, FailNet, FailRouter, AddStub, Summary, AddSummary, AddExternal}
 use Rattle.edit_script.specs.declared.edit.Edit.TheVariants.{DropExternal, Refresh}
@@ -29,7 +29,7 @@ use Rattle.edit_history.specs.declared.fault.EditFault.TheVariants.{NoArea, NoRo
 use Rattle.edit_history.specs.Rules.{Fate, stays, removed, rewritten, Rule, NewLsa, Change, by_fates, one_lsa, within, adding, outcome}
 use Rattle.edit_history.specs.Rules.{change_of, addition, with_added, section_name, section_after, section_changes, lists_after, changes_by}
 use Rattle.edit_history.specs.Effect.{◌>>=◌, or_refused, made, area_of, router_lsa_in, router_lsa_of, has_router, stub_bytes, is_dump_full, remaking}
-use Rattle.edit_history.specs.Effect.{is_originated_for, is_network, are_linked, options_in, is_type2, room_for, added, link_fate, net_fate, router_fate}
+use Rattle.edit_history.specs.Effect.{is_originated_for, are_linked, options_in, is_type2, room_for, added, link_fate, net_fate, router_fate}
 use Rattle.edit_history.specs.Effect.{rule_of, effect, is_graph_kind, touched, touched_by, edit_touches, graph_lsas}
 use Rattle.edit_history.proofs.Keys.{found_passes}
 use Rattle.edit_history.proofs.SparedFates.{is_graph_lsa, graph_of, IsSpared, Spares, router_lsa_spares, one_spares, links_spare, network_spares}

@@ -11,13 +11,14 @@ use Rattle.lsa_codec.specs.Fields.{kind_of, link_state_id_of, advertising_router
 use Rattle.lsa_codec.specs.Key.{key_of}
 use Rattle.lsa_codec.specs.Prefix.{Net, mask_of_len}
 use Rattle.lsa_codec.specs.Views.{net_of_lsa}
+use Rattle.lsdb.specs.KeyRanges.{HaveKeysBetween}
 use Rattle.lsdb.specs.PrefixSlots.{prefix_of}
 use Rattle.lsdb.proofs.KeyLemmas.{between_fields}
-use Rattle.edit_history.specs.Effect.{is_network, is_originated_for, is_prefix}
+use Rattle.edit_history.specs.Effect.{is_originated_for, is_prefix}
 use Rattle.edit_history.specs.declared.lookup.Wanted.{Wanted}
 use Rattle.edit_history.specs.declared.lookup.Wanted.TheVariants as wanted
 use Rattle.edit_history.specs.steps.Plans.{is_wanted}
-use Rattle.edit_history.specs.steps.Searching.{HaveKeysBetween, last_addr_of, may_have}
+use Rattle.edit_history.specs.steps.Searching.{last_addr_of, may_have}
 
 -- ---- addresses of a prefix
 
@@ -53,7 +54,7 @@ id_within net lsa lt same =
 -- ---- ranges of keys
 
 pub keys_of_prefix : (kind : ℕ) (router : RouterId) (net : Net) (last : Addr) → last.0 ≡ last_addr_of net
-    → HaveKeysBetween (is_originated_for kind router net) (record { kind = kind; id = net.addr; adv = router }) (record { kind = kind; id = last; adv = router })
+    → HaveKeysBetween (λ lsa. is_originated_for kind router net lsa ≡ true) (record { kind = kind; id = net.addr; adv = router }) (record { kind = kind; id = last; adv = router })
 keys_of_prefix kind router net last is lsa widths pass =
     let first = and_parts _ _ pass in
     let rest = and_parts _ _ first.1 in
@@ -62,15 +63,6 @@ keys_of_prefix kind router net last is lsa widths pass =
     let within = id_within net lsa widths.id rest.1 in
     between_fields (record { kind = kind; id = net.addr; adv = router }) (record { kind = kind; id = last; adv = router }) (key_of lsa)
     (omega arith) (omega arith) within.above (omega (arith, within.below, is)) (omega arith) (omega arith)
-
-pub keys_of_network : (network : Addr) → let low : Key = record { kind = 2; id = network; adv = record { 0 = 0 } } in
-    let high : Key = record { kind = 2; id = network; adv = record { 0 = 2 ^ 32 - 1 } } in HaveKeysBetween (is_network network) low high
-keys_of_network network lsa widths pass =
-    let parts = and_parts _ _ pass in
-    let kinds : kind_of lsa ≡ 2 = eqb-true _ _ parts.0 in
-    let ids : link_state_id_of lsa ≡ network.0 = eqb-true _ _ parts.1 in
-    between_fields (record { kind = 2; id = network; adv = record { 0 = 0 } }) (record { kind = 2; id = network; adv = record { 0 = 2 ^ 32 - 1 } }) (key_of lsa)
-    (omega arith) (omega arith) (omega arith) (omega arith) (omega arith) (omega (arith, widths.adv))
 
 -- ---- by the key alone
 

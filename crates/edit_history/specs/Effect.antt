@@ -7,7 +7,7 @@ use Rattle.lsa_codec.specs.declared.address.AreaId.{AreaId}
 use Rattle.lsa_codec.specs.declared.address.RouterId.{RouterId}
 use Rattle.lsa_codec.specs.declared.key.Key.{Key}
 use Rattle.lsa_codec.specs.declared.fault.MakeFault.{MakeFault}
-use Rattle.lsa_codec.specs.Fields.{kind_of, link_state_id_of, advertising_router_of}
+use Rattle.lsa_codec.specs.Fields.{kind_of, advertising_router_of}
 use Rattle.lsa_codec.specs.Key.{key_of, router_key}
 use Rattle.lsa_codec.specs.Links.{links_of}
 use Rattle.lsa_codec.specs.Prefix.{Net}
@@ -16,7 +16,7 @@ use Rattle.lsa_codec.specs.Originating.{with_metric, new_summary, new_external}
 use Rattle.lsdb.specs.declared.section.Section.{Section}
 use Rattle.lsdb.specs.declared.section.Section.TheVariants.{Area, AsWide}
 use Rattle.lsdb.specs.Limits.{longest_dump, most_lsas_of_area, most_lsas_of_as}
-use Rattle.lsdb.specs.Lists.{AreaHead, SectionLsas, Lists, is_section, has_key, lsas_of, size}
+use Rattle.lsdb.specs.Lists.{AreaHead, SectionLsas, Lists, is_section, has_key, is_network, lsas_of, size}
 use Rattle.lsdb.specs.PrefixSlots.{prefix_of}
 use Rattle.edit_script.specs.declared.edit.Edit.{Edit}
 use Rattle.edit_script.specs.declared.edit.Edit.TheVariants.{Cost, DropLink, FailLink, FailNet, FailRouter, AddStub, Summary, AddSummary, AddExternal, DropExternal, Refresh}
@@ -102,10 +102,6 @@ abbrev pub is_originated_for : ℕ → RouterId → Net → List ℕ → Bool
 is_originated_for kind router net lsa = (kind_of lsa == kind) && ((advertising_router_of lsa == router.0) && is_prefix net (prefix_of lsa))
 
 -- ---- failures
-
--- the Link State ID of a network-LSA is the address of its Designated Router (RFC 2328, 12.1.4)
-abbrev pub is_network : Addr → List ℕ → Bool
-is_network network lsa = (kind_of lsa == network_lsa) && (link_state_id_of lsa == network.0)
 
 -- a router-LSA without the links that are removed; where it has none of them it stays as it is
 abbrev pub cut : Result (List ℕ) MakeFault → Fate

@@ -55,46 +55,40 @@ pub enum EditFault {
 }
 
 impl EditFault {
+    /// The code and the name of each fault.
+    fn texts(self) -> (&'static str, &'static str)
+        ensures code { result.0.now ≡ code_of self }
+        ensures name { result.1.now ≡ name_of self }
+    {
+        match self {
+            EditFault::NoArea => ("E1", "NoArea"),
+            EditFault::NoRouter => ("E2", "NoRouter"),
+            EditFault::NoLink => ("E3", "NoLink"),
+            EditFault::ZeroCost => ("E4", "ZeroCost"),
+            EditFault::SameRouter => ("E5", "SameRouter"),
+            EditFault::NoNetwork => ("E6", "NoNetwork"),
+            EditFault::NoSummary => ("E7", "NoSummary"),
+            EditFault::NoExternal => ("E8", "NoExternal"),
+            EditFault::KeyTaken => ("E9", "KeyTaken"),
+            EditFault::TooLong => ("E10", "TooLong"),
+            EditFault::Full => ("E11", "Full"),
+            EditFault::HistoryFull => ("E12", "HistoryFull"),
+            EditFault::OutOfMemory => ("E13", "OutOfMemory"),
+        }
+    }
+
     /// The fault's code, as replies print it: `E1` to `E13`.
     pub fn code(self) -> &'static str
         ensures { result.now ≡ code_of self }
     {
-        match self {
-            EditFault::NoArea => "E1",
-            EditFault::NoRouter => "E2",
-            EditFault::NoLink => "E3",
-            EditFault::ZeroCost => "E4",
-            EditFault::SameRouter => "E5",
-            EditFault::NoNetwork => "E6",
-            EditFault::NoSummary => "E7",
-            EditFault::NoExternal => "E8",
-            EditFault::KeyTaken => "E9",
-            EditFault::TooLong => "E10",
-            EditFault::Full => "E11",
-            EditFault::HistoryFull => "E12",
-            EditFault::OutOfMemory => "E13",
-        }
+        self.texts().0
     }
 
     /// The fault's name, as replies print it after the code.
     pub fn name(self) -> &'static str
         ensures { result.now ≡ name_of self }
     {
-        match self {
-            EditFault::NoArea => "NoArea",
-            EditFault::NoRouter => "NoRouter",
-            EditFault::NoLink => "NoLink",
-            EditFault::ZeroCost => "ZeroCost",
-            EditFault::SameRouter => "SameRouter",
-            EditFault::NoNetwork => "NoNetwork",
-            EditFault::NoSummary => "NoSummary",
-            EditFault::NoExternal => "NoExternal",
-            EditFault::KeyTaken => "KeyTaken",
-            EditFault::TooLong => "TooLong",
-            EditFault::Full => "Full",
-            EditFault::HistoryFull => "HistoryFull",
-            EditFault::OutOfMemory => "OutOfMemory",
-        }
+        self.texts().1
     }
 }
 

@@ -1,20 +1,21 @@
 //! The LSAs that an edit names, or its refusal where there are none.
 
-ghost use Rattle.std.specs.Prelude.{◌≡◌, Some, None, Err, IsSome, MatchOption, IfSome, IfOk, IfErr};
+ghost use Rattle.std.specs.Prelude.{◌≡◌, true, Some, None, Err, IsSome, MatchOption, IfSome, IfOk, IfErr};
 ghost use Rattle.std.specs.List.{find, list_any};
 ghost use Rattle.lsa_codec.specs.Key.{router_key};
 ghost use Rattle.lsdb.specs.declared.section.Section.TheVariants.{Area};
+ghost use Rattle.lsdb.specs.KeyRanges.{HaveKeysBetween};
 ghost use Rattle.lsdb.specs.Lists.{is_section, has_key, lsas_of};
 ghost use Rattle.lsdb.specs.Slots.{item_at, slot_at, lists_of, lsas_in, IsFirstSlot, IsNamed};
 ghost use Rattle.lsdb.specs.PrefixSlots.{prefix_of};
 ghost use Rattle.edit_history.specs.declared.fault.EditFault.TheVariants.{NoArea, NoRouter};
-ghost use Rattle.edit_history.specs.Effect.{router_lsa_of, has_router, is_network, is_prefix, is_originated_for};
+ghost use Rattle.edit_history.specs.Effect.{router_lsa_of, has_router, is_prefix, is_originated_for};
 ghost use Rattle.edit_history.specs.steps.Plans.{IsFirstLsa, is_wanted, passes};
-ghost use Rattle.edit_history.specs.steps.Searching.{AreOriginatedFor, HaveKeysBetween, is_wanted_by_key, last_addr_of, lesser, may_have};
+ghost use Rattle.edit_history.specs.steps.Searching.{AreOriginatedFor, is_wanted_by_key, last_addr_of, lesser, may_have};
 
 use crate::fault::EditFault;
 use lsa_codec::{Addr, AreaId, EXTERNAL_LSA, Key, Lsa, NETWORK_LSA, Prefix, RouterId, SUMMARY_LSA};
-use lsdb::{Database, Section, SlotId, SlotOf, prefix_of};
+use lsdb::{Database, Section, SlotId, SlotOf, network_keys, prefix_of};
 use std::alloc::Allocator;
 
 /// An LSA that is looked up by more than its key.
@@ -31,7 +32,7 @@ pub(crate) enum Wanted {
 impl Wanted {
     /// The least and the greatest key that a wanted LSA may have.
     fn key_range(&self) -> (Key, Key)
-        ensures { HaveKeysBetween (is_wanted self.now) result.0 result.1 }
+        ensures { HaveKeysBetween (λ lsa. is_wanted self.now lsa ≡ true) result.0 result.1 }
     {
         match *self {
             Wanted::Network(network) => network_keys(network),
@@ -84,23 +85,6 @@ impl Wanted {
     }
 }
 
-/// The least and the greatest key of the network-LSAs of a network, whose Link State ID is the
-/// address of its Designated Router (RFC 2328, 12.1.4): any router may have originated them.
-fn network_keys(network: Addr) -> (Key, Key)
-    ensures { HaveKeysBetween (is_network network) result.0 result.1 }
-{
-    let least = Key {
-        kind: NETWORK_LSA,
-        id: network,
-        adv: RouterId(0),
-    };
-    let greatest = Key {
-        adv: RouterId(u32::MAX),
-        ..least
-    };
-    (least, greatest)
-}
-
 /// The last address of a prefix, in which all bits past its length are 1.
 fn last_addr(prefix: Prefix) -> Addr
     ensures { result.0 ≡ last_addr_of prefix }
@@ -111,7 +95,8 @@ fn last_addr(prefix: Prefix) -> Addr
 /// The least and the greatest key of the LSAs of a type that a router originated for a prefix:
 /// the Link State ID is an address of the prefix (RFC 2328, 12.1.4 and appendix E).
 fn prefix_keys(kind: u8, router: RouterId, prefix: Prefix) -> (Key, Key)
-    ensures { HaveKeysBetween (is_originated_for kind router prefix) result.0 result.1 }
+    ensures { HaveKeysBetween (λ lsa. is_originated_for kind router prefix lsa ≡ true)
+        result.0 result.1 }
 {
     let least = Key {
         kind,

@@ -6,6 +6,7 @@ use Rattle.std.specs.List.{slice_split, join_with_byte}
 use Rattle.std.proofs.lemmas.List.Splits.{join_with_byte-slice_split}
 use Rattle.std.proofs.lemmas.Slice.Eq.{bytes_eq-Decides}
 use Rattle.std.proofs.lemmas.Bool.{cases_Bool, and_parts, cond-true, cond-false, leb-true}
+use Rattle.lsa_codec.specs.declared.address.RouterId.{RouterId}
 use Rattle.lsa_codec.specs.Prefix.{Net, IsNet, net_of, is_masked}
 use Rattle.lsa_codec.specs.Spelling.{address_text, prefix_text}
 use Rattle.text_words.specs.Numbers.{number_up_to}
@@ -20,6 +21,7 @@ use Rattle.edit_script.specs.declared.fault.ScriptFault.TheVariants.{BadNumber, 
 use Rattle.edit_script.specs.Words.{Word}
 use Rattle.edit_script.specs.Arguments.{two_parts, prefix_of, prefix_of_parts}
 use Rattle.edit_script.specs.Reading.{◌>>=◌, one_of, two_of, three_of, four_of, six_of, number, address, prefix, metric_type, none_of}
+use Rattle.edit_script.specs.Reading.{count_of, router_of}
 use Rattle.edit_script.specs.Spelling.{type_text, IsPrefix}
 use Rattle.edit_script.proofs.Prefixes.{prefix_joined}
 
@@ -179,3 +181,22 @@ six_are (a ∷ b ∷ c ∷ d ∷ e ∷ []) w h = absurd cc
 six_are (a ∷ b ∷ c ∷ d ∷ e ∷ f ∷ []) w h = let same : (a, b, c, d, e, f) ≡ w = cc in
     ap (λ (q : Word × Word × Word × Word × Word × Word). q.0 ∷ q.1 ∷ q.2 ∷ q.3 ∷ q.4 ∷ q.5 ∷ []) same
 six_are (a ∷ b ∷ c ∷ d ∷ e ∷ f ∷ g ∷ arguments) w h = absurd cc
+
+-- ---- one argument alone
+
+pub count_read : (arguments : List Word) (count : ℕ) → count_of arguments ≡ Ok count → (arguments ≡ decimal count ∷ []) × (count < 2 ^ 32)
+unfolding count_of
+count_read arguments count h =
+    let word = then_ok (one_of arguments) _ count h in
+    let spelled = number_read 4294967295 word.0 count (omega arith) word.1.1 in
+    (one_is arguments word.0 word.1.0 ∙ ap (λ (w : Word). w ∷ []) spelled.0, omega (arith, spelled.1))
+
+pub router_read : (arguments : List Word) (router : RouterId) → router_of arguments ≡ Ok router
+    → (arguments ≡ address_text router.0 ∷ []) × (router.0 < 2 ^ 32)
+unfolding router_of
+router_read arguments router h =
+    let word = then_ok (one_of arguments) _ router h in
+    let id = then_ok (address word.0) _ router word.1.1 in
+    let spelled = address_read word.0 id.0 id.1.0 in
+    let same : id.0 ≡ router.0 = ap (λ (r : RouterId). r.0) (same_ok (record { 0 = id.0 }) router id.1.1) in
+    (one_is arguments word.0 word.1.0 ∙ ap (λ (w : Word). w ∷ []) (spelled.0 ∙ ap address_text same), omega (arith, spelled.1, same))

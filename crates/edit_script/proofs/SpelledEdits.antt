@@ -1,17 +1,21 @@
 -- Words that are read as an edit are that edit's words, and its numbers are in range.
-use Rattle.std.proofs.Common.{◌≡◌, List, [], ◌∷◌, Ok, ap, ◌∙◌, subst, arith}
-use Rattle.std.specs.Prelude.{codes}
+use Rattle.std.proofs.Common.{◌≡◌, ℕ, ◌^◌, ◌<◌, ◌≤◌, List, [], ◌∷◌, Ok, refl, sym, ap, ◌∙◌, subst, arith}
+use Rattle.std.specs.Prelude.{codes, decimal}
+use Rattle.lsa_codec.specs.declared.address.AreaId.{AreaId}
+use Rattle.lsa_codec.specs.declared.address.RouterId.{RouterId}
+use Rattle.lsa_codec.specs.Prefix.{Net}
+use Rattle.lsa_codec.specs.Spelling.{address_text, prefix_text}
 use Rattle.edit_script.specs.declared.edit.Edit.{Edit}
 use Rattle.edit_script.specs.declared.edit.Edit.TheVariants.{Cost, DropLink, FailLink, FailNet, FailRouter, AddStub, Summary, AddSummary, AddExternal}
 use Rattle.edit_script.specs.declared.edit.Edit.TheVariants.{DropExternal, Refresh}
 use Rattle.edit_script.specs.Words.{Word}
-use Rattle.edit_script.specs.Reading.{one_of, two_of, three_of, four_of, six_of, number, address, prefix, metric_type, cost_of, drop_link_of}
+use Rattle.edit_script.specs.Reading.{◌>>=◌, router_of, two_of, three_of, four_of, six_of, number, address, prefix, metric_type, cost_of, drop_link_of}
 use Rattle.edit_script.specs.Reading.{fail_link_of, fail_net_of, fail_router_of, add_stub_of, summary_of, add_summary_of, add_external_of}
 use Rattle.edit_script.specs.Reading.{drop_external_of, none_of, refresh_of}
 use Rattle.edit_script.specs.Spelling.{edit_words}
-use Rattle.edit_script.specs.Spelling.{IsEditInRange}
+use Rattle.edit_script.specs.Spelling.{IsEditInRange, IsPrefix}
 use Rattle.edit_script.proofs.SpelledArguments.{then_ok, same_ok, two_same, three_same, four_same, six_same, number_read, address_read, prefix_read}
-use Rattle.edit_script.proofs.SpelledArguments.{type_read, none_are, one_is, two_are, three_are, four_are, six_are}
+use Rattle.edit_script.proofs.SpelledArguments.{type_read, none_are, two_are, three_are, four_are, six_are, router_read}
 
 -- ---- the edits
 
@@ -92,75 +96,56 @@ fail_net_read arguments edit h =
 pub fail_router_read : (arguments : List Word) (edit : Edit) → fail_router_of arguments ≡ Ok edit → IsEdit (codes "fail-router" ∷ arguments) edit
 unfolding fail_router_of
 fail_router_read arguments edit h =
-    let word = then_ok (one_of arguments) _ edit h in
-    let w = word.0 in
-    let router = then_ok (address w) _ edit word.1.1 in
-    let given : FailRouter (record { 0 = router.0 }) ≡ edit = same_ok _ edit router.1.1 in
-    let first = address_read w router.0 router.1.0 in
-    subst (IsEdit (codes "fail-router" ∷ arguments)) given (record {
-      words = ap (λ (ws : List Word). codes "fail-router" ∷ ws) (one_is arguments w word.1.0 ∙ ap (λ (v : Word). v ∷ []) first.0);
-      range = first.1;
-    })
+    let router = then_ok (router_of arguments) _ edit h in
+    let given : FailRouter router.0 ≡ edit = same_ok _ edit router.1.1 in
+    let is = router_read arguments router.0 router.1.0 in
+    subst (IsEdit (codes "fail-router" ∷ arguments)) given (record { words = ap (λ (ws : List Word). codes "fail-router" ∷ ws) is.0; range = is.1 })
+
+-- the edits of AREA ROUTER PREFIX METRIC, with a metric of at most max
+module _ (max : ℕ) (short : max < 2 ^ 64) (name : Word) (make : AreaId → RouterId → Net → ℕ → Edit)
+    (words : (area : AreaId) (router : RouterId) (net : Net) (metric : ℕ)
+    → edit_words (make area router net metric) ≡ name ∷ address_text area.0 ∷ address_text router.0 ∷ prefix_text net ∷ decimal metric ∷ [])
+    (range : (area : AreaId) (router : RouterId) (net : Net) (metric : ℕ) → area.0 < 2 ^ 32 → router.0 < 2 ^ 32 → IsPrefix net → metric ≤ max
+    → IsEditInRange (make area router net metric)) where
+  metric_read : (arguments : List Word) (edit : Edit)
+      → (four_of arguments >>= λ w. address w.0 >>= λ area. address w.1 >>= λ router. prefix w.2 >>= λ net. number max w.3
+      >>= λ metric. Ok (make (record { 0 = area }) (record { 0 = router }) net metric)) ≡ Ok edit
+      → IsEdit (name ∷ arguments) edit
+  metric_read arguments edit h =
+      let word = then_ok (four_of arguments) _ edit h in
+      let w = word.0 in
+      let area = then_ok (address w.0) _ edit word.1.1 in
+      let router = then_ok (address w.1) _ edit area.1.1 in
+      let net = then_ok (prefix w.2) _ edit router.1.1 in
+      let metric = then_ok (number max w.3) _ edit net.1.1 in
+      let given : make (record { 0 = area.0 }) (record { 0 = router.0 }) net.0 metric.0 ≡ edit = same_ok _ edit metric.1.1 in
+      let first = address_read w.0 area.0 area.1.0 in
+      let second = address_read w.1 router.0 router.1.0 in
+      let third = prefix_read w.2 net.0 net.1.0 in
+      let fourth = number_read max w.3 metric.0 short metric.1.0 in
+      subst (IsEdit (name ∷ arguments)) given (record {
+        words = ap (λ (ws : List Word). name ∷ ws) (four_are arguments w word.1.0 ∙ four_same _ _ _ _ _ _ _ _ first.0 second.0 third.0 fourth.0)
+            ∙ sym (words (record { 0 = area.0 }) (record { 0 = router.0 }) net.0 metric.0);
+        range = range (record { 0 = area.0 }) (record { 0 = router.0 }) net.0 metric.0 first.1 second.1 third.1 fourth.1;
+      })
 
 pub add_stub_read : (arguments : List Word) (edit : Edit) → add_stub_of arguments ≡ Ok edit → IsEdit (codes "add-stub" ∷ arguments) edit
 unfolding add_stub_of
 add_stub_read arguments edit h =
-    let word = then_ok (four_of arguments) _ edit h in
-    let w = word.0 in
-    let area = then_ok (address w.0) _ edit word.1.1 in
-    let router = then_ok (address w.1) _ edit area.1.1 in
-    let net = then_ok (prefix w.2) _ edit router.1.1 in
-    let metric = then_ok (number 65535 w.3) _ edit net.1.1 in
-    let given : AddStub (record { 0 = area.0 }) (record { 0 = router.0 }) net.0 metric.0 ≡ edit = same_ok _ edit metric.1.1 in
-    let first = address_read w.0 area.0 area.1.0 in
-    let second = address_read w.1 router.0 router.1.0 in
-    let third = prefix_read w.2 net.0 net.1.0 in
-    let fourth = number_read 65535 w.3 metric.0 (omega arith) metric.1.0 in
-    subst (IsEdit (codes "add-stub" ∷ arguments)) given (record {
-      words = ap (λ (ws : List Word). codes "add-stub" ∷ ws)
-          (four_are arguments w word.1.0 ∙ four_same _ _ _ _ _ _ _ _ first.0 second.0 third.0 fourth.0);
-      range = (first.1, second.1, third.1, omega (arith, fourth.1));
-    })
+    metric_read 65535 (omega arith) (codes "add-stub") AddStub (λ a r p m. refl) (λ a r p m area router net few. (area, router, net, omega (arith, few)))
+    arguments edit h
 
 pub summary_read : (arguments : List Word) (edit : Edit) → summary_of arguments ≡ Ok edit → IsEdit (codes "summary" ∷ arguments) edit
 unfolding summary_of
 summary_read arguments edit h =
-    let word = then_ok (four_of arguments) _ edit h in
-    let w = word.0 in
-    let area = then_ok (address w.0) _ edit word.1.1 in
-    let router = then_ok (address w.1) _ edit area.1.1 in
-    let net = then_ok (prefix w.2) _ edit router.1.1 in
-    let metric = then_ok (number 16777215 w.3) _ edit net.1.1 in
-    let given : Summary (record { 0 = area.0 }) (record { 0 = router.0 }) net.0 metric.0 ≡ edit = same_ok _ edit metric.1.1 in
-    let first = address_read w.0 area.0 area.1.0 in
-    let second = address_read w.1 router.0 router.1.0 in
-    let third = prefix_read w.2 net.0 net.1.0 in
-    let fourth = number_read 16777215 w.3 metric.0 (omega arith) metric.1.0 in
-    subst (IsEdit (codes "summary" ∷ arguments)) given (record {
-      words = ap (λ (ws : List Word). codes "summary" ∷ ws)
-          (four_are arguments w word.1.0 ∙ four_same _ _ _ _ _ _ _ _ first.0 second.0 third.0 fourth.0);
-      range = (first.1, second.1, third.1, omega (arith, fourth.1));
-    })
+    metric_read 16777215 (omega arith) (codes "summary") Summary (λ a r p m. refl) (λ a r p m area router net few. (area, router, net, omega (arith, few)))
+    arguments edit h
 
 pub add_summary_read : (arguments : List Word) (edit : Edit) → add_summary_of arguments ≡ Ok edit → IsEdit (codes "add-summary" ∷ arguments) edit
 unfolding add_summary_of
 add_summary_read arguments edit h =
-    let word = then_ok (four_of arguments) _ edit h in
-    let w = word.0 in
-    let area = then_ok (address w.0) _ edit word.1.1 in
-    let router = then_ok (address w.1) _ edit area.1.1 in
-    let net = then_ok (prefix w.2) _ edit router.1.1 in
-    let metric = then_ok (number 16777215 w.3) _ edit net.1.1 in
-    let given : AddSummary (record { 0 = area.0 }) (record { 0 = router.0 }) net.0 metric.0 ≡ edit = same_ok _ edit metric.1.1 in
-    let first = address_read w.0 area.0 area.1.0 in
-    let second = address_read w.1 router.0 router.1.0 in
-    let third = prefix_read w.2 net.0 net.1.0 in
-    let fourth = number_read 16777215 w.3 metric.0 (omega arith) metric.1.0 in
-    subst (IsEdit (codes "add-summary" ∷ arguments)) given (record {
-      words = ap (λ (ws : List Word). codes "add-summary" ∷ ws)
-          (four_are arguments w word.1.0 ∙ four_same _ _ _ _ _ _ _ _ first.0 second.0 third.0 fourth.0);
-      range = (first.1, second.1, third.1, omega (arith, fourth.1));
-    })
+    metric_read 16777215 (omega arith) (codes "add-summary") AddSummary (λ a r p m. refl)
+    (λ a r p m area router net few. (area, router, net, omega (arith, few))) arguments edit h
 
 pub add_external_read : (arguments : List Word) (edit : Edit) → add_external_of arguments ≡ Ok edit → IsEdit (codes "add-external" ∷ arguments) edit
 unfolding add_external_of

@@ -1,8 +1,10 @@
 -- Words that mean a command are that command's words, after its branch, and its numbers are in range.
-use Rattle.std.proofs.Common.{◌≡◌, ℕ, ◌<◌, true, cond, eqb, List, [], ◌∷◌, get_or, Result, Ok, refl, sym, ap, ◌∙◌, subst, arith, inl, inr}
-use Rattle.std.specs.Prelude.{codes, bytes_eq}
+use Rattle.std.proofs.Common.{◌≡◌, ℕ, ◌^◌, ◌<◌, true, cond, eqb, List, [], ◌∷◌, get_or, Result, Ok, refl, sym, ap, ◌∙◌, subst, arith, inl, inr}
+use Rattle.std.specs.Prelude.{codes, decimal, bytes_eq}
 use Rattle.std.proofs.lemmas.Slice.Eq.{bytes_eq-Decides}
 use Rattle.std.proofs.lemmas.Bool.{cases_Bool, cond-true, cond-false, eqb-true}
+use Rattle.lsa_codec.specs.declared.address.RouterId.{RouterId}
+use Rattle.lsa_codec.specs.Spelling.{address_text}
 use Rattle.edit_script.specs.declared.edit.Edit.{Edit}
 use Rattle.edit_script.specs.declared.command.Command.{Command}
 use Rattle.edit_script.specs.declared.command.Command.TheVariants as command
@@ -10,13 +12,12 @@ use Rattle.edit_script.specs.declared.fault.ScriptFault.{ScriptFault}
 use Rattle.edit_script.specs.declared.fault.ScriptFault.TheVariants.{BadBranch}
 use Rattle.edit_script.specs.Words.{Word}
 use Rattle.text_words.specs.Numbers.{number_up_to}
-use Rattle.edit_script.specs.Reading.{◌>>=◌, one_of, number, address, edit_of, none_of, undo_of, redo_of, table_of, tables_of, compare_of, info_of}
-use Rattle.edit_script.specs.Reading.{edit_command, command_of}
+use Rattle.edit_script.specs.Reading.{◌>>=◌, made, edit_of, none_of, count_of, router_of, command_of}
 use Rattle.edit_script.specs.Line.{branch_of, in_branch, after_branch, meaning_of_words}
 use Rattle.edit_script.specs.Spelling.{command_words, branch_word, Says}
 use Rattle.edit_script.specs.Spelling.{IsInRange}
 use Rattle.text_words.proofs.NumberLemmas.{number_spelled}
-use Rattle.edit_script.proofs.SpelledArguments.{then_ok, same_ok, of_ok, number_read, address_read, none_are, one_is}
+use Rattle.edit_script.proofs.SpelledArguments.{then_ok, same_ok, of_ok, none_are, count_read, router_read}
 use Rattle.edit_script.proofs.SpelledEdits.{IsEdit, cost_read, drop_link_read, fail_link_read, fail_net_read, fail_router_read, add_stub_read}
 use Rattle.edit_script.proofs.SpelledEdits.{summary_read, add_summary_read, add_external_read, drop_external_read, refresh_read}
 
@@ -27,76 +28,36 @@ record IsCommand (line : List Word) (c : Command) : Type 0 where
   words : line ≡ command_words c
   range : IsInRange c
 
-undo_read : (arguments : List Word) (c : Command) → undo_of arguments ≡ Ok c → IsCommand (codes "undo" ∷ arguments) c
-unfolding undo_of
-undo_read arguments c h =
-    let word = then_ok (one_of arguments) _ c h in
-    let count = then_ok (number 4294967295 word.0) _ c word.1.1 in
-    let spelled = number_read 4294967295 word.0 count.0 (omega arith) count.1.0 in
-    let given : command.Undo count.0 ≡ c = same_ok _ c count.1.1 in
-    subst (IsCommand (codes "undo" ∷ arguments)) given (record {
-      words = ap (λ (ws : List Word). codes "undo" ∷ ws) (one_is arguments word.0 word.1.0 ∙ ap (λ (w : Word). w ∷ []) spelled.0);
-      range = omega (arith, spelled.1);
-    })
+-- a command that is made of what its arguments spell
+of_spelled : {A : Type 0} (name : Word) (make : A → Command) (texts : A → List Word) (read : Result A ScriptFault) (arguments : List Word) (c : Command)
+    → ((x : A) → read ≡ Ok x → (arguments ≡ texts x) × IsInRange (make x)) → ((x : A) → command_words (make x) ≡ name ∷ texts x)
+    → made make read ≡ Ok c → IsCommand (name ∷ arguments) c
+of_spelled name make texts read arguments c spelled words h =
+    let found = then_ok read _ c h in
+    let same : make found.0 ≡ c = same_ok _ c found.1.1 in
+    let is = spelled found.0 found.1.0 in
+    subst (IsCommand (name ∷ arguments)) same (record { words = ap (λ (ws : List Word). name ∷ ws) is.0 ∙ sym (words found.0); range = is.1 })
 
-redo_read : (arguments : List Word) (c : Command) → redo_of arguments ≡ Ok c → IsCommand (codes "redo" ∷ arguments) c
-unfolding redo_of
-redo_read arguments c h =
-    let word = then_ok (one_of arguments) _ c h in
-    let count = then_ok (number 4294967295 word.0) _ c word.1.1 in
-    let spelled = number_read 4294967295 word.0 count.0 (omega arith) count.1.0 in
-    let given : command.Redo count.0 ≡ c = same_ok _ c count.1.1 in
-    subst (IsCommand (codes "redo" ∷ arguments)) given (record {
-      words = ap (λ (ws : List Word). codes "redo" ∷ ws) (one_is arguments word.0 word.1.0 ∙ ap (λ (w : Word). w ∷ []) spelled.0);
-      range = omega (arith, spelled.1);
-    })
+counted : (name : Word) (make : ℕ → Command) (arguments : List Word) (c : Command) → ((n : ℕ) → n < 2 ^ 32 → IsInRange (make n))
+    → ((n : ℕ) → command_words (make n) ≡ name ∷ decimal n ∷ []) → made make (count_of arguments) ≡ Ok c → IsCommand (name ∷ arguments) c
+counted name make arguments c range =
+    of_spelled name make (λ (n : ℕ). decimal n ∷ []) (count_of arguments) arguments c
+    (λ n h. let read = count_read arguments n h in (read.0, range n read.1))
 
-table_read : (arguments : List Word) (c : Command) → table_of arguments ≡ Ok c → IsCommand (codes "table" ∷ arguments) c
-unfolding table_of
-table_read arguments c h =
-    let word = then_ok (one_of arguments) _ c h in
-    let router = then_ok (address word.0) _ c word.1.1 in
-    let spelled = address_read word.0 router.0 router.1.0 in
-    let given : command.Table (record { 0 = router.0 }) ≡ c = same_ok _ c router.1.1 in
-    subst (IsCommand (codes "table" ∷ arguments)) given (record {
-      words = ap (λ (ws : List Word). codes "table" ∷ ws) (one_is arguments word.0 word.1.0 ∙ ap (λ (w : Word). w ∷ []) spelled.0);
-      range = spelled.1;
-    })
+of_router : (name : Word) (make : RouterId → Command) (arguments : List Word) (c : Command) → ((r : RouterId) → r.0 < 2 ^ 32 → IsInRange (make r))
+    → ((r : RouterId) → command_words (make r) ≡ name ∷ address_text r.0 ∷ []) → made make (router_of arguments) ≡ Ok c → IsCommand (name ∷ arguments) c
+of_router name make arguments c range =
+    of_spelled name make (λ (r : RouterId). address_text r.0 ∷ []) (router_of arguments) arguments c
+    (λ r h. let read = router_read arguments r h in (read.0, range r read.1))
 
-tables_read : (arguments : List Word) (c : Command) → tables_of arguments ≡ Ok c → IsCommand (codes "tables" ∷ arguments) c
-unfolding tables_of
-tables_read arguments c h =
-    let nothing = then_ok (none_of arguments) _ c h in
-    let given : command.Tables ≡ c = same_ok _ c nothing.1.1 in
-    subst (IsCommand (codes "tables" ∷ arguments)) given (record {
-      words = ap (λ (ws : List Word). codes "tables" ∷ ws) (none_are arguments nothing.0 nothing.1.0);
-      range = tt;
-    })
-
-compare_read : (arguments : List Word) (c : Command) → compare_of arguments ≡ Ok c → IsCommand (codes "compare" ∷ arguments) c
-unfolding compare_of
-compare_read arguments c h =
-    let word = then_ok (one_of arguments) _ c h in
-    let router = then_ok (address word.0) _ c word.1.1 in
-    let spelled = address_read word.0 router.0 router.1.0 in
-    let given : command.Compare (record { 0 = router.0 }) ≡ c = same_ok _ c router.1.1 in
-    subst (IsCommand (codes "compare" ∷ arguments)) given (record {
-      words = ap (λ (ws : List Word). codes "compare" ∷ ws) (one_is arguments word.0 word.1.0 ∙ ap (λ (w : Word). w ∷ []) spelled.0);
-      range = spelled.1;
-    })
-
-info_read : (arguments : List Word) (c : Command) → info_of arguments ≡ Ok c → IsCommand (codes "info" ∷ arguments) c
-unfolding info_of
-info_read arguments c h =
-    let nothing = then_ok (none_of arguments) _ c h in
-    let given : command.Info ≡ c = same_ok _ c nothing.1.1 in
-    subst (IsCommand (codes "info" ∷ arguments)) given (record {
-      words = ap (λ (ws : List Word). codes "info" ∷ ws) (none_are arguments nothing.0 nothing.1.0);
-      range = tt;
-    })
+alone : (name : Word) (d : Command) (arguments : List Word) (c : Command) → IsInRange d → command_words d ≡ name ∷ []
+    → made (λ (x : Unit {0}). d) (none_of arguments) ≡ Ok c → IsCommand (name ∷ arguments) c
+alone name d arguments c range words =
+    of_spelled name (λ (x : Unit {0}). d) (λ (x : Unit {0}). []) (none_of arguments) arguments c
+    (λ x h. (none_are arguments x h, range)) (λ x. words)
 
 edit_read : (words : List Word) (given : Result Edit ScriptFault) (c : Command) → ((edit : Edit) → given ≡ Ok edit → IsEdit words edit)
-    → edit_command given ≡ Ok c → IsCommand words c
+    → made command.Edit given ≡ Ok c → IsCommand words c
 edit_read words given c spelled h =
     let found = then_ok given _ c h in
     let same : command.Edit found.0 ≡ c = same_ok _ c found.1.1 in
@@ -135,12 +96,12 @@ edit_word_read word arguments edit h =
 command_read : (word : Word) (arguments : List Word) (c : Command) → command_of word arguments ≡ Ok c → IsCommand (word ∷ arguments) c
 unfolding command_of
 command_read word arguments c h =
-    by_name IsCommand (codes "undo") word arguments _ _ c (undo_read arguments c)
-    (by_name IsCommand (codes "redo") word arguments _ _ c (redo_read arguments c)
-    (by_name IsCommand (codes "table") word arguments _ _ c (table_read arguments c)
-    (by_name IsCommand (codes "tables") word arguments _ _ c (tables_read arguments c)
-    (by_name IsCommand (codes "compare") word arguments _ _ c (compare_read arguments c)
-    (by_name IsCommand (codes "info") word arguments _ _ c (info_read arguments c)
+    by_name IsCommand (codes "undo") word arguments _ _ c (counted (codes "undo") command.Undo arguments c (λ n small. small) (λ n. refl))
+    (by_name IsCommand (codes "redo") word arguments _ _ c (counted (codes "redo") command.Redo arguments c (λ n small. small) (λ n. refl))
+    (by_name IsCommand (codes "table") word arguments _ _ c (of_router (codes "table") command.Table arguments c (λ r small. small) (λ r. refl))
+    (by_name IsCommand (codes "tables") word arguments _ _ c (alone (codes "tables") command.Tables arguments c tt refl)
+    (by_name IsCommand (codes "compare") word arguments _ _ c (of_router (codes "compare") command.Compare arguments c (λ r small. small) (λ r. refl))
+    (by_name IsCommand (codes "info") word arguments _ _ c (alone (codes "info") command.Info arguments c tt refl)
     (edit_read (word ∷ arguments) (edit_of word arguments) c (edit_word_read word arguments)))))))
     h
 

@@ -1,5 +1,6 @@
 -- What a command word and its arguments mean: a command, or their first fault.
 use Rattle.std.specs.Prelude.{◌≡◌, ℕ, nat_lt, List, [], ◌∷◌, length, Result, Ok, Err, if◌then◌else◌, ok_or, codes, bytes_eq}
+use Rattle.lsa_codec.specs.declared.address.RouterId.{RouterId}
 use Rattle.lsa_codec.specs.Views.{ls_infinity}
 use Rattle.lsa_codec.specs.Prefix.{Net}
 use Rattle.edit_script.specs.declared.edit.Edit.{Edit}
@@ -19,6 +20,10 @@ infixl 10 ◌>>=◌
 abbrev pub ◌>>=◌ : {A B : Type 0} → Result A ScriptFault → (A → Result B ScriptFault) → Result B ScriptFault
 (Ok x) >>= f = f x
 (Err fault) >>= f = Err fault
+
+-- what is made of what is read
+abbrev pub made : {A B : Type 0} → (A → B) → Result A ScriptFault → Result B ScriptFault
+made make read = read >>= λ x. Ok (make x)
 
 -- a function's result, by its view, is what the definition gives
 abbrev pub Gives : {X Y : Type 0} → (X → Y) → Result X ScriptFault → Result Y ScriptFault → Type 0
@@ -73,6 +78,21 @@ abbrev pub six_of : List Word → Result (Word × Word × Word × Word × Word �
 six_of (a ∷ b ∷ c ∷ d ∷ e ∷ f ∷ []) = Ok (a, b, c, d, e, f)
 six_of arguments = Err (miscount 6 arguments)
 
+-- ---- one argument alone
+
+-- COUNT
+unfoldable pub count_of : List Word → Result ℕ ScriptFault
+count_of arguments = do
+  word ← one_of arguments
+  number 4294967295 word
+
+-- ROUTER
+unfoldable pub router_of : List Word → Result RouterId ScriptFault
+router_of arguments = do
+  word ← one_of arguments
+  router ← address word
+  Ok (record { 0 = router })
+
 -- ---- the edits, by their arguments
 
 -- the greatest number of 16 bits, for the number of a link and its metric (RFC 2328, A.4.2)
@@ -118,9 +138,8 @@ fail_net_of arguments = do
 -- fail-router ROUTER
 unfoldable pub fail_router_of : List Word → Result Edit ScriptFault
 fail_router_of arguments = do
-  word ← one_of arguments
-  router ← address word
-  Ok (FailRouter (record { 0 = router }))
+  router ← router_of arguments
+  Ok (FailRouter router)
 
 -- add-stub AREA ROUTER PREFIX METRIC
 unfoldable pub add_stub_of : List Word → Result Edit ScriptFault
@@ -194,58 +213,15 @@ edit_of word arguments =
     else if bytes_eq word (codes "refresh") then refresh_of arguments
     else Err UnknownWord
 
--- ---- the commands, by their arguments
+-- ---- the commands
 
--- undo COUNT
-unfoldable pub undo_of : List Word → Result Command ScriptFault
-undo_of arguments = do
-  word ← one_of arguments
-  count ← number 4294967295 word
-  Ok (command.Undo count)
-
--- redo COUNT
-unfoldable pub redo_of : List Word → Result Command ScriptFault
-redo_of arguments = do
-  word ← one_of arguments
-  count ← number 4294967295 word
-  Ok (command.Redo count)
-
--- table ROUTER
-unfoldable pub table_of : List Word → Result Command ScriptFault
-table_of arguments = do
-  word ← one_of arguments
-  router ← address word
-  Ok (command.Table (record { 0 = router }))
-
--- tables
-unfoldable pub tables_of : List Word → Result Command ScriptFault
-tables_of arguments = do
-  _ ← none_of arguments
-  Ok command.Tables
-
--- compare ROUTER
-unfoldable pub compare_of : List Word → Result Command ScriptFault
-compare_of arguments = do
-  word ← one_of arguments
-  router ← address word
-  Ok (command.Compare (record { 0 = router }))
-
--- info
-unfoldable pub info_of : List Word → Result Command ScriptFault
-info_of arguments = do
-  _ ← none_of arguments
-  Ok command.Info
-
-abbrev pub edit_command : Result Edit ScriptFault → Result Command ScriptFault
-edit_command given = given >>= λ e. Ok (command.Edit e)
-
--- a command word and its arguments
+-- a command word, and its arguments: undo COUNT, redo COUNT, table ROUTER, tables, compare ROUTER, info, or an edit
 unfoldable pub command_of : Word → List Word → Result Command ScriptFault
 command_of word arguments =
-    if bytes_eq word (codes "undo") then undo_of arguments
-    else if bytes_eq word (codes "redo") then redo_of arguments
-    else if bytes_eq word (codes "table") then table_of arguments
-    else if bytes_eq word (codes "tables") then tables_of arguments
-    else if bytes_eq word (codes "compare") then compare_of arguments
-    else if bytes_eq word (codes "info") then info_of arguments
-    else edit_command (edit_of word arguments)
+    if bytes_eq word (codes "undo") then made command.Undo (count_of arguments)
+    else if bytes_eq word (codes "redo") then made command.Redo (count_of arguments)
+    else if bytes_eq word (codes "table") then made command.Table (router_of arguments)
+    else if bytes_eq word (codes "tables") then made (λ _. command.Tables) (none_of arguments)
+    else if bytes_eq word (codes "compare") then made command.Compare (router_of arguments)
+    else if bytes_eq word (codes "info") then made (λ _. command.Info) (none_of arguments)
+    else made command.Edit (edit_of word arguments)

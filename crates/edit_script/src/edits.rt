@@ -7,7 +7,7 @@ ghost use Rattle.edit_script.specs.Reading.{cost_of, drop_link_of, fail_link_of,
 use crate::edit::Edit;
 use crate::fault::ScriptFault;
 use crate::reading::{
-    address, four, metric_type, metric24, none, number, number16, one, prefix, six, three, two,
+    address, four, metric_type, metric24, none, number, number16, prefix, router, six, three, two,
 };
 use lsa_codec::{Addr, AreaId, RouterId};
 
@@ -73,7 +73,7 @@ fn fail_net(arguments: &[u8]) -> Result<Edit, ScriptFault>
 fn fail_router(arguments: &[u8]) -> Result<Edit, ScriptFault>
     ensures { result ≡ fail_router_of (words arguments.now) }
 {
-    let router = RouterId(address(one(arguments)?)?);
+    let router = router(arguments)?;
     Ok(Edit::FailRouter { router })
 }
 

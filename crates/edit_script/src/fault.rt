@@ -42,35 +42,34 @@ pub enum ScriptFault {
 }
 
 impl ScriptFault {
+    /// The code and the name of each fault.
+    fn texts(self) -> (&'static str, &'static str)
+        ensures code { result.0.now ≡ code_of self }
+        ensures name { result.1.now ≡ name_of self }
+    {
+        match self {
+            ScriptFault::Empty => ("S1", "Empty"),
+            ScriptFault::UnknownWord => ("S2", "UnknownWord"),
+            ScriptFault::MissingWord => ("S3", "MissingWord"),
+            ScriptFault::ExtraWord => ("S4", "ExtraWord"),
+            ScriptFault::BadNumber => ("S5", "BadNumber"),
+            ScriptFault::BadAddress => ("S6", "BadAddress"),
+            ScriptFault::BadPrefix => ("S7", "BadPrefix"),
+            ScriptFault::BadBranch => ("S8", "BadBranch"),
+        }
+    }
+
     /// The fault's code, as replies print it: `S1` to `S8`.
     pub fn code(self) -> &'static str
         ensures { result.now ≡ code_of self }
     {
-        match self {
-            ScriptFault::Empty => "S1",
-            ScriptFault::UnknownWord => "S2",
-            ScriptFault::MissingWord => "S3",
-            ScriptFault::ExtraWord => "S4",
-            ScriptFault::BadNumber => "S5",
-            ScriptFault::BadAddress => "S6",
-            ScriptFault::BadPrefix => "S7",
-            ScriptFault::BadBranch => "S8",
-        }
+        self.texts().0
     }
 
     /// The fault's name, as replies print it after the code.
     pub fn name(self) -> &'static str
         ensures { result.now ≡ name_of self }
     {
-        match self {
-            ScriptFault::Empty => "Empty",
-            ScriptFault::UnknownWord => "UnknownWord",
-            ScriptFault::MissingWord => "MissingWord",
-            ScriptFault::ExtraWord => "ExtraWord",
-            ScriptFault::BadNumber => "BadNumber",
-            ScriptFault::BadAddress => "BadAddress",
-            ScriptFault::BadPrefix => "BadPrefix",
-            ScriptFault::BadBranch => "BadBranch",
-        }
+        self.texts().1
     }
 }

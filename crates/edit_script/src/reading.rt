@@ -4,13 +4,13 @@ ghost use Rattle.std.specs.Prelude.{◌≡◌, [], ◌∷◌, MatchResult};
 ghost use Rattle.lsa_codec.specs.Views.{ls_infinity};
 ghost use Rattle.edit_script.specs.Words.{words};
 ghost use Rattle.edit_script.specs.declared.fault.ScriptFault.TheVariants.{MissingWord};
-ghost use Rattle.edit_script.specs.Reading.{Gives, greatest_number16, number, address, prefix, metric_type, none_of, one_of, two_of, three_of, four_of, six_of};
+ghost use Rattle.edit_script.specs.Reading.{Gives, greatest_number16, number, address, prefix, metric_type, none_of, one_of, two_of, three_of, four_of, six_of, count_of, router_of};
 
 use crate::arguments::prefix_of;
 use crate::edit::MetricType;
 use crate::fault::ScriptFault;
 use crate::words::next_word;
-use lsa_codec::{LS_INFINITY, Metric, Prefix};
+use lsa_codec::{LS_INFINITY, Metric, Prefix, RouterId};
 use text_words::{address_of, number_up_to};
 
 /// The greatest number of 16 bits, for the number of a link and its metric (RFC 2328, A.4.2).
@@ -158,4 +158,22 @@ pub(crate) fn six(
         None => Ok((first, second, third, fourth, fifth, sixth)),
         Some(_) => Err(ScriptFault::ExtraWord),
     }
+}
+
+// ---- one argument alone
+
+/// The number of edits that the only word of `arguments` spells; else S3, S4 or S5.
+#[tactic(auto, unfolding(crate::specs::Reading::count_of))]
+pub(crate) fn count(arguments: &[u8]) -> Result<u32, ScriptFault>
+    ensures { result ≡ count_of (words arguments.now) }
+{
+    number(u32::MAX, one(arguments)?)
+}
+
+/// The router that the only word of `arguments` spells; else S3, S4 or S6.
+#[tactic(auto, unfolding(crate::specs::Reading::router_of))]
+pub(crate) fn router(arguments: &[u8]) -> Result<RouterId, ScriptFault>
+    ensures { result ≡ router_of (words arguments.now) }
+{
+    Ok(RouterId(address(one(arguments)?)?))
 }

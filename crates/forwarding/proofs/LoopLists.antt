@@ -13,11 +13,10 @@ use Rattle.lsa_codec.specs.declared.address.RouterId.{RouterId}
 use Rattle.lsa_codec.proofs.OrderLemmas.{router_exact, router_total}
 use Rattle.area_graph.specs.Rising.{rising}
 use Rattle.area_graph.proofs.MemberLemmas.{In, Contains-from_In, In-cases, In-from_Contains, In-left, In-right, Some-same}
-use Rattle.area_graph.proofs.RisingLemmas.{rising-is, rising-pairs}
+use Rattle.area_graph.proofs.RisingLemmas.{In-rising, rising-In, rising-is, rising-pairs}
 use Rattle.forwarding.specs.Graphs.{StepValue, next_in}
 use Rattle.forwarding.specs.Walks.{AreLoops, IsLess, IsLoopFrom, IsLoopOf, StartsBefore}
 use Rattle.forwarding.specs.steps.Looping.{IsFoundFrom, is_first}
-use Rattle.forwarding.proofs.RisingMembers.{In-rising, rising-In}
 use Rattle.forwarding.proofs.Rounded.{less_from}
 use Rattle.forwarding.proofs.Walked.{AllPairs-from, InPairs, InPairs-append}
 

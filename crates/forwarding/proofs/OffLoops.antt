@@ -5,7 +5,9 @@ use Rattle.std.specs.BTreeSet.{insert_key}
 use Rattle.std.specs.Option.{option_map_or}
 use Rattle.lsa_codec.specs.Order.{router_cmp}
 use Rattle.lsa_codec.specs.declared.address.RouterId.{RouterId}
+use Rattle.lsa_codec.proofs.OrderLemmas.{router_exact, router_total}
 use Rattle.area_graph.proofs.MemberLemmas.{In, Contains-from_In, In-from_Contains, Some-same, filter_map-In, list_all-In}
+use Rattle.area_graph.proofs.RisingLemmas.{In-insert, insert-In}
 use Rattle.forwarding.specs.Graphs.{StepValue, next_in, ways_at}
 use Rattle.forwarding.specs.Walks.{IsOnCycle}
 use Rattle.forwarding.specs.Ways.{router_over}
@@ -13,7 +15,6 @@ use Rattle.forwarding.specs.steps.Levels.{has_router}
 use Rattle.forwarding.specs.steps.Looping.{IsFoundFrom}
 use Rattle.forwarding.specs.steps.LoopFree.{AreLoopFree, leads_into, leads_only_into}
 use Rattle.forwarding.proofs.Rounded.{In_has, has_In}
-use Rattle.forwarding.proofs.RisingMembers.{In_inserted, inserted_In}
 use Rattle.forwarding.proofs.Walked.{stays_in}
 
 module _ (graph : List StepValue) where
@@ -36,10 +37,10 @@ module _ (graph : List StepValue) where
     stays v w i step = In-from_Contains loop_free w (are.closed v w (Contains-from_In loop_free v i) (Contains-from_In (next_in graph v) w step))
 
     in_new : (v : RouterId) → In loop_free v → Contains new v
-    in_new v i = subst (λ (rs : List RouterId). Contains rs v) (sym is) (Contains-from_In (insert_key router_cmp loop_free router) v (In_inserted loop_free router v (inl i)))
+    in_new v i = subst (λ (rs : List RouterId). Contains rs v) (sym is) (Contains-from_In (insert_key router_cmp loop_free router) v (In-insert router_total router_exact loop_free router v (inl i)))
 
     from_new : (v : RouterId) → Contains new v → In loop_free v ⊎ (router ≡ v)
-    from_new v c = inserted_In loop_free router v (In-from_Contains (insert_key router_cmp loop_free router) v (subst (λ (rs : List RouterId). Contains rs v) is c))
+    from_new v c = insert-In router_total router_exact loop_free router v (In-from_Contains (insert_key router_cmp loop_free router) v (subst (λ (rs : List RouterId). Contains rs v) is c))
 
     -- a walk from the router does not come back to it
     no_cycle : ¬ IsOnCycle (next_in graph) router

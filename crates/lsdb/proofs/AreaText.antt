@@ -15,7 +15,7 @@ use Rattle.lsdb.specs.Text.{kind_number, head_text, section_text}
 use Rattle.lsdb.specs.Loading.{◌>>=◌, At, is_above, section_at, id_at, kind_at, area_at, areas_from}
 use Rattle.lsdb.proofs.Middle.{pairs_head, pairs_tail}
 use Rattle.lsdb.proofs.Dominated.{section_with}
-use Rattle.lsdb.proofs.Fields.{IsBytes, bind_ok, ok_is, done, Takes, Takes-then, here}
+use Rattle.lsdb.proofs.NumberLemmas.{IsBytes, bind_ok, ok_is, done, Takes, Takes-then, here}
 use Rattle.lsdb.proofs.HeadText.{id_takes, id_again, kind_takes, kind_again}
 use Rattle.lsdb.proofs.SectionText.{lsas_text, section_takes, section_again}
 

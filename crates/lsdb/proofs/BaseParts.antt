@@ -13,7 +13,7 @@ use Rattle.lsdb.specs.Text.{magic}
 use Rattle.lsdb.specs.BaseText.{session_version, sections_text, base_text}
 use Rattle.lsdb.specs.Loading.{◌>>=◌, At, number_at, magic_at, sections_at, beginning}
 use Rattle.lsdb.specs.BaseLoading.{begins_session, most_bytes, session_version_at, base_at, small_base, base_loaded}
-use Rattle.lsdb.proofs.Fields.{IsBytes, bind_ok, guard_ok, passed_ok, ok_is, done, fault_at, Takes, Takes-then, wide8, number_takes, number_again, here}
+use Rattle.lsdb.proofs.NumberLemmas.{IsBytes, bind_ok, guard_ok, passed_ok, ok_is, done, fault_at, Takes, Takes-then, wide8, number_takes, number_again, here}
 use Rattle.lsdb.proofs.TextSize.{base_size}
 use Rattle.lsdb.proofs.DumpText.{magic_takes, magic_again, sections_take, database_sections}
 

@@ -20,7 +20,7 @@ use Rattle.lsdb.specs.Loading.{◌>>=◌, At, number_at, section_at, areas_from,
 use Rattle.lsdb.specs.Loading.{beginning}
 use Rattle.lsdb.proofs.Middle.{all_at_mid, all_front, pairs_without}
 use Rattle.lsdb.proofs.Dominated.{section_with}
-use Rattle.lsdb.proofs.Fields.{IsBytes, bind_ok, guard_ok, passed_ok, ok_is, done, fault_at, Takes, Takes-then, wide8, wide32, number_takes, number_again, here}
+use Rattle.lsdb.proofs.NumberLemmas.{IsBytes, bind_ok, guard_ok, passed_ok, ok_is, done, fault_at, Takes, Takes-then, wide8, wide32, number_takes, number_again, here}
 use Rattle.lsdb.proofs.SectionText.{lsas_text, section_takes, section_again}
 use Rattle.lsdb.proofs.AreaText.{section_text-split, IsUpTo, AreAreas, AreNext, no_areas, areas_take, areas_again}
 use Rattle.lsdb.proofs.LastSection.{split}

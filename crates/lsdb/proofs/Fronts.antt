@@ -13,7 +13,7 @@ use Rattle.lsdb.specs.Loading.{◌>>=◌, At, fault, number_at, placed, accepted
 use Rattle.lsdb.specs.Loading.{first_lsa_at, section_front_at, area_front_at, first_section_at, area_count_at, sections_front_at}
 use Rattle.lsdb.specs.steps.Reading.{IsWantAfter}
 use Rattle.lsdb.proofs.Dominated.{section_with}
-use Rattle.lsdb.proofs.Fields.{bind_ok, guard_ok, passed_ok, ok_is, done, fault_at}
+use Rattle.lsdb.proofs.NumberLemmas.{bind_ok, guard_ok, passed_ok, ok_is, done, fault_at}
 
 -- memory ran out after what was read, and so after less of it
 pub want_after : {Y Z : Type 0} (e : ReadError) (more : Result Y DumpFault) (less : Result Z DumpFault) → (IsOk more → IsOk less)

@@ -8,7 +8,7 @@ use Rattle.lsdb.specs.declared.fault.DumpFaultKind.TheVariants.{AreaOrder, BadAr
 use Rattle.lsdb.specs.Lists.{AreaHead}
 use Rattle.lsdb.specs.Text.{kind_number}
 use Rattle.lsdb.specs.Loading.{◌>>=◌, At, number_at, is_above, id_at, kind_at}
-use Rattle.lsdb.proofs.Fields.{IsBytes, bind_ok, guard_ok, passed_ok, ok_is, fault_at, Takes, wide8, wide32, number_takes, number_again, here}
+use Rattle.lsdb.proofs.NumberLemmas.{IsBytes, bind_ok, guard_ok, passed_ok, ok_is, fault_at, Takes, wide8, wide32, number_takes, number_again, here}
 
 -- ---- the ID
 

@@ -1,14 +1,16 @@
 -- For callers: LSAs by their keys, and keys in a range.
-use Rattle.std.proofs.Common.{◌≡◌, ◌≢◌, ◌≤◌, ℕ, true, false, cond, eqb, List, refl, ap, ◌∙◌, arith, ⊎_elim}
+use Rattle.std.proofs.Common.{◌≡◌, ◌≢◌, ◌≤◌, ◌-◌, ◌^◌, ℕ, true, false, cond, eqb, List, refl, ap, ◌∙◌, arith, ⊎_elim}
 use Rattle.std.specs.Ordering.{is_le, nat_cmp, ordering_then}
 use Rattle.std.specs.declared.cmp.Ordering.{Ordering}
 use Rattle.std.specs.declared.cmp.Ordering.TheVariants.{Less, Equal, Greater}
 use Rattle.std.proofs.lemmas.Bool.{and_parts, and_from, cases_lt, eqb-true, eq-eqb, false_from_ne_true, le-ltb, lt-ltb}
+use Rattle.lsa_codec.specs.declared.address.Addr.{Addr}
 use Rattle.lsa_codec.specs.declared.key.Key.{Key}
+use Rattle.lsa_codec.specs.Fields.{kind_of, link_state_id_of}
 use Rattle.lsa_codec.specs.Key.{key_of}
 use Rattle.lsa_codec.specs.Order.{key_cmp}
-use Rattle.lsdb.specs.KeyRanges.{is_between}
-use Rattle.lsdb.specs.Lists.{same_key, has_key}
+use Rattle.lsdb.specs.KeyRanges.{HaveKeysBetween, is_between}
+use Rattle.lsdb.specs.Lists.{same_key, has_key, is_network}
 
 key_from : (k l i j a b : ℕ) → k ≡ l → i ≡ j → a ≡ b → let p : Key =
     record { kind = k; id = record { 0 = i }; adv = record { 0 = a } } in
@@ -62,3 +64,13 @@ upto a b kinds ids advs =
 pub between_fields : (low high key : Key) → low.kind ≤ key.kind → key.kind ≤ high.kind → low.id.0 ≤ key.id.0 → key.id.0 ≤ high.id.0
     → low.adv.0 ≤ key.adv.0 → key.adv.0 ≤ high.adv.0 → is_between low high key ≡ true
 between_fields low high key k l i j a b = and_from _ _ (upto low key k i a) (upto key high l j b)
+
+-- any router may have originated the network-LSAs of a network
+pub keys_of_network : (network : Addr) → let low : Key = record { kind = 2; id = network; adv = record { 0 = 0 } } in
+    let high : Key = record { kind = 2; id = network; adv = record { 0 = 2 ^ 32 - 1 } } in HaveKeysBetween (λ lsa. is_network network lsa ≡ true) low high
+keys_of_network network lsa widths is =
+    let parts = and_parts _ _ is in
+    let kinds : kind_of lsa ≡ 2 = eqb-true _ _ parts.0 in
+    let ids : link_state_id_of lsa ≡ network.0 = eqb-true _ _ parts.1 in
+    between_fields (record { kind = 2; id = network; adv = record { 0 = 0 } }) (record { kind = 2; id = network; adv = record { 0 = 2 ^ 32 - 1 } }) (key_of lsa)
+    (omega arith) (omega arith) (omega arith) (omega arith) (omega arith) (omega (arith, widths.adv))

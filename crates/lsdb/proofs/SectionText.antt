@@ -23,8 +23,8 @@ use Rattle.lsdb.proofs.KeyLemmas.{other_key, own_key}
 use Rattle.lsdb.proofs.Middle.{all_at_mid, pairs_before, map_mid}
 use Rattle.lsdb.proofs.Dominated.{section_with}
 use Rattle.lsdb.proofs.Written.{limit_fits}
-use Rattle.lsdb.proofs.Fields.{IsBytes, IsBytes-drop, bind_ok, guard_ok, passed_ok, ok_is, done, fault_at, Takes, Takes-then, wide16, number_takes}
-use Rattle.lsdb.proofs.Fields.{number_again, here}
+use Rattle.lsdb.proofs.NumberLemmas.{IsBytes, IsBytes-drop, bind_ok, guard_ok, passed_ok, ok_is, done, fault_at, Takes, Takes-then, wide16, number_takes}
+use Rattle.lsdb.proofs.NumberLemmas.{number_again, here}
 
 -- ---- keys
 

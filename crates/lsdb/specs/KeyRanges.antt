@@ -28,6 +28,10 @@ pub record HaveWidths (lsa : List ℕ) : Type 0 where
   pub id : link_state_id_of lsa < 2 ^ 32
   pub adv : advertising_router_of lsa < 2 ^ 32
 
+-- each LSA of which something holds has a key from one to another
+abbrev pub HaveKeysBetween : (List ℕ → Type 0) → Key → Key → Type 0
+HaveKeysBetween Holds low high = (lsa : List ℕ) → HaveWidths lsa → Holds lsa → is_between low high (key_of lsa) ≡ true
+
 -- keys of a section from one key to another, in order and each once with one index, among them that of each LSA there, with the index of its slot
 pub record AreKeysBetween (slots : List Slot) (low high : Key) (keys : List KeyAt) : Type 0 where
   pub rising : IsStrictlySortedBy noted_cmp keys

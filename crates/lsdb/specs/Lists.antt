@@ -1,9 +1,11 @@
 -- What a database is: areas with their LSAs, and after them the LSAs of AS scope (RFC 2328, 12.2).
 use Rattle.std.specs.Prelude.{◌≡◌, ◌≢◌, ◌<◌, ◌≤◌, ◌^◌, ℕ, ◌+◌, Bool, true, false, List, [], length, map, All, AllPairs, Option, Some, None, ◌==◌, ◌&&◌, ◌||◌, not}
 use Rattle.std.specs.List.{list_any, sum_by, filter_map, find}
+use Rattle.lsa_codec.specs.declared.address.Addr.{Addr}
 use Rattle.lsa_codec.specs.declared.address.AreaId.{AreaId}
 use Rattle.lsa_codec.specs.declared.key.Key.{Key}
-use Rattle.lsa_codec.specs.LsTypes.{external_lsa, as_opaque_lsa}
+use Rattle.lsa_codec.specs.LsTypes.{network_lsa, external_lsa, as_opaque_lsa}
+use Rattle.lsa_codec.specs.Fields.{kind_of, link_state_id_of}
 use Rattle.lsa_codec.specs.Key.{key_of}
 use Rattle.lsa_codec.specs.Accepted.{IsAccepted}
 use Rattle.lsdb.specs.Limits.{most_areas, most_lsas_of_area, most_lsas_of_as, longest_dump}
@@ -105,6 +107,10 @@ same_key a b = (a.kind == b.kind) && ((a.id.0 == b.id.0) && (a.adv.0 == b.adv.0)
 
 abbrev pub has_key : Key → List ℕ → Bool
 has_key key lsa = same_key (key_of lsa) key
+
+-- a network-LSA of the network whose Designated Router has this address, which is its Link State ID (RFC 2328, 12.1.4)
+abbrev pub is_network : Addr → List ℕ → Bool
+is_network network lsa = (kind_of lsa == network_lsa) && (link_state_id_of lsa == network.0)
 
 abbrev pub has_id : ℕ → Option AreaHead → Bool
 has_id id None = false

@@ -2,11 +2,12 @@
 use Rattle.std.specs.Prelude.{◌≡◌, ◌^◌, ◌/◌, ◌%◌, ◌==◌, ◌&&◌, ℕ, Bool, true, not, bit_and, if◌then◌else◌, List, length, Some}
 use Rattle.std.specs.List.{list_any}
 use Rattle.lsa_codec.specs.declared.address.Addr.{Addr}
-use Rattle.lsa_codec.specs.Fields.{kind_of, link_state_id_of}
+use Rattle.lsa_codec.specs.Fields.{kind_of}
 use Rattle.lsa_codec.specs.Links.{links_of}
-use Rattle.lsa_codec.specs.LsTypes.{router_lsa, network_lsa}
+use Rattle.lsa_codec.specs.LsTypes.{router_lsa}
 use Rattle.lsa_codec.specs.Making.{leads_to_net}
 use Rattle.lsdb.specs.declared.transit_filters.TransitFilter.{TransitFilter}
+use Rattle.lsdb.specs.Lists.{is_network}
 use Rattle.lsdb.specs.Slots.{Slot, item_at}
 
 -- an LSA is of the transit network whose Designated Router has this address: a router-LSA with a link to it (RFC 2328, A.4.2),
@@ -14,7 +15,7 @@ use Rattle.lsdb.specs.Slots.{Slot, item_at}
 abbrev pub is_of_network : Addr → List ℕ → Bool
 is_of_network network lsa =
     if kind_of lsa == router_lsa then list_any (leads_to_net network) (links_of lsa) else
-    (kind_of lsa == network_lsa) && (link_state_id_of lsa == network.0)
+    is_network network lsa
 
 -- the bit of an address, and that of the block of 65,536 addresses in which it is
 abbrev pub network_bit : Addr → ℕ

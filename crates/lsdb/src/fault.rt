@@ -1,7 +1,7 @@
 //! Why bytes are no dump.
 
 ghost use Rattle.std.specs.Prelude.{◌≡◌};
-ghost use Rattle.lsdb.specs.Faults.{fault_code, fault_name};
+ghost use Rattle.lsdb.specs.Faults.{fault_code, fault_name, lsa_fault_name};
 ghost use Rattle.lsdb.specs.declared.fault.ReadError.TheVariants.{Memory, Fault};
 
 use lsa_codec::{Decimal, LsaFault};
@@ -47,27 +47,35 @@ pub enum DumpFaultKind {
 }
 
 impl DumpFaultKind {
+    /// The code and the name of each kind.
+    fn texts(&self) -> (&'static str, &'static str)
+        ensures code { result.0.now ≡ fault_code self.now }
+        ensures name { result.1.now ≡ fault_name self.now }
+    {
+        match self {
+            DumpFaultKind::BadMagic => ("L1", "BadMagic"),
+            DumpFaultKind::BadVersion => ("L2", "BadVersion"),
+            DumpFaultKind::Truncated => ("L3", "Truncated"),
+            DumpFaultKind::TrailingBytes => ("L4", "TrailingBytes"),
+            DumpFaultKind::TooManyAreas => ("L5", "TooManyAreas"),
+            DumpFaultKind::AreaOrder => ("L6", "AreaOrder"),
+            DumpFaultKind::BadAreaKind => ("L7", "BadAreaKind"),
+            DumpFaultKind::TooManyLsas => ("L8", "TooManyLsas"),
+            DumpFaultKind::Lsa(fault) => ("L9", lsa_fault_name(*fault)),
+            DumpFaultKind::WrongSection => ("L10", "WrongSection"),
+            DumpFaultKind::DuplicateLsa => ("L11", "DuplicateLsa"),
+            DumpFaultKind::BackboneStub => ("L12", "BackboneStub"),
+            DumpFaultKind::TooLarge => ("L13", "TooLarge"),
+            DumpFaultKind::OutOfMemory => ("L14", "OutOfMemory"),
+            DumpFaultKind::BadHistory(_) => ("L15", "BadHistory"),
+        }
+    }
+
     /// The code of the kind, as `L4`.
     pub fn code(&self) -> &'static str
         ensures { result.now ≡ fault_code self.now }
     {
-        match self {
-            DumpFaultKind::BadMagic => "L1",
-            DumpFaultKind::BadVersion => "L2",
-            DumpFaultKind::Truncated => "L3",
-            DumpFaultKind::TrailingBytes => "L4",
-            DumpFaultKind::TooManyAreas => "L5",
-            DumpFaultKind::AreaOrder => "L6",
-            DumpFaultKind::BadAreaKind => "L7",
-            DumpFaultKind::TooManyLsas => "L8",
-            DumpFaultKind::Lsa(_) => "L9",
-            DumpFaultKind::WrongSection => "L10",
-            DumpFaultKind::DuplicateLsa => "L11",
-            DumpFaultKind::BackboneStub => "L12",
-            DumpFaultKind::TooLarge => "L13",
-            DumpFaultKind::OutOfMemory => "L14",
-            DumpFaultKind::BadHistory(_) => "L15",
-        }
+        self.texts().0
     }
 
     /// The name of the kind, as `TrailingBytes`, and `Lsa ZeroCost` where the bytes are no
@@ -75,28 +83,13 @@ impl DumpFaultKind {
     pub fn name(&self) -> &'static str
         ensures { result.now ≡ fault_name self.now }
     {
-        match self {
-            DumpFaultKind::BadMagic => "BadMagic",
-            DumpFaultKind::BadVersion => "BadVersion",
-            DumpFaultKind::Truncated => "Truncated",
-            DumpFaultKind::TrailingBytes => "TrailingBytes",
-            DumpFaultKind::TooManyAreas => "TooManyAreas",
-            DumpFaultKind::AreaOrder => "AreaOrder",
-            DumpFaultKind::BadAreaKind => "BadAreaKind",
-            DumpFaultKind::TooManyLsas => "TooManyLsas",
-            DumpFaultKind::Lsa(fault) => lsa_fault_name(*fault),
-            DumpFaultKind::WrongSection => "WrongSection",
-            DumpFaultKind::DuplicateLsa => "DuplicateLsa",
-            DumpFaultKind::BackboneStub => "BackboneStub",
-            DumpFaultKind::TooLarge => "TooLarge",
-            DumpFaultKind::OutOfMemory => "OutOfMemory",
-            DumpFaultKind::BadHistory(_) => "BadHistory",
-        }
+        self.texts().1
     }
 }
 
+/// The name of what is wrong with an LSA.
 fn lsa_fault_name(fault: LsaFault) -> &'static str
-    ensures { result.now ≡ fault_name (DumpFaultKind.Lsa fault) }
+    ensures { result.now ≡ lsa_fault_name fault }
 {
     match fault {
         LsaFault::Truncated => "Lsa Truncated",

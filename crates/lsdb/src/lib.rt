@@ -42,6 +42,7 @@ pub use fault::{DumpFault, DumpFaultKind};
 pub use laws::slot_laws;
 pub use limits::{LONGEST_DUMP, LONGEST_SESSION, MOST_AREAS, MOST_LSAS_OF_AREA, MOST_LSAS_OF_AS};
 pub use load::text_laws;
+pub use lookup::network_keys;
 pub use lsas::Lsas;
 pub use origin::prefix_of;
 pub use section::Section;

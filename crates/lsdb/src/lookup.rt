@@ -1,9 +1,9 @@
 //! Sections by their names, and LSAs by their keys (RFC 2328, 12.1).
 
-ghost use Rattle.std.specs.Prelude.{◌≡◌, None, IsSome, MatchOption, option_map};
+ghost use Rattle.std.specs.Prelude.{◌≡◌, true, None, IsSome, MatchOption, option_map};
 ghost use Rattle.std.specs.List.{find};
-ghost use Rattle.lsdb.specs.KeyRanges.{AreKeysBetween};
-ghost use Rattle.lsdb.specs.Lists.{is_head_of, is_section, has_key, lsas_of};
+ghost use Rattle.lsdb.specs.KeyRanges.{AreKeysBetween, HaveKeysBetween};
+ghost use Rattle.lsdb.specs.Lists.{is_head_of, is_network, is_section, has_key, lsas_of};
 ghost use Rattle.lsdb.specs.Slots.{item_at, lists_of, lsas_in, slots_in, IsFirstSlot, IsNamed, IsSlotOf};
 ghost use Rattle.lsdb.specs.PrefixSlots.{AreSlotsOfPrefix};
 ghost use Rattle.lsdb.specs.RouterSlots.{AreSlotsOfRouter};
@@ -17,7 +17,7 @@ use crate::section::Section;
 use crate::slot::SlotId;
 use crate::slot_index::SlotOf;
 use crate::transit_filters::TransitFilter;
-use lsa_codec::{Key, Prefix, RouterId};
+use lsa_codec::{Addr, Key, NETWORK_LSA, Prefix, RouterId};
 use std::alloc::Allocator;
 
 impl<A: Allocator + Copy> Database<A> {
@@ -106,6 +106,23 @@ impl<A: Allocator + Copy> Database<A> {
         };
         self.find_in(index, key)
     }
+}
+
+/// The least and the greatest key of the network-LSAs of a network, whose Link State ID is the
+/// address of its Designated Router (RFC 2328, 12.1.4): any router may have originated them.
+pub fn network_keys(network: Addr) -> (Key, Key)
+    ensures { HaveKeysBetween (λ lsa. is_network network lsa ≡ true) result.0 result.1 }
+{
+    let least = Key {
+        kind: NETWORK_LSA,
+        id: network,
+        adv: RouterId(0),
+    };
+    let greatest = Key {
+        adv: RouterId(u32::MAX),
+        ..least
+    };
+    (least, greatest)
 }
 
 /// Whether this is the head of the section of that name.

@@ -1,11 +1,10 @@
 -- What calls leave of an area that none of them touches.
-use Rattle.std.proofs.Common.{◌≡◌, ◌≤◌, ℕ, Bool, true, false, not, List, [], ◌∷◌, length, Option, Some, None, Result, Ok, Err, IsOk}
-use Rattle.std.proofs.Common.{refl, sym, ap, ◌∙◌, subst, ltb}
+use Rattle.std.proofs.Common.{◌≡◌, ℕ, Bool, true, false, not, List, [], ◌∷◌, Option, Some, None, Result, Ok, Err, IsOk, refl, sym, ap, ◌∙◌, subst}
 use Rattle.std.specs.Cmp.{Equal-is}
 use Rattle.std.specs.List.{list_any}
 use Rattle.std.specs.Option.{option_map_or}
 use Rattle.std.specs.Ordering.{eq_by_cmp}
-use Rattle.std.proofs.lemmas.Bool.{cond-false, le-ltb, or_parts}
+use Rattle.std.proofs.lemmas.Bool.{or_parts}
 use Rattle.std.proofs.lemmas.Map.Entries.{lookup-filter-keys}
 use Rattle.lsa_codec.specs.declared.address.AreaId.{AreaId}
 use Rattle.lsa_codec.specs.declared.address.RouterId.{RouterId}
@@ -14,7 +13,7 @@ use Rattle.lsa_codec.proofs.OrderLemmas.{area_exact}
 use Rattle.edit_script.specs.declared.edit.Edit.{Edit}
 use Rattle.edit_history.specs.declared.fault.EditFault.{EditFault}
 use Rattle.edit_history.specs.Effect.{edit_touches, graph_lsas}
-use Rattle.edit_history.specs.Session.{Session, Request, edit, undo, redo, accepted_or, after_request, edited, moved_back, moved_on, state}
+use Rattle.edit_history.specs.Session.{Session, Request, edit, undo, redo, accepted_or, after_request, edited, state}
 use Rattle.lsdb.specs.Lists.{Lists}
 use Rattle.recalculate.specs.Calls.{AreMade, Call, CarriedOut, IsTaken, Leads, after_calls, call_touches, calls_touch, request_touches}
 use Rattle.routing_table.specs.AreasTrees.{routers_of}
@@ -24,21 +23,7 @@ use Rattle.edit_history.specs.declared.moved.Moved.{Moved}
 use Rattle.recalculate.specs.Planning.{AreCachesOf, CacheValue, IsCacheOf, PlannerValue, router_of, without_last}
 use Rattle.edit_history.specs.Moving.{before, moved_touches}
 use Rattle.recalculate.specs.Reached.{IsReached}
-use Rattle.recalculate.proofs.Touches.{IsStep, edited_spares, redone_spares, undone_spares}
-
--- ---- requests that are taken
-
-pub edit_taken : (s t : Session) (e : Edit) → edited s e ≡ Ok t → after_request s (edit e) ≡ t
-edit_taken s t e is = ap (accepted_or s) is
-
-pub undo_taken : (s : Session) (k : ℕ) → k ≤ length s.done → after_request s (undo k) ≡ moved_back k s
-undo_taken s k le = cond-false (ltb (length s.done) k) s (moved_back k s) (le-ltb (length s.done) k le)
-
-pub redo_taken : (s : Session) (k : ℕ) → k ≤ length s.undone → after_request s (redo k) ≡ moved_on k s
-redo_taken s k le = cond-false (ltb (length s.undone) k) s (moved_on k s) (le-ltb (length s.undone) k le)
-
-pub took : (s t : Session) (e : Edit) → edited s e ≡ Ok t → IsTaken (edit e) s
-took s t e is = subst (λ (r : Result Session EditFault). IsOk r) (sym is) refl
+use Rattle.recalculate.proofs.Touches.{IsStep, edited_spares, redo_taken, redone_spares, undo_taken, undone_spares}
 
 -- what a planner shows that keeps this
 abbrev pub shown : Session → ℕ → (present baseline : CacheValue) → Option RouterId → PlannerValue
@@ -51,33 +36,31 @@ shown s runs present baseline asked = record {
 }
 
 -- a step that a request made, and what is kept of the session's database before and after
-module _ (request : Request) (moved : Moved) (s t : Session) (step : IsStep request moved s t) (old new : CacheValue) where
-  pub less_kept_by : routers_of new.trees ≡ less_touched (λ area. moved_touches moved area t) (routers_of old.trees)
-      → routers_of new.trees ≡ less_touched (request_touches request s) (routers_of old.trees)
-  less_kept_by kept = kept ∙ ap (λ (f : AreaId → Bool). less_touched f (routers_of old.trees)) (λ i area. step.touched area i)
-
-  pub caches_follow : (baseline : CacheValue) → (IsCacheOf (state (before moved t)) old → IsCacheOf (state t) new) → AreCachesOf s old baseline
-      → AreCachesOf t new baseline
-  caches_follow baseline follows all = record {
+module _ (request : Request) (moved : Moved) (s t : Session) (step : IsStep request moved s t) (old new baseline : CacheValue) where
+  pub caches_follow : (IsCacheOf (state (before moved t)) old → IsCacheOf (state t) new) → AreCachesOf s old baseline → AreCachesOf t new baseline
+  caches_follow follows all = record {
     present = follows (subst (λ (db : Lists). IsCacheOf db old) (sym step.back) all.present);
     baseline = subst (λ (db : Lists). IsCacheOf db baseline) (sym step.base) all.baseline;
   }
 
-  module _ (runs : ℕ) (baseline : CacheValue) (asked : Option RouterId) where
-    pub carries_out : routers_of new.trees ≡ less_touched (λ area. moved_touches moved area t) (routers_of old.trees) → IsTaken request s
-        → after_request s request ≡ t → IsReached t → CarriedOut request (shown s runs old baseline asked) (shown t runs new baseline asked)
-    carries_out kept taken is reached = record { taken = taken; session = sym is; reached = reached; runs = refl; kept = less_kept_by kept }
+  -- what the planner showed before
+  module _ (runs : ℕ) (asked : Option RouterId) (p : PlannerValue) (shows : shown s runs old baseline asked ≡ p) where
+    pub carries_out : routers_of new.trees ≡ less_touched (λ area. moved_touches moved area t) (routers_of old.trees) → IsReached t
+        → CarriedOut request p (shown t runs new baseline asked)
+    carries_out kept reached = subst (λ (q : PlannerValue). CarriedOut request q (shown t runs new baseline asked)) shows (record {
+      taken = step.taken;
+      session = sym step.after;
+      reached = reached;
+      runs = refl;
+      kept = kept ∙ ap (λ (f : AreaId → Bool). less_touched f (routers_of old.trees)) (λ i area. step.touched area i);
+    })
 
--- the last table went, and nothing else of what is not named
-pub others_stay : (s t : Session) (runs : ℕ) (old new baseline : CacheValue) (asked : Option RouterId) → new.table ≡ None
-    → shown t runs new baseline asked
-    ≡ record (shown s runs old baseline asked) {
-      session = t;
-      kept = routers_of new.trees;
-      tables = without_last (shown s runs old baseline asked).tables;
-    }
-others_stay s t runs old new baseline asked none =
-    ap (λ (o : Option TableValue). shown t runs (record { trees = new.trees; externals = new.externals; table = o }) baseline asked) none
+    -- the last table went, and nothing else of what is not named
+    pub others_stay : new.table ≡ None
+        → shown t runs new baseline asked ≡ record p { session = t; kept = routers_of new.trees; tables = without_last p.tables }
+    others_stay none =
+        ap (λ (o : Option TableValue). shown t runs (record { trees = new.trees; externals = new.externals; table = o }) baseline asked) none
+        ∙ ap (λ (q : PlannerValue). record q { session = t; kept = routers_of new.trees; tables = without_last q.tables }) shows
 
 -- ---- the graph of an area stays
 

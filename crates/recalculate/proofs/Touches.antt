@@ -1,7 +1,8 @@
 -- Which areas the edits touch that were carried out, taken back, or carried out again, and what stays of the others.
 use Rattle.std.proofs.Common.{◌≡◌, ℕ, ◌-◌, ◌≤◌, Bool, true, false, not, filter, List, [], ◌∷◌, ◌++◌, take, drop, length, Result, Ok, Err}
-use Rattle.std.proofs.Common.{refl, sym, ap, ◌∙◌, subst, arith}
+use Rattle.std.proofs.Common.{IsOk, refl, sym, ap, ◌∙◌, subst, arith, ltb}
 use Rattle.std.specs.Prelude.{◌||◌, IfSome, cond, nat_lt}
+use Rattle.std.proofs.lemmas.Bool.{cond-false, le-ltb}
 use Rattle.std.proofs.lemmas.List.{length-append, length-drop, length-take}
 use Rattle.lsa_codec.specs.declared.address.AreaId.{AreaId}
 use Rattle.lsdb.specs.Lists.{Lists}
@@ -9,7 +10,7 @@ use Rattle.edit_script.specs.declared.edit.Edit.{Edit}
 use Rattle.edit_history.specs.declared.fault.EditFault.{EditFault}
 use Rattle.edit_history.specs.declared.fault.EditFault.TheVariants.{HistoryFull}
 use Rattle.edit_history.specs.Effect.{◌>>=◌, edit_touches, effect, graph_lsas}
-use Rattle.edit_history.specs.Session.{Session, Request, edit, undo, redo, accepted, edited, edited_by, edits_touch, moved_back, moved_on, most_edits}
+use Rattle.edit_history.specs.Session.{Session, Request, edit, undo, redo, accepted, accepted_or, after_request, edited, edited_by, edits_touch, moved_back, moved_on, most_edits}
 use Rattle.edit_history.specs.Session.{redo_touches, state, undo_touches}
 use Rattle.edit_history.proofs.HistoryLemmas.{back_and_on, edits_back, on_and_back, seam_drop, seam_take}
 use Rattle.edit_history.proofs.HistoryLemmas.{redo_spares, undo_spares}
@@ -17,7 +18,7 @@ use Rattle.routing_table.specs.AreasTrees.{AreasTrees, KeptTreesValue, AreAreasO
 use Rattle.routing_table.specs.KeptTrees.{less_touched}
 use Rattle.edit_history.specs.declared.moved.Moved.{Moved}
 use Rattle.edit_history.specs.declared.moved.Moved.TheVariants.{On, Back}
-use Rattle.recalculate.specs.Calls.{request_touches}
+use Rattle.recalculate.specs.Calls.{IsTaken, request_touches}
 use Rattle.recalculate.specs.Reached.{IsReached}
 use Rattle.edit_history.specs.Moving.{before, moved_touches}
 use Rattle.recalculate.proofs.Caches.{edited_base}
@@ -101,14 +102,27 @@ module _ (moved : Moved) (s : Session) (old new : KeptTreesValue) (is : new.area
 
 -- ---- steps, as the requests that make them
 
--- carrying a request out led from s to t, and moved over these edits
+edit_taken : (s t : Session) (e : Edit) → edited s e ≡ Ok t → after_request s (edit e) ≡ t
+edit_taken s t e is = ap (accepted_or s) is
+
+pub undo_taken : (s : Session) (k : ℕ) → k ≤ length s.done → after_request s (undo k) ≡ moved_back k s
+undo_taken s k le = cond-false (ltb (length s.done) k) s (moved_back k s) (le-ltb (length s.done) k le)
+
+pub redo_taken : (s : Session) (k : ℕ) → k ≤ length s.undone → after_request s (redo k) ≡ moved_on k s
+redo_taken s k le = cond-false (ltb (length s.undone) k) s (moved_on k s) (le-ltb (length s.undone) k le)
+
+-- a request that is taken led from s to t, and moved over these edits
 pub record IsStep (request : Request) (moved : Moved) (s t : Session) : Type 0 where
+  pub taken : IsTaken request s
+  pub after : after_request s request ≡ t
   pub base : t.base ≡ s.base
   pub back : state (before moved t) ≡ state s
   pub touched : (area : AreaId) → moved_touches moved area t ≡ request_touches request s area
 
 pub edit_step : (s t : Session) (e : Edit) → edited s e ≡ Ok t → IsStep (edit e) (On 1) s t
 edit_step s t e is = record {
+  taken = subst (λ (r : Result Session EditFault). IsOk r) (sym is) refl;
+  after = edit_taken s t e is;
   base = edited_base s t e is;
   back = state_before s t e is;
   touched = λ area. edited_touch area s t e is;
@@ -116,6 +130,8 @@ edit_step s t e is = record {
 
 pub undo_step : (s t : Session) (k : ℕ) → k ≤ length s.done → t ≡ moved_back k s → IsStep (undo k) (Back k) s t
 undo_step s t k le is = record {
+  taken = le;
+  after = undo_taken s k le ∙ sym is;
   base = ap (λ (u : Session). u.base) is;
   back = ap (λ (u : Session). state (moved_on k u)) is ∙ ap (λ (u : Session). state u) (back_and_on s k le);
   touched = λ area. ap (redo_touches k area) is ∙ undone_touch k area s le;
@@ -123,6 +139,8 @@ undo_step s t k le is = record {
 
 pub redo_step : (s t : Session) (k : ℕ) → k ≤ length s.undone → t ≡ moved_on k s → IsStep (redo k) (On k) s t
 redo_step s t k le is = record {
+  taken = le;
+  after = redo_taken s k le ∙ sym is;
   base = ap (λ (u : Session). u.base) is;
   back = ap (λ (u : Session). state (moved_back k u)) is ∙ ap (λ (u : Session). state u) (on_and_back s k le);
   touched = λ area. ap (undo_touches k area) is ∙ redone_touch k area s le;

@@ -7,6 +7,7 @@ use Rattle.std.proofs.lemmas.List.Elements.{All-head, All-tail}
 use Rattle.lsdb.specs.declared.fault.DumpFault.{DumpFault}
 use Rattle.lsdb.specs.Lists.{Lists}
 use Rattle.lsdb.specs.Loading.{◌>>=◌, At}
+use Rattle.lsdb.proofs.NumberLemmas.{here}
 use Rattle.edit_script.specs.declared.edit.Edit.{Edit}
 use Rattle.edit_script.specs.Spelling.{IsEditInRange}
 use Rattle.edit_history.specs.declared.fault.EditFault.{EditFault}
@@ -14,7 +15,6 @@ use Rattle.edit_history.specs.Session.{Session, after_edits, unless_refused, eff
 use Rattle.saved_sessions.specs.Lines.{line_of, lines_of, edit_line}
 use Rattle.saved_sessions.specs.Opening.{edit_found, edit_at, edit_done, line_at, lines_from}
 use Rattle.saved_sessions.proofs.Doing.{doing, edited_again, after_snoc, leads}
-use Rattle.saved_sessions.proofs.Numbers.{here}
 
 -- the line of an edit is read as it, whatever follows
 abbrev pub LineIsRead : Type 0

@@ -4,6 +4,7 @@ use Rattle.std.proofs.lemmas.List.{append-nil, length-append, length-take, lengt
 use Rattle.std.proofs.lemmas.List.Concat.{flat_map-cons}
 use Rattle.lsdb.specs.Lists.{Lists}
 use Rattle.lsdb.specs.Loading.{◌>>=◌, At, advanced}
+use Rattle.lsdb.proofs.NumberLemmas.{bind_ok, ok_is}
 use Rattle.edit_script.specs.declared.edit.Edit.{Edit}
 use Rattle.edit_script.specs.Spelling.{IsEditInRange}
 use Rattle.edit_history.specs.declared.fault.EditFault.{EditFault}
@@ -11,7 +12,6 @@ use Rattle.edit_history.specs.Session.{Session, edited}
 use Rattle.saved_sessions.specs.Lines.{line_of, lines_of, edit_line}
 use Rattle.saved_sessions.specs.Opening.{edit_found, edit_at, edit_done, line_at, lines_from}
 use Rattle.saved_sessions.proofs.Doing.{doing, edited_is}
-use Rattle.saved_sessions.proofs.Failing.{bind_ok, ok_is}
 
 -- what is read as an edit is its line
 abbrev pub LineIsSpelled : Type 0

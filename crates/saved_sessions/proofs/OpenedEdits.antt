@@ -4,10 +4,10 @@ use Rattle.lsdb.specs.declared.fault.DumpFaultKind.TheVariants.{TrailingBytes}
 use Rattle.lsdb.specs.Lists.{Lists}
 use Rattle.lsdb.specs.Loading.{◌>>=◌, At, ended, fault, loaded}
 use Rattle.lsdb.specs.BaseLoading.{base_loaded, begins_session}
+use Rattle.lsdb.proofs.NumberLemmas.{bind_ok, ok_is}
 use Rattle.edit_script.specs.declared.edit.Edit.{Edit}
 use Rattle.edit_history.specs.Session.{NoneRefused, Session, edited, moved_back, start}
 use Rattle.saved_sessions.specs.Opening.{position_after, counts_at, dump_loaded, edit_at, edit_done, history_at, line_at, lines_from, opened, session_loaded}
-use Rattle.saved_sessions.proofs.Failing.{bind_ok, ok_is}
 use Rattle.saved_sessions.proofs.LinesTaken.{done_is}
 
 -- it is so at the start, and stays so with each edit and each undo

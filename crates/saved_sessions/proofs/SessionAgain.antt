@@ -12,6 +12,7 @@ use Rattle.lsdb.specs.Text.{text}
 use Rattle.lsdb.specs.BaseText.{base_text}
 use Rattle.lsdb.specs.Loading.{◌>>=◌, At, ended, loaded}
 use Rattle.lsdb.specs.BaseLoading.{begins_session, base_loaded}
+use Rattle.lsdb.proofs.NumberLemmas.{here}
 use Rattle.edit_script.specs.declared.edit.Edit.{Edit}
 use Rattle.edit_script.specs.Spelling.{IsEditInRange}
 use Rattle.edit_history.specs.Session.{Session, start, effects, moved_back}
@@ -21,7 +22,7 @@ use Rattle.saved_sessions.specs.Opening.{position_after, lines_from, history_at,
 use Rattle.saved_sessions.specs.Saved.{CanBeSaved, saved_text}
 use Rattle.saved_sessions.proofs.Doing.{doing, session_of, none_refused, back_again}
 use Rattle.saved_sessions.proofs.LinesAgain.{LineIsRead, lines_again}
-use Rattle.saved_sessions.proofs.Numbers.{here, counts_again}
+use Rattle.saved_sessions.proofs.Numbers.{counts_again}
 
 -- the base is loaded, whatever follows it
 abbrev pub BaseIsRead : Type 0

@@ -5,6 +5,7 @@ use Rattle.std.proofs.lemmas.List.{append-nil, drop_all, length-take, length-dro
 use Rattle.lsdb.specs.Lists.{Lists}
 use Rattle.lsdb.specs.BaseText.{base_text}
 use Rattle.lsdb.specs.Loading.{◌>>=◌, At}
+use Rattle.lsdb.proofs.NumberLemmas.{IsBytes, IsBytes-drop, bind_ok, ok_is}
 use Rattle.edit_script.specs.declared.edit.Edit.{Edit}
 use Rattle.edit_history.specs.Session.{Session, start, moved_back}
 use Rattle.saved_sessions.specs.Lines.{lines_of}
@@ -12,9 +13,8 @@ use Rattle.saved_sessions.specs.Text.{session_text}
 use Rattle.saved_sessions.specs.Opening.{position_after, counts_at, lines_from, history_at}
 use Rattle.saved_sessions.specs.Saved.{saved_text}
 use Rattle.saved_sessions.proofs.Doing.{doing}
-use Rattle.saved_sessions.proofs.Failing.{bind_ok, ok_is}
 use Rattle.saved_sessions.proofs.LinesTaken.{LineIsSpelled, lines_take}
-use Rattle.saved_sessions.proofs.Numbers.{IsBytes, IsBytes-drop, counts_take}
+use Rattle.saved_sessions.proofs.Numbers.{counts_take}
 
 -- the base, the two numbers, and the lines of all edits
 abbrev dump_of : Lists → ℕ → ℕ → List Edit → List ℕ

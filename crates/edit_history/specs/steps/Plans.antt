@@ -4,12 +4,12 @@ use Rattle.std.specs.List.{find, cons_option}
 use Rattle.lsa_codec.specs.Fields.{kind_of}
 use Rattle.lsdb.specs.declared.section.Section.{Section}
 use Rattle.lsdb.specs.declared.slot.SlotId.{SlotId}
-use Rattle.lsdb.specs.Lists.{lsas_of}
+use Rattle.lsdb.specs.Lists.{lsas_of, is_network}
 use Rattle.lsdb.specs.Slots.{Slot, Slots, slot_at, lists_of, IsNamed, OpensSlot}
 use Rattle.edit_history.specs.declared.lookup.Wanted.{Wanted}
 use Rattle.edit_history.specs.declared.lookup.Wanted.TheVariants as wanted
 use Rattle.edit_history.specs.Rules.{Fate, stays, removed, rewritten, Fates, section_name}
-use Rattle.edit_history.specs.Effect.{is_network, is_originated_for}
+use Rattle.edit_history.specs.Effect.{is_originated_for}
 use Rattle.edit_history.specs.Exchange.{SwapData}
 
 -- the first LSA of a section that passes a test, and its slot

@@ -3,18 +3,13 @@ use Rattle.std.specs.Prelude.{◌≡◌, ℕ, ◌+◌, ◌-◌, ◌^◌, min, Bo
 use Rattle.lsa_codec.specs.declared.key.Key.{Key}
 use Rattle.lsa_codec.specs.declared.address.RouterId.{RouterId}
 use Rattle.lsa_codec.specs.Fields.{advertising_router_of}
-use Rattle.lsa_codec.specs.Key.{key_of}
 use Rattle.lsa_codec.specs.Prefix.{Net, mask_of_len}
-use Rattle.lsdb.specs.KeyRanges.{HaveWidths, KeyAt, is_between}
+use Rattle.lsdb.specs.KeyRanges.{KeyAt}
 use Rattle.lsdb.specs.Slots.{Slots, slot_at}
 use Rattle.lsdb.specs.PrefixSlots.{prefix_of}
 use Rattle.edit_history.specs.declared.lookup.Wanted.{Wanted}
 use Rattle.edit_history.specs.declared.lookup.Wanted.TheVariants as wanted
 use Rattle.edit_history.specs.steps.Plans.{is_wanted, passes, slot_of}
-
--- each LSA that passes a test has a key from one to another
-abbrev pub HaveKeysBetween : (List ℕ → Bool) → Key → Key → Type 0
-HaveKeysBetween test low high = (lsa : List ℕ) → HaveWidths lsa → test lsa ≡ true → is_between low high (key_of lsa) ≡ true
 
 -- one router originated each LSA that passes a test, and for one prefix
 abbrev pub AreOriginatedFor : RouterId → Net → (List ℕ → Bool) → Type 0

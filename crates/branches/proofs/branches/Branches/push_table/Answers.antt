@@ -1,16 +1,14 @@
-use Rattle.std.proofs.Common.{◌≡◌, ◌++◌, ◌∙◌, ℕ, ap, false, sym, subst}
+use Rattle.std.proofs.Common.{◌≡◌, ◌++◌, ◌∙◌, ℕ, ap, sym, subst}
 use Rattle.std.specs.Prelude.{OnOk}
 use Rattle.std.specs.BTreeMap.{BTreeMap}
 use Rattle.std.specs.String.{string_bytes}
-use Rattle.std.proofs.lemmas.Bool.{ne_eqb}
 use Rattle.lsdb.specs.Lists.{Lists}
 use Rattle.edit_history.specs.Session.{Session, start, state}
 use Rattle.recalculate.specs.Counts.{info_of}
 use Rattle.recalculate.specs.Planning.{PlannerValue}
 use Rattle.branches.specs.Branches.{Named, named_by, sessions_by, sessions_of}
-use Rattle.branches.specs.steps.Planners.{has_planner}
 use Rattle.branches.specs.Replies.{router_text}
-use Rattle.branches.proofs.BranchSessions.{base_of, first_base, not_named, one_base, session_of_named, shown_some, the_named, written, written_same}
+use Rattle.branches.proofs.BranchSessions.{first_base, not_named, session_of_named, still_one_base, the_named, written_same}
 use Rattle.branches.proofs.branches.Branches.push_table.Goals as goal
 
 pub invariant_of-self : goal.invariant_of-self
@@ -27,16 +25,11 @@ returns-then-branch-eq0-clause-kept g c =
 
 pub invariant_of-self-in-Some : goal.invariant_of-self-in-Some
 invariant_of-self-in-Some g c =
-    let w = c.push_table_now-in-Some.new.planner in
-    let old = c.self.inside.others in
-    let new = c.get_mut.follows.lender w in
-    let branch = c.args.branch in
-    let planner = c.in-Some.planner.now in
-    let was = c.in-Some.ensures.value in
-    let named : Named = named_by c.self.inside.first old.entries in
-    let one = c.self.invariant.0 in
-    let base = ap (λ (s : Session). s.base) c.push_table_now-in-Some.ensures.kept ∙ base_of named branch planner.session (shown_some old.entries branch planner was) one in
-    (one_base named (sessions_by new.entries) branch w.session base (written old new branch planner w was (c.get_mut.follows.holds w)) one, c.self.invariant.1)
+    let w = c.push_table_now-in-Some.new.planner in (
+      still_one_base c.self.inside.first c.self.inside.others (c.get_mut.follows.lender w) c.args.branch c.in-Some.planner.now w c.in-Some.ensures.value
+          (c.get_mut.follows.holds w) (ap (λ (s : Session). s.base) c.push_table_now-in-Some.ensures.kept) c.self.invariant.0,
+      c.self.invariant.1,
+    )
 
 pub returns-in-Some-clause-kept : goal.returns-in-Some-clause-kept
 returns-in-Some-clause-kept g c =
@@ -51,15 +44,13 @@ pub returns-in-Some-clause-text : goal.returns-in-Some-clause-text
 returns-in-Some-clause-text g c =
     subst (λ (s : Session). OnOk c.push_table_now-in-Some.result (string_bytes c.push_table_now-in-Some.new.text ≡ string_bytes c.args.text.now
     ++ router_text (state s) c.args.router))
-    (sym (session_of_named c.self.inside.first c.self.inside.others.entries c.args.branch c.in-Some.planner.now
-    (ne_eqb c.args.branch 0 c.if-branch-eq0.false) c.in-Some.ensures.value)
-    ∙ ap (λ (n : Named). sessions_of n c.args.branch) c.self.view_is)
+    (session_of_named c.self.inside.first c.self.inside.others.entries c.args.branch _ c.self.view_is c.in-Some.planner.now
+    c.if-branch-eq0.false c.in-Some.ensures.value)
     c.push_table_now-in-Some.ensures.text
 
 pub begin_with_table-requires-clause-new : goal.begin_with_table-requires-clause-new
 begin_with_table-requires-clause-new g c =
-    subst (λ (m : BTreeMap ℕ PlannerValue). has_planner (named_by c.self.inside.first m.entries) c.args.branch ≡ false) (sym c.get_mut.follows.holds-at-none)
-    (not_named c.self.inside.first c.self.inside.others.entries c.args.branch (ne_eqb c.args.branch 0 c.if-branch-eq0.false) c.in-None.ensures.value)
+    not_named c.self.inside.first c.self.inside.others _ c.args.branch c.get_mut.follows.holds-at-none c.if-branch-eq0.false c.in-None.ensures.value
 
 pub returns-in-None-clause-text : goal.returns-in-None-clause-text
 returns-in-None-clause-text g c =

@@ -6,11 +6,10 @@ use Rattle.lsdb.specs.Lists.{Lists}
 use Rattle.edit_history.specs.Session.{Session, start}
 use Rattle.recalculate.specs.Counts.{info_of}
 use Rattle.recalculate.specs.Planning.{PlannerValue}
-use Rattle.branches.specs.Branches.{Named, named_by, sessions_by, sessions_of, with_session}
-use Rattle.branches.specs.steps.Planners.{has_planner}
+use Rattle.branches.specs.Branches.{Named, named_by, sessions_of, with_session}
 use Rattle.branches.specs.Replies.{after, reply_to, said_by}
-use Rattle.branches.proofs.BranchSessions.{the_named, first_goes_on, first_base, not_named, one_base, session_of_named, shown_some, written}
-use Rattle.branches.proofs.BranchSessions.{written_on, written_same, base_of, on_ok, on_err}
+use Rattle.branches.proofs.BranchSessions.{the_named, first_goes_on, first_base, not_named, session_of_named, still_one_base}
+use Rattle.branches.proofs.BranchSessions.{written_on, written_same, on_ok, on_err}
 use Rattle.branches.proofs.branches.Branches.step.Goals as goal
 
 pub invariant_of-self : goal.invariant_of-self
@@ -31,16 +30,11 @@ returns-then-branch-eq0-clause-sessions g c =
 
 pub invariant_of-self-in-Some : goal.invariant_of-self-in-Some
 invariant_of-self-in-Some g c =
-    let w = c.execute-in-Some.new.planner in
-    let old = c.self.inside.others in
-    let new = c.get_mut.follows.lender w in
-    let branch = c.args.branch in
-    let planner = c.in-Some.planner.now in
-    let was = c.in-Some.ensures.value in
-    let named : Named = named_by c.self.inside.first old.entries in
-    let one = c.self.invariant.0 in
-    let base = c.execute-in-Some.ensures.base ∙ base_of named branch planner.session (shown_some old.entries branch planner was) one in
-    (one_base named (sessions_by new.entries) branch w.session base (written old new branch planner w was (c.get_mut.follows.holds w)) one, c.self.invariant.1)
+    let w = c.execute-in-Some.new.planner in (
+      still_one_base c.self.inside.first c.self.inside.others (c.get_mut.follows.lender w) c.args.branch c.in-Some.planner.now w c.in-Some.ensures.value
+          (c.get_mut.follows.holds w) c.execute-in-Some.ensures.base c.self.invariant.0,
+      c.self.invariant.1,
+    )
 
 pub returns-in-Some-clause-sessions : goal.returns-in-Some-clause-sessions
 returns-in-Some-clause-sessions g c =
@@ -68,15 +62,13 @@ returns-in-Some-clause-kept g c =
 pub returns-in-Some-clause-reply : goal.returns-in-Some-clause-reply
 returns-in-Some-clause-reply g c =
     subst (λ (s : Session). IfOk c.execute-in-Some.result (λ reply. said_by reply ≡ reply_to s c.args.command.now))
-    (sym (session_of_named c.self.inside.first c.self.inside.others.entries c.args.branch c.in-Some.planner.now
-    (ne_eqb c.args.branch 0 c.if-branch-eq0.false) c.in-Some.ensures.value)
-    ∙ ap (λ (n : Named). sessions_of n c.args.branch) c.self.view_is)
+    (session_of_named c.self.inside.first c.self.inside.others.entries c.args.branch _ c.self.view_is c.in-Some.planner.now
+    c.if-branch-eq0.false c.in-Some.ensures.value)
     c.execute-in-Some.ensures.reply
 
 pub step_first-requires-clause-new : goal.step_first-requires-clause-new
 step_first-requires-clause-new g c =
-    subst (λ (m : BTreeMap ℕ PlannerValue). has_planner (named_by c.self.inside.first m.entries) c.args.branch ≡ false) (sym c.get_mut.follows.holds-at-none)
-    (not_named c.self.inside.first c.self.inside.others.entries c.args.branch (ne_eqb c.args.branch 0 c.if-branch-eq0.false) c.in-None.ensures.value)
+    not_named c.self.inside.first c.self.inside.others _ c.args.branch c.get_mut.follows.holds-at-none c.if-branch-eq0.false c.in-None.ensures.value
 
 pub returns-in-None-clause-reply : goal.returns-in-None-clause-reply
 returns-in-None-clause-reply g c =
