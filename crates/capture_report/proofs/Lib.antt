@@ -1,8 +1,7 @@
 mod AreaSets
 pub mod Inputs
-pub mod NumberSets
 pub mod Parts
 mod PlaceOrder
-mod PlaceSets
+mod Sets
 mod OneMore
 mod NewerHeaders

@@ -2,9 +2,7 @@
 use Rattle.std.proofs.Common.{◌≡◌, Bool, true, false, List, [], ◌∷◌, Option, Some, None, refl, sym, ap, subst, ◌∙◌}
 use Rattle.std.specs.Prelude.{not, ◌&&◌, ◌||◌, is_some, if◌then◌else◌}
 use Rattle.std.specs.BTreeMap.{BTreeMap, get}
-use Rattle.std.specs.BTreeSet.{BTreeSet, IsFromIterResult}
 use Rattle.std.specs.List.{filter_map, cons_option, list_any}
-use Rattle.std.specs.List.Sorted.{IsStrictlySortedBy}
 use Rattle.std.specs.Ordering.{eq_by_cmp}
 use Rattle.std.specs.declared.cmp.Ordering.{Ordering}
 use Rattle.std.proofs.lemmas.List.Folds.{list_any-append}
@@ -15,7 +13,7 @@ use Rattle.lsa_instances.specs.Headers.{is_at_max_age}
 use Rattle.lsa_instances.specs.Order.{place_cmp}
 use Rattle.network_files.specs.declared.parsed_file.ParsedFile.{ParsedFile}
 use Rattle.capture_report.specs.Newer.{AreNewer, Instance, headers_of, instance_named, is_newer, is_same_lsa, shown_of}
-use Rattle.capture_report.specs.Unseen.{has}
+use Rattle.capture_report.specs.Sets.{AreOnce, has}
 use Rattle.capture_report.specs.steps.Newest.{AreNewest, all_newer, is_over, is_over_some, newer_by}
 use Rattle.capture_report.specs.steps.PlaceOrder.{derived_cmp}
 use Rattle.capture_report.proofs.OneMore.{and_false, and_true}
@@ -38,8 +36,8 @@ module _ (shown : List Instance) (newest : BTreeMap Place InstanceId) (known : A
     is_one one = is_same_lsa lsa one && is_newer shown one
 
     one_header : (one : Instance) (flushed over : Bool) (more : List Place) (others : List Instance) → over ≡ is_newer shown one
-        → has lsa more ≡ list_any is_one others
-        → has lsa (cons_option (if not flushed && over then Some one.0 else None) more)
+        → has place_cmp lsa more ≡ list_any is_one others
+        → has place_cmp lsa (cons_option (if not flushed && over then Some one.0 else None) more)
         ≡ list_any is_one (cons_option (if flushed then None else Some one) others)
     one_header one true over more others e h = h
     one_header one false true more others e h =
@@ -49,36 +47,34 @@ module _ (shown : List Instance) (newest : BTreeMap Place InstanceId) (known : A
         h ∙ ap (λ b. b || list_any is_one others) (sym (and_false (is_same_lsa lsa one)) ∙ ap (λ b. is_same_lsa lsa one && b) e)
 
     of_headers : (headers : List Header)
-        → has lsa (filter_map (newer_by (get place_cmp newest)) headers) ≡ list_any is_one (filter_map instance_named headers)
+        → has place_cmp lsa (filter_map (newer_by (get place_cmp newest)) headers) ≡ list_any is_one (filter_map instance_named headers)
     of_headers [] = refl
     of_headers (header ∷ headers) =
         let one : Instance = (header.place, header.instance) in
         one_header one (is_at_max_age header) (is_over_some (get place_cmp newest header.place) header.instance)
         (filter_map (newer_by (get place_cmp newest)) headers) (filter_map instance_named headers) (newer_if one) (of_headers headers)
 
-    of_files : {A : Type 0} (files : List (ParsedFile A)) → has lsa (all_newer (get place_cmp newest) files) ≡ list_any is_one (headers_of files)
+    of_files : {A : Type 0} (files : List (ParsedFile A)) → has place_cmp lsa (all_newer (get place_cmp newest) files) ≡ list_any is_one (headers_of files)
     of_files [] = refl
     of_files (file ∷ files) =
         list_any-append (eq_by_cmp place_cmp lsa) (filter_map (newer_by (get place_cmp newest)) file.headers.items) (all_newer (get place_cmp newest) files)
-        ∙ ap (λ b. b || has lsa (all_newer (get place_cmp newest) files)) (of_headers file.headers.items)
+        ∙ ap (λ b. b || has place_cmp lsa (all_newer (get place_cmp newest) files)) (of_headers file.headers.items)
         ∙ ap (λ b. list_any is_one (filter_map instance_named file.headers.items) || b) (of_files files)
         ∙ sym (list_any-append is_one (filter_map instance_named file.headers.items) (headers_of files))
 
-are_newer : {A : Type 0} (files : List (ParsedFile A)) (newest : BTreeMap Place InstanceId)
-    → (lsas : List Place) (set : BTreeSet Place) (left : List Place)
-    → AreNewest (shown_of files) newest → lsas ≡ all_newer (get place_cmp newest) files → IsFromIterResult place_cmp lsas set → left ≡ set.keys
+are_newer : {A : Type 0} (files : List (ParsedFile A)) (newest : BTreeMap Place InstanceId) (lsas left : List Place)
+    → AreNewest (shown_of files) newest → lsas ≡ all_newer (get place_cmp newest) files → AreOnce place_cmp lsas left
     → AreNewer (headers_of files) (shown_of files) left
-are_newer files newest lsas set left known all made e = record {
-  which = λ lsa. ap (has lsa) e ∙ made.0 lsa ∙ ap (has lsa) all ∙ of_files (shown_of files) newest known lsa files;
-  order = subst (λ l. IsStrictlySortedBy place_cmp l) (sym e) made.1;
+are_newer files newest lsas left known all once = record {
+  which = λ lsa. once.which lsa ∙ ap (has place_cmp lsa) all ∙ of_files (shown_of files) newest known lsa files;
+  order = once.order;
 }
 
 -- the same of a map and a set in the derived order
-pub are_newer_derived : {A : Type 0} (files : List (ParsedFile A)) (newest : BTreeMap Place InstanceId)
-    → (lsas : List Place) (set : BTreeSet Place) (left : List Place)
-    → AreNewest (shown_of files) newest → lsas ≡ all_newer (get derived_cmp newest) files → IsFromIterResult derived_cmp lsas set → left ≡ set.keys
+pub are_newer_derived : {A : Type 0} (files : List (ParsedFile A)) (newest : BTreeMap Place InstanceId) (lsas left : List Place)
+    → AreNewest (shown_of files) newest → lsas ≡ all_newer (get derived_cmp newest) files → AreOnce derived_cmp lsas left
     → AreNewer (headers_of files) (shown_of files) left
-are_newer_derived files newest lsas set left known all made e =
+are_newer_derived files newest lsas left known all once =
     let P : (Place → Place → Ordering) → Type 0 = λ cmp. lsas ≡ all_newer (get cmp newest) files in
-    let Q : (Place → Place → Ordering) → Type 0 = λ cmp. IsFromIterResult cmp lsas set in
-    are_newer files newest lsas set left known (subst P same_cmp all) (subst Q same_cmp made) e
+    let Q : (Place → Place → Ordering) → Type 0 = λ cmp. AreOnce cmp lsas left in
+    are_newer files newest lsas left known (subst P same_cmp all) (subst Q same_cmp once)

@@ -5,7 +5,7 @@ use Rattle.std.specs.List.Sorted.{IsStrictlySortedBy}
 use Rattle.lsa_codec.specs.declared.address.AreaId.{AreaId}
 use Rattle.lsa_codec.specs.Order.{area_cmp}
 use Rattle.lsa_instances.specs.Areas.{is_stub_kind}
-use Rattle.capture_report.specs.Areas.{has}
+use Rattle.capture_report.specs.Sets.{has}
 use Rattle.lsa_instances.specs.declared.area.AreaReport.{AreaReport}
 
 -- the area, where it is reported as a stub area, or as another one
@@ -15,5 +15,5 @@ reported_id false area = if is_stub_kind area.kind then None else Some area.id
 
 -- the areas that are reported both as stub areas and as others, each once, in order
 pub record AreContradictions (areas : List AreaReport) (both : List AreaId) : Type 0 where
-  pub which : (id : AreaId) → has id both ≡ (has id (filter_map (reported_id false) areas) && has id (filter_map (reported_id true) areas))
+  pub which : (id : AreaId) → has area_cmp id both ≡ (has area_cmp id (filter_map (reported_id false) areas) && has area_cmp id (filter_map (reported_id true) areas))
   pub order : IsStrictlySortedBy area_cmp both

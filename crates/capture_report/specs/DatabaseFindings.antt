@@ -1,8 +1,7 @@
 -- What a database lacks, and what the planner leaves out of it.
-use Rattle.std.specs.Prelude.{◌≡◌, ◌&&◌, ℕ, Bool, not, List, ◌++◌, map}
-use Rattle.std.specs.List.{AllZip, filter_map, flat_map, list_any}
-use Rattle.std.specs.List.Sorted.{IsStrictlySortedBy}
-use Rattle.std.specs.Ordering.{nat_cmp, eq_by_cmp}
+use Rattle.std.specs.Prelude.{◌≡◌, ℕ, List, ◌++◌, map}
+use Rattle.std.specs.List.{AllZip, filter_map, flat_map}
+use Rattle.std.specs.Ordering.{nat_cmp}
 use Rattle.findings.specs.declared.finding.Finding.{Finding}
 use Rattle.findings.specs.declared.finding.Finding.TheVariants.{MissingAsbr, MissingNetwork, MissingRouter}
 use Rattle.lsa_codec.specs.declared.address.AreaId.{AreaId}
@@ -11,15 +10,7 @@ use Rattle.lsdb.specs.declared.section.Section.TheVariants.{Area, AsWide}
 use Rattle.lsdb.specs.Lists.{AreaHead, Lists, areas_of, lsas_of}
 use Rattle.capture_report.specs.Naming.{routers_named, networks_named, asbr_named, router_described, network_described}
 use Rattle.capture_report.specs.LeftOut.{all_left_out}
-
--- whether the number is one of these
-abbrev pub has : ℕ → List ℕ → Bool
-has id ids = list_any (eq_by_cmp nat_cmp id) ids
-
--- those that are named and not described, each once, in rising order
-pub record AreMissing (named described missing : List ℕ) : Type 0 where
-  pub which : (id : ℕ) → has id missing ≡ (not (has id described) && has id named)
-  pub order : IsStrictlySortedBy nat_cmp missing
+use Rattle.capture_report.specs.Sets.{AreMissing}
 
 -- ---- one area
 
@@ -33,8 +24,8 @@ network_finding area id = MissingNetwork area (record { 0 = id })
 pub record AreFindingsOfArea (area : AreaId) (lsas : List (List ℕ)) (findings : List Finding) : Type 0 where
   pub routers : List ℕ
   pub networks : List ℕ
-  pub no_router_lsa : AreMissing (flat_map routers_named lsas) (filter_map router_described lsas) routers
-  pub no_network_lsa : AreMissing (flat_map networks_named lsas) (filter_map network_described lsas) networks
+  pub no_router_lsa : AreMissing nat_cmp (flat_map routers_named lsas) (filter_map router_described lsas) routers
+  pub no_network_lsa : AreMissing nat_cmp (flat_map networks_named lsas) (filter_map network_described lsas) networks
   pub whole : findings ≡ map (router_finding area) routers ++ map (network_finding area) networks ++ all_left_out (scopes.Area area) lsas
 
 -- the LSAs of an area
@@ -56,7 +47,7 @@ routers_anywhere db = flat_map (λ area. filter_map router_described (lsas_of_ar
 -- the AS boundary routers that are missing in all areas, and what is left out of AS scope
 pub record AreFindingsOfAs (db : Lists) (findings : List Finding) : Type 0 where
   pub routers : List ℕ
-  pub no_router_lsa : AreMissing (filter_map asbr_named (lsas_of AsWide db)) (routers_anywhere db) routers
+  pub no_router_lsa : AreMissing nat_cmp (filter_map asbr_named (lsas_of AsWide db)) (routers_anywhere db) routers
   pub whole : findings ≡ map asbr_finding routers ++ all_left_out scopes.AsWide (lsas_of AsWide db)
 
 -- ---- the database

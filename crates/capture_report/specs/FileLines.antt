@@ -1,10 +1,12 @@
 -- What a file contains, as a line.
 use Rattle.std.specs.Prelude.{◌≡◌, ℕ, List, ◌++◌, codes, decimal, length}
 use Rattle.lsa_codec.specs.declared.address.AreaId.{AreaId}
+use Rattle.lsa_codec.specs.Order.{area_cmp}
 use Rattle.network_files.specs.declared.kind.FileKind.{FileKind}
 use Rattle.network_files.specs.declared.kind.FileKind.TheVariants.{Capture, Json, Printed, Walk}
 use Rattle.network_files.specs.declared.parsed_file.ParsedFile.{ParsedFile}
-use Rattle.capture_report.specs.Areas.{AreOnce, reported_areas}
+use Rattle.capture_report.specs.Areas.{reported_areas}
+use Rattle.capture_report.specs.Sets.{AreOnce}
 
 -- the words for the kind of a file
 abbrev pub kind_name : FileKind → List ℕ
@@ -24,5 +26,5 @@ line_text name file areas = line_words name (kind_name file.kind) (length file.o
 -- the line of a file, with the number of its areas, each counted once
 pub record IsLine {A : Type 0} (name : List ℕ) (file : ParsedFile A) (line : List ℕ) : Type 0 where
   pub areas : List AreaId
-  pub once : AreOnce (reported_areas file) areas
+  pub once : AreOnce area_cmp (reported_areas file) areas
   pub spelled : line ≡ line_text name file (length areas)

@@ -1,3 +1,4 @@
+pub mod Sets
 pub mod Areas
 pub mod Contradictions
 pub mod NoKind

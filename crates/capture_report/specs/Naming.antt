@@ -66,10 +66,14 @@ asbr_named lsa =
 
 -- ---- what an LSA describes, at any age: a router or network whose LSA was flushed is not missing
 
--- the Link State ID of a router-LSA is the Router ID (12.1.4)
-abbrev pub router_described : List ℕ → Option ℕ
-router_described lsa = if kind_of lsa == router_lsa then Some (link_state_id_of lsa) else None
+-- the Link State ID of an LSA of this type
+abbrev pub described_by : ℕ → List ℕ → Option ℕ
+described_by kind lsa = if kind_of lsa == kind then Some (link_state_id_of lsa) else None
 
--- the Link State ID of a network-LSA is the address of the Designated Router (12.1.4)
+-- that of a router-LSA is the Router ID (12.1.4)
+abbrev pub router_described : List ℕ → Option ℕ
+router_described lsa = described_by router_lsa lsa
+
+-- that of a network-LSA is the address of the Designated Router (12.1.4)
 abbrev pub network_described : List ℕ → Option ℕ
-network_described lsa = if kind_of lsa == network_lsa then Some (link_state_id_of lsa) else None
+network_described lsa = described_by network_lsa lsa

@@ -11,7 +11,7 @@ use Rattle.lsa_instances.specs.Headers.{is_at_max_age}
 use Rattle.lsa_instances.specs.Instance.{instance_id_cmp, instance_id_of}
 use Rattle.lsa_instances.specs.Order.{place_cmp, place_of}
 use Rattle.network_files.specs.declared.parsed_file.ParsedFile.{ParsedFile}
-use Rattle.capture_report.specs.Unseen.{has}
+use Rattle.capture_report.specs.Sets.{has}
 
 -- an instance of an LSA, whatever its age
 abbrev pub Instance : Type 0
@@ -45,5 +45,5 @@ is_newer shown one = list_any (is_same_lsa one.0) shown && list_all (is_other_or
 
 -- the LSAs of which a header is newer than all that is shown, each once, in order
 pub record AreNewer (headers shown : List Instance) (newer : List Place) : Type 0 where
-  pub which : (lsa : Place) → has lsa newer ≡ list_any (λ one. is_same_lsa lsa one && is_newer shown one) headers
+  pub which : (lsa : Place) → has place_cmp lsa newer ≡ list_any (λ one. is_same_lsa lsa one && is_newer shown one) headers
   pub order : IsStrictlySortedBy place_cmp newer

@@ -1,16 +1,13 @@
-//! Areas, each once.
+//! The areas in a file.
 
 ghost use Rattle.std.specs.Prelude.{◌≡◌, IfOk, map};
-ghost use Rattle.std.specs.BTreeSet.{IsFromIterResult};
 ghost use Rattle.std.specs.List.{filter_map};
-ghost use Rattle.lsa_codec.specs.Order.{area_cmp};
 ghost use Rattle.capture_report.specs.Areas.{area_in, reported_areas};
 
 use lsa_codec::AreaId;
 use lsa_instances::{AreaReport, Observation, Scope};
 use network_files::ParsedFile;
 use std::alloc::{AllocError, Allocator};
-use std::collections::BTreeSet;
 
 /// The area of a scope.
 fn area_in(scope: Scope) -> Option<AreaId>
@@ -57,14 +54,4 @@ pub(crate) fn reported_areas<A: Allocator + Copy>(
     let of_lsas = areas_of_lsas(alloc, &file.observations)?;
     areas.extend_from_slice(&of_lsas)?;
     Ok(areas)
-}
-
-/// Areas, each once, in order.
-pub(crate) fn once<A: Allocator + Copy>(
-    alloc: A,
-    areas: Vec<AreaId, A>,
-) -> Result<BTreeSet<AreaId, A>, AllocError>
-    ensures { IfOk result (λ set. IsFromIterResult area_cmp areas.items set) }
-{
-    areas.into_iter().collect(alloc)
 }

@@ -1,20 +1,21 @@
 //! What a database lacks.
 
-ghost use Rattle.std.specs.Prelude.{◌≡◌, ◌++◌, IfOk, OnOk, map};
+ghost use Rattle.std.specs.Prelude.{◌≡◌, IfOk, map};
 ghost use Rattle.std.specs.List.{AllZip, filter_map, flat_map};
+ghost use Rattle.std.specs.Ordering.{nat_cmp};
 ghost use Rattle.lsdb.specs.Lists.{areas_of, lsas_of};
 ghost use Rattle.lsdb.specs.Slots.{lists_of};
 ghost use Rattle.lsdb.specs.declared.section.Section.TheVariants.{Area, AsWide};
-ghost use Rattle.capture_report.specs.DatabaseFindings.{AreDatabaseFindings, AreFindingsOfArea, AreFindingsOfAs, AreMissing, IsPartOf, asbr_finding, network_finding, router_finding, routers_anywhere};
+ghost use Rattle.capture_report.specs.DatabaseFindings.{AreDatabaseFindings, AreFindingsOfArea, AreFindingsOfAs, IsPartOf, routers_anywhere};
+ghost use Rattle.capture_report.specs.Sets.{AreMissing};
 ghost use Rattle.capture_report.specs.Naming.{asbr_named, network_described, networks_named, router_described, routers_named};
 
+use crate::each::put_each;
 use crate::left_out::put_all_left_out;
-use crate::missing::missing;
-use crate::naming::{
-    asbrs_named, networks_described, networks_named, routers_described, routers_named,
-};
+use crate::naming::{asbrs_named, described, networks_named, routers_named};
+use crate::sets::missing;
 use findings::Finding;
-use lsa_codec::{Addr, AreaId, RouterId};
+use lsa_codec::{Addr, AreaId, NETWORK_LSA, ROUTER_LSA, RouterId};
 use lsa_instances::Scope;
 use lsdb::{Database, Section};
 use std::alloc::{AllocError, Allocator};
@@ -25,13 +26,13 @@ fn missing_routers<A: Allocator + Copy>(
     database: &Database<A>,
     area: AreaId,
 ) -> Result<Vec<u32, A>, AllocError>
-    ensures { IfOk result (λ routers. AreMissing
+    ensures { IfOk result (λ routers. AreMissing nat_cmp
         (flat_map routers_named (lsas_of (Area area) (lists_of database.now)))
         (filter_map router_described (lsas_of (Area area) (lists_of database.now)))
         routers.items) }
 {
     let named = routers_named(alloc, database.lsas(Section::Area(area)))?;
-    let described = routers_described(alloc, database.lsas(Section::Area(area)))?;
+    let described = described(alloc, ROUTER_LSA, database.lsas(Section::Area(area)))?;
     missing(alloc, &named, &described)
 }
 
@@ -41,13 +42,13 @@ fn missing_networks<A: Allocator + Copy>(
     database: &Database<A>,
     area: AreaId,
 ) -> Result<Vec<u32, A>, AllocError>
-    ensures { IfOk result (λ networks. AreMissing
+    ensures { IfOk result (λ networks. AreMissing nat_cmp
         (flat_map networks_named (lsas_of (Area area) (lists_of database.now)))
         (filter_map network_described (lsas_of (Area area) (lists_of database.now)))
         networks.items) }
 {
     let named = networks_named(alloc, database.lsas(Section::Area(area)))?;
-    let described = networks_described(alloc, database.lsas(Section::Area(area)))?;
+    let described = described(alloc, NETWORK_LSA, database.lsas(Section::Area(area)))?;
     missing(alloc, &named, &described)
 }
 
@@ -61,7 +62,7 @@ fn routers_anywhere<A: Allocator + Copy>(
     let mut found = Vec::new(alloc);
     for i in 0..database.area_count() {
         let (area, _is_stub) = database.area(i);
-        let described = routers_described(alloc, database.lsas(Section::Area(area)))?;
+        let described = described(alloc, ROUTER_LSA, database.lsas(Section::Area(area)))?;
         found.extend_from_slice(&described)?;
     }
     Ok(found)
@@ -72,57 +73,13 @@ fn missing_asbrs<A: Allocator + Copy>(
     alloc: A,
     database: &Database<A>,
 ) -> Result<Vec<u32, A>, AllocError>
-    ensures { IfOk result (λ routers. AreMissing
+    ensures { IfOk result (λ routers. AreMissing nat_cmp
         (filter_map asbr_named (lsas_of AsWide (lists_of database.now)))
         (routers_anywhere (lists_of database.now)) routers.items) }
 {
     let named = asbrs_named(alloc, database.lsas(Section::AsWide))?;
     let described = routers_anywhere(alloc, database)?;
     missing(alloc, &named, &described)
-}
-
-/// Adds the routers that are missing in an area.
-fn put_routers<A: Allocator + Copy>(
-    findings: &mut Vec<Finding, A>,
-    area: AreaId,
-    routers: &[u32],
-) -> Result<(), AllocError>
-    ensures { OnOk result
-        (findings.new.items ≡ findings.old.items ++ map (router_finding area) routers.now) }
-{
-    for id in routers {
-        findings.push(Finding::MissingRouter(area, RouterId(*id)))?;
-    }
-    Ok(())
-}
-
-/// Adds the networks that are missing in an area.
-fn put_networks<A: Allocator + Copy>(
-    findings: &mut Vec<Finding, A>,
-    area: AreaId,
-    networks: &[u32],
-) -> Result<(), AllocError>
-    ensures { OnOk result
-        (findings.new.items ≡ findings.old.items ++ map (network_finding area) networks.now) }
-{
-    for id in networks {
-        findings.push(Finding::MissingNetwork(area, Addr(*id)))?;
-    }
-    Ok(())
-}
-
-/// Adds the AS boundary routers that are missing.
-fn put_asbrs<A: Allocator + Copy>(
-    findings: &mut Vec<Finding, A>,
-    routers: &[u32],
-) -> Result<(), AllocError>
-    ensures { OnOk result (findings.new.items
-        ≡ findings.old.items ++ map asbr_finding routers.now) }
-{
-    for id in routers {
-        findings.push(Finding::MissingAsbr(RouterId(*id)))?;
-    }
-    Ok(())
 }
 
 /// The findings of an area.
@@ -137,8 +94,12 @@ fn findings_of_area<A: Allocator + Copy>(
     let routers = missing_routers(alloc, database, area)?;
     let networks = missing_networks(alloc, database, area)?;
     let mut findings = Vec::new(alloc);
-    put_routers(&mut findings, area, &routers)?;
-    put_networks(&mut findings, area, &networks)?;
+    put_each(&mut findings, &routers, |id| {
+        Finding::MissingRouter(area, RouterId(id))
+    })?;
+    put_each(&mut findings, &networks, |id| {
+        Finding::MissingNetwork(area, Addr(id))
+    })?;
     put_all_left_out(
         &mut findings,
         Scope::Area(area),
@@ -157,7 +118,9 @@ fn findings_of_as<A: Allocator + Copy>(
 {
     let routers = missing_asbrs(alloc, database)?;
     let mut findings = Vec::new(alloc);
-    put_asbrs(&mut findings, &routers)?;
+    put_each(&mut findings, &routers, |id| {
+        Finding::MissingAsbr(RouterId(id))
+    })?;
     put_all_left_out(&mut findings, Scope::AsWide, database, Section::AsWide)?;
     Ok(findings)
 }

@@ -1,19 +1,16 @@
 //! The findings in a file.
 
-ghost use Rattle.std.specs.Prelude.{◌≡◌, List, IfOk, map};
+ghost use Rattle.std.specs.Prelude.{◌≡◌, IfOk};
 ghost use Rattle.std.specs.List.{filter_map};
-ghost use Rattle.findings.specs.declared.finding.Finding.TheVariants.{Nssa};
-ghost use Rattle.lsa_codec.specs.declared.address.AreaId.{AreaId as AnyAreaId};
-ghost use Rattle.capture_report.specs.Areas.{AreOnce};
 ghost use Rattle.capture_report.specs.FileFindings.{AreFileFindings, reported_nssa};
 
-use crate::areas::once;
+use crate::each::put_each;
+use crate::sets::once;
 use findings::Finding;
 use lsa_codec::AreaId;
 use lsa_instances::{AreaKind, AreaReport};
 use network_files::ParsedFile;
 use std::alloc::{AllocError, Allocator};
-use std::collections::BTreeSet;
 
 /// The area, if it is reported to be not-so-stubby.
 fn reported_nssa(area: AreaReport) -> Option<AreaId>
@@ -38,29 +35,6 @@ fn reported_nssas<A: Allocator + Copy>(
         .collect(alloc)
 }
 
-/// A finding for each of these areas.
-fn nssas_in<A: Allocator + Copy>(
-    alloc: A,
-    ids: &BTreeSet<AreaId, A>,
-) -> Result<Vec<Finding, A>, AllocError>
-    ensures { IfOk result (λ findings. findings.items ≡ map Nssa ids.now.keys) }
-{
-    ids.iter().map(|id| Finding::Nssa(*id)).collect(alloc)
-}
-
-/// The not-so-stubby areas, each once, in rising order.
-fn nssa_findings<A: Allocator + Copy>(
-    alloc: A,
-    areas: &[AreaReport],
-) -> Result<Vec<Finding, A>, AllocError>
-    ensures { IfOk result (λ findings. (ids : List AnyAreaId)
-        × (AreOnce (filter_map reported_nssa areas.now) ids × (findings.items ≡ map Nssa ids))) }
-{
-    let all = reported_nssas(alloc, areas)?;
-    let ids = once(alloc, all)?;
-    nssas_in(alloc, &ids)
-}
-
 /// The findings in a file: what cannot be used in it, or is missing, and after that the areas that
 /// it reports to be not-so-stubby, each once, in rising order.
 ///
@@ -73,9 +47,9 @@ pub fn file_findings<A: Allocator + Copy>(
 ) -> Result<Vec<Finding, A>, AllocError>
     ensures { IfOk result (λ findings. AreFileFindings file.now findings.items) }
 {
-    let mut nssas = nssa_findings(alloc, &file.areas)?;
-    let mut findings = Vec::new(alloc);
-    findings.extend_from_slice(&file.findings)?;
-    findings.append(&mut nssas)?;
+    let all = reported_nssas(alloc, &file.areas)?;
+    let nssas = once(alloc, &all)?;
+    let mut findings = Vec::from_slice(alloc, &file.findings)?;
+    put_each(&mut findings, &nssas, |area| Finding::Nssa(area))?;
     Ok(findings)
 }

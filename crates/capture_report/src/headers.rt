@@ -1,35 +1,14 @@
 //! The findings about LSAs that headers name.
 
-ghost use Rattle.std.specs.Prelude.{◌≡◌, IfOk, map};
-ghost use Rattle.findings.specs.declared.finding.Finding.TheVariants.{Newer, Unseen};
+ghost use Rattle.std.specs.Prelude.{IfOk};
 ghost use Rattle.capture_report.specs.HeaderFindings.{AreHeaderFindings};
 
+use crate::each::put_each;
 use crate::newer::newer_lsas;
-use crate::unseen::unseen_lsas;
+use crate::shown::unseen_lsas;
 use findings::Finding;
-use lsa_instances::Place;
 use network_files::ParsedFile;
 use std::alloc::{AllocError, Allocator};
-
-/// A finding for each LSA of which no file has an instance.
-fn unseen_findings<A: Allocator + Copy>(
-    alloc: A,
-    lsas: &[Place],
-) -> Result<Vec<Finding, A>, AllocError>
-    ensures { IfOk result (λ findings. findings.items ≡ map Unseen lsas.now) }
-{
-    lsas.iter().map(|lsa| Finding::Unseen(*lsa)).collect(alloc)
-}
-
-/// A finding for each LSA of which a newer instance is named.
-fn newer_findings<A: Allocator + Copy>(
-    alloc: A,
-    lsas: &[Place],
-) -> Result<Vec<Finding, A>, AllocError>
-    ensures { IfOk result (λ findings. findings.items ≡ map Newer lsas.now) }
-{
-    lsas.iter().map(|lsa| Finding::Newer(*lsa)).collect(alloc)
-}
 
 /// What headers show to be missing: a finding for each LSA that a header names and of which no file
 /// has an instance, and after these one for each LSA of which a header names a newer instance than
@@ -53,7 +32,8 @@ pub fn header_findings<A: Allocator + Copy>(
 {
     let unseen = unseen_lsas(alloc, files)?;
     let newer = newer_lsas(alloc, files)?;
-    let mut findings = unseen_findings(alloc, &unseen)?;
-    findings.append(&mut newer_findings(alloc, &newer)?)?;
+    let mut findings = Vec::new(alloc);
+    put_each(&mut findings, &unseen, |lsa| Finding::Unseen(lsa))?;
+    put_each(&mut findings, &newer, |lsa| Finding::Newer(lsa))?;
     Ok(findings)
 }

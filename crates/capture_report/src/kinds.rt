@@ -1,43 +1,16 @@
 //! The findings about the kinds of areas.
 
-ghost use Rattle.std.specs.Prelude.{◌≡◌, IfOk, map};
-ghost use Rattle.findings.specs.declared.finding.Finding.TheVariants.{BothKinds, NoKind};
+ghost use Rattle.std.specs.Prelude.{IfOk};
 ghost use Rattle.lsdb.specs.Slots.{lists_of};
 ghost use Rattle.capture_report.specs.AreaFindings.{AreAreaFindings};
 
 use crate::both_kinds::contradictions;
+use crate::each::put_each;
 use crate::no_kind::areas_without_kind;
 use findings::Finding;
-use lsa_codec::AreaId;
 use lsdb::Database;
 use network_files::ParsedFile;
 use std::alloc::{AllocError, Allocator};
-
-/// A finding for each area of which two kinds are reported.
-fn both_findings<A: Allocator + Copy>(
-    alloc: A,
-    areas: &[AreaId],
-) -> Result<Vec<Finding, A>, AllocError>
-    ensures { IfOk result (λ findings. findings.items ≡ map BothKinds areas.now) }
-{
-    areas
-        .iter()
-        .map(|area| Finding::BothKinds(*area))
-        .collect(alloc)
-}
-
-/// A finding for each area of which no kind is reported.
-fn no_kind_findings<A: Allocator + Copy>(
-    alloc: A,
-    areas: &[AreaId],
-) -> Result<Vec<Finding, A>, AllocError>
-    ensures { IfOk result (λ findings. findings.items ≡ map NoKind areas.now) }
-{
-    areas
-        .iter()
-        .map(|area| Finding::NoKind(*area))
-        .collect(alloc)
-}
 
 /// The areas that the files report both as stub areas and as others, and after these the areas of a
 /// database of which no file reports the kind; both in rising order, each once.
@@ -59,7 +32,8 @@ pub fn area_findings<A: Allocator + Copy>(
 {
     let both = contradictions(alloc, files)?;
     let neither = areas_without_kind(alloc, database, files)?;
-    let mut findings = both_findings(alloc, &both)?;
-    findings.append(&mut no_kind_findings(alloc, &neither)?)?;
+    let mut findings = Vec::new(alloc);
+    put_each(&mut findings, &both, |area| Finding::BothKinds(area))?;
+    put_each(&mut findings, &neither, |area| Finding::NoKind(area))?;
     Ok(findings)
 }

@@ -27,17 +27,17 @@ mod no_kind;
 mod headers;
 mod newer;
 mod shown;
-mod unseen;
 
 // What a database lacks (RFC 2328, 12.4).
 mod database;
-mod dump;
 mod left_out;
-mod missing;
 mod naming;
 
+// Sets of items, and a finding for each item.
+mod each;
+mod sets;
+
 pub use database::database_findings;
-pub use dump::dump_findings;
 pub use fault::RunFault;
 pub use file::file_findings;
 pub use headers::header_findings;

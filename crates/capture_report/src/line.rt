@@ -4,7 +4,8 @@ ghost use Rattle.std.specs.Prelude.{◌≡◌, IfOk};
 ghost use Rattle.std.specs.String.{string_bytes};
 ghost use Rattle.capture_report.specs.FileLines.{IsLine, kind_name, line_words};
 
-use crate::areas::{once, reported_areas};
+use crate::areas::reported_areas;
+use crate::sets::once;
 use network_files::{FileKind, ParsedFile};
 use std::alloc::{AllocError, Allocator};
 
@@ -52,6 +53,6 @@ pub fn file_line<A: Allocator + Copy>(
     let kind = kind_name(file.kind);
     let lsas = file.observations.len();
     let reported = reported_areas(alloc, file)?;
-    let areas = once(alloc, reported)?.len();
+    let areas = once(alloc, &reported)?.len();
     line_of(alloc, name, kind, lsas, areas)
 }

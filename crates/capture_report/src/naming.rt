@@ -3,11 +3,10 @@
 ghost use Rattle.std.specs.Prelude.{◌≡◌, IfOk, map};
 ghost use Rattle.std.specs.List.{filter_map, flat_map};
 ghost use Rattle.lsa_codec.specs.Views.{attached_of};
-ghost use Rattle.capture_report.specs.Naming.{router_of_link, network_of_link, routers_named, networks_named, asbr_named, router_described, network_described};
+ghost use Rattle.capture_report.specs.Naming.{router_of_link, network_of_link, routers_named, networks_named, asbr_named, described_by};
 
 use lsa_codec::{
-    ASBR_SUMMARY_LSA, Attached, EXTERNAL_LSA, Link, LinkKind, Links, Lsa, NETWORK_LSA, ROUTER_LSA,
-    SUMMARY_LSA,
+    ASBR_SUMMARY_LSA, Attached, EXTERNAL_LSA, Link, LinkKind, Links, Lsa, SUMMARY_LSA,
 };
 use lsdb::Lsas;
 use std::alloc::{AllocError, Allocator};
@@ -146,44 +145,25 @@ pub(crate) fn asbrs_named<A: Allocator + Copy>(
     lsas.filter_map(|lsa| asbr_named(lsa)).collect(alloc)
 }
 
-/// The router of a router-LSA.
-fn router_described<A: Allocator + Copy>(lsa: &Lsa<A>) -> Option<u32>
-    ensures { result ≡ router_described lsa.now }
+/// What an LSA of this type describes: its Link State ID.
+fn described_by<A: Allocator + Copy>(kind: u8, lsa: &Lsa<A>) -> Option<u32>
+    ensures { result ≡ described_by kind lsa.now }
 {
     let key = lsa.key();
-    if key.kind != ROUTER_LSA {
+    if key.kind != kind {
         return None;
     }
     Some(key.id.0)
 }
 
-/// The network of a network-LSA.
-fn network_described<A: Allocator + Copy>(lsa: &Lsa<A>) -> Option<u32>
-    ensures { result ≡ network_described lsa.now }
-{
-    let key = lsa.key();
-    if key.kind != NETWORK_LSA {
-        return None;
-    }
-    Some(key.id.0)
-}
-
-/// The routers that router-LSAs describe.
-pub(crate) fn routers_described<A: Allocator + Copy>(
+/// What LSAs of this type describe, one for each LSA.
+pub(crate) fn described<A: Allocator + Copy>(
     alloc: A,
+    kind: u8,
     lsas: Lsas<'_, A>,
 ) -> Result<Vec<u32, A>, AllocError>
-    ensures { IfOk result (λ ids. ids.items ≡ filter_map router_described lsas.entry) }
+    ensures { IfOk result (λ ids. ids.items ≡ filter_map (described_by kind) lsas.entry) }
 {
-    lsas.filter_map(|lsa| router_described(lsa)).collect(alloc)
-}
-
-/// The networks that network-LSAs describe.
-pub(crate) fn networks_described<A: Allocator + Copy>(
-    alloc: A,
-    lsas: Lsas<'_, A>,
-) -> Result<Vec<u32, A>, AllocError>
-    ensures { IfOk result (λ ids. ids.items ≡ filter_map network_described lsas.entry) }
-{
-    lsas.filter_map(|lsa| network_described(lsa)).collect(alloc)
+    lsas.filter_map(|lsa| described_by(kind, lsa))
+        .collect(alloc)
 }

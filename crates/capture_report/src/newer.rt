@@ -8,11 +8,11 @@ ghost use Rattle.capture_report.specs.steps.Newest.{AreNewest, all_newer, is_new
 ghost use Rattle.capture_report.specs.steps.Newest.{newer_by, newest_with};
 ghost use Rattle.capture_report.specs.steps.PlaceOrder.{derived_cmp};
 
-use crate::unseen::once;
+use crate::sets::once;
 use lsa_instances::{Header, InstanceId, Observation, Place, compare_instance_ids};
 use network_files::ParsedFile;
 use std::alloc::{AllocError, Allocator};
-use std::collections::{BTreeMap, BTreeSet};
+use std::collections::BTreeMap;
 
 /// The newest instance that is shown of each LSA.
 type Newest<A> = BTreeMap<Place, InstanceId, A>;
@@ -133,16 +133,6 @@ fn all_newer<A: Allocator + Copy>(
     Ok(lsas)
 }
 
-/// The LSAs of a set, in order.
-fn in_order<A: Allocator + Copy>(
-    alloc: A,
-    lsas: &BTreeSet<Place, A>,
-) -> Result<Vec<Place, A>, AllocError>
-    ensures { IfOk result (λ all. all.items ≡ lsas.now.keys) }
-{
-    lsas.iter().copied().collect(alloc)
-}
-
 /// The LSAs of which the files show instances, and a header below MaxAge that is newer than each of
 /// these (RFC 2328, 13.1, by sequence number, then by checksum), each once, in order of scope and
 /// key. An LSA that was announced again with a lower sequence number is not one of them: the higher
@@ -159,6 +149,6 @@ pub(crate) fn newer_lsas<A: Allocator + Copy>(
         lsas.items) }
 {
     let newest = newest_shown(alloc, files)?;
-    let lsas = once(alloc, all_newer(alloc, &newest, files)?)?;
-    in_order(alloc, &lsas)
+    let lsas = all_newer(alloc, &newest, files)?;
+    once(alloc, &lsas)
 }

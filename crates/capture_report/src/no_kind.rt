@@ -8,7 +8,8 @@ ghost use Rattle.lsdb.specs.Slots.{lists_of};
 ghost use Rattle.network_files.specs.Dumps.{areas_of};
 ghost use Rattle.capture_report.specs.NoKind.{areas_in, ids_of, without_kind};
 
-use crate::areas::{areas_of_kinds, once};
+use crate::areas::areas_of_kinds;
+use crate::sets::set_of;
 use lsa_codec::AreaId;
 use lsdb::Database;
 use network_files::{ParsedFile, areas_of};
@@ -72,6 +73,6 @@ pub(crate) fn areas_without_kind<A: Allocator + Copy>(
         ≡ without_kind (areas_of files.now) (areas_in (lists_of database.now))) }
 {
     let ids = areas_in(alloc, database)?;
-    let kinds = once(alloc, kind_areas(alloc, files)?)?;
+    let kinds = set_of(alloc, &kind_areas(alloc, files)?)?;
     without(alloc, &ids, &kinds)
 }

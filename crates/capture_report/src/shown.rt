@@ -1,10 +1,12 @@
-//! The LSAs that headers name, and those that are shown.
+//! The LSAs that headers name, those that are shown, and which are named and not shown.
 
 ghost use Rattle.std.specs.Prelude.{◌≡◌, ◌++◌, IfOk, OnOk, map};
 ghost use Rattle.std.specs.List.{filter_map};
-ghost use Rattle.lsa_instances.specs.Order.{place_of};
+ghost use Rattle.lsa_instances.specs.Order.{place_cmp, place_of};
+ghost use Rattle.capture_report.specs.Sets.{AreMissing};
 ghost use Rattle.capture_report.specs.Unseen.{named_by, all_named, all_shown};
 
+use crate::sets::missing;
 use lsa_instances::{Header, Observation, Place};
 use network_files::ParsedFile;
 use std::alloc::{AllocError, Allocator};
@@ -44,7 +46,7 @@ fn shown_in<A: Allocator + Copy>(
 }
 
 /// The LSAs that the headers of all files name, one file after another.
-pub(crate) fn all_named<A: Allocator + Copy>(
+fn all_named<A: Allocator + Copy>(
     alloc: A,
     files: &[ParsedFile<A>],
 ) -> Result<Vec<Place, A>, AllocError>
@@ -58,7 +60,7 @@ pub(crate) fn all_named<A: Allocator + Copy>(
 }
 
 /// The LSAs of which the files show instances, one file after another.
-pub(crate) fn all_shown<A: Allocator + Copy>(
+fn all_shown<A: Allocator + Copy>(
     alloc: A,
     files: &[ParsedFile<A>],
 ) -> Result<Vec<Place, A>, AllocError>
@@ -69,4 +71,23 @@ pub(crate) fn all_shown<A: Allocator + Copy>(
         lsas.append(&mut shown_in(alloc, &file.observations)?)?;
     }
     Ok(lsas)
+}
+
+/// The LSAs that the headers of the files name, and of which no file shows an instance, each once,
+/// in order of scope and key. A header at MaxAge names no LSA; one with DoNotAge and an age below
+/// MaxAge does: see [`Header::is_at_max_age`](lsa_instances::Header::is_at_max_age).
+///
+/// # Errors
+///
+/// Memory ran out.
+pub(crate) fn unseen_lsas<A: Allocator + Copy>(
+    alloc: A,
+    files: &[ParsedFile<A>],
+) -> Result<Vec<Place, A>, AllocError>
+    ensures { IfOk result (λ lsas. AreMissing place_cmp
+        (all_named files.now) (all_shown files.now) lsas.items) }
+{
+    let named = all_named(alloc, files)?;
+    let shown = all_shown(alloc, files)?;
+    missing(alloc, &named, &shown)
 }

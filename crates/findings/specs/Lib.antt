@@ -1,3 +1,6 @@
 pub mod Order
 pub mod Texts
 pub mod Lines
+pub mod Parts
+pub mod Reporting
+pub mod Contents

@@ -1,9 +1,11 @@
-//! What is missing in the files of a network and in the database that they make, or cannot be used.
+//! What files of a network contain, whatever their format, and what is missing or cannot be used.
 //!
-//! Each reader of files reports a [`Finding`] for each thing that it cannot use, and so does what
-//! compares the contents of all files. [`finding_lines`] has a line for each.
+//! The reader of each format finds [`Part`]s, and [`sorted`] makes the [`Content`] of the file of
+//! them. A [`Finding`] is what is missing in a file or in the database that files make, or cannot
+//! be used; [`finding_lines`] has a line for each.
 #![tactic(auto)]
 
+// What is missing, or cannot be used, and its words.
 mod feature;
 mod finding;
 mod frame_warning;
@@ -11,9 +13,16 @@ mod lines;
 mod reported_lsa;
 mod unused_reason;
 
+// What a file contains.
+mod content;
+mod part;
+mod reporting;
+
+pub use content::{Content, sorted};
 pub use feature::Feature;
 pub use finding::Finding;
 pub use frame_warning::FrameWarning;
 pub use lines::finding_lines;
+pub use part::Part;
 pub use reported_lsa::ReportedLsa;
 pub use unused_reason::UnusedReason;

@@ -3,3 +3,4 @@ pub mod Options
 pub mod Header
 pub mod Bodies
 pub mod ParsedDocuments
+pub mod Contents

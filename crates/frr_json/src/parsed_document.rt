@@ -9,8 +9,9 @@ ghost use Rattle.frr_json.specs.ParsedDocuments.{database_name, area_named, pars
 use crate::body::body_in;
 use crate::header::header_in;
 use crate::member::{items_of, members_at};
+use findings::Part;
 use frr_text::fields::{Header, LsType};
-use frr_text::{ParsedPart, TextFinding, rebuilt};
+use frr_text::rebuilt;
 use json::Value;
 use lsa_codec::AreaId;
 use std::alloc::{AllocError, Allocator};
@@ -45,13 +46,13 @@ fn parsed_header<A: Allocator + Copy>(
     area: Option<AreaId>,
     header: Header,
     json: &Value<'_, A>,
-) -> Result<ParsedPart<A>, AllocError>
+) -> Result<Part<A>, AllocError>
     ensures { IfOk result (λ parsed. parsed ≡ rebuilt area header (body_in header
         (value_view json.now))) }
 {
     match body_in(alloc, header, json)? {
         Some(body) => rebuilt(alloc, area, header, &body),
-        None => Ok(ParsedPart::Finding(TextFinding::Unreadable)),
+        None => Ok(Part::Unreadable),
     }
 }
 
@@ -61,23 +62,23 @@ fn parsed_lsa<A: Allocator + Copy>(
     ls_type: LsType,
     area: Option<AreaId>,
     json: &Value<'_, A>,
-) -> Result<ParsedPart<A>, AllocError>
+) -> Result<Part<A>, AllocError>
     ensures { IfOk result (λ parsed. parsed ≡ parsed_lsa ls_type area (value_view json.now)) }
 {
     match header_in(ls_type, json) {
         Some(header) => parsed_header(alloc, area, header, json),
-        None => Ok(ParsedPart::Finding(TextFinding::Unreadable)),
+        None => Ok(Part::Unreadable),
     }
 }
 
 /// What was read before, and after it the LSAs of an area.
 fn with_lsas<'a, A: Allocator + Copy>(
     alloc: A,
-    mut parsed: Vec<ParsedPart<A>, A>,
+    mut parsed: Vec<Part<A>, A>,
     ls_type: LsType,
     area: Option<AreaId>,
     items: &[Value<'a, A>],
-) -> Result<Vec<ParsedPart<A>, A>, AllocError>
+) -> Result<Vec<Part<A>, A>, AllocError>
     ensures { IfOk result (λ all. all.items
         ≡ parsed.items ++ lsas_in ls_type area (items_view items.now)) }
 {
@@ -90,18 +91,18 @@ fn with_lsas<'a, A: Allocator + Copy>(
 /// What was read before, and after it the LSAs of an area in an array.
 fn with_array<A: Allocator + Copy>(
     alloc: A,
-    mut parsed: Vec<ParsedPart<A>, A>,
+    mut parsed: Vec<Part<A>, A>,
     ls_type: LsType,
     area: Option<AreaId>,
     json: &Value<'_, A>,
-) -> Result<Vec<ParsedPart<A>, A>, AllocError>
+) -> Result<Vec<Part<A>, A>, AllocError>
     ensures { IfOk result (λ all. all.items
         ≡ parsed.items ++ parsed_array ls_type area (value_view json.now)) }
 {
     match items_of(json) {
         Some(items) => with_lsas(alloc, parsed, ls_type, area, items),
         None => {
-            parsed.push(ParsedPart::Finding(TextFinding::Unreadable))?;
+            parsed.push(Part::Unreadable)?;
             Ok(parsed)
         }
     }
@@ -110,10 +111,10 @@ fn with_array<A: Allocator + Copy>(
 /// What was read before, and after it the LSAs of the areas that these members are.
 fn with_areas<'a, A: Allocator + Copy>(
     alloc: A,
-    mut parsed: Vec<ParsedPart<A>, A>,
+    mut parsed: Vec<Part<A>, A>,
     ls_type: LsType,
     members: &[(&'a str, Value<'a, A>)],
-) -> Result<Vec<ParsedPart<A>, A>, AllocError>
+) -> Result<Vec<Part<A>, A>, AllocError>
     ensures { IfOk result (λ all. all.items
         ≡ parsed.items ++ areas_in ls_type (members_view members.now)) }
 {
@@ -127,17 +128,17 @@ fn with_areas<'a, A: Allocator + Copy>(
 /// What was read before, and after it the LSAs of a database that has areas.
 fn with_all_areas<A: Allocator + Copy>(
     alloc: A,
-    mut parsed: Vec<ParsedPart<A>, A>,
+    mut parsed: Vec<Part<A>, A>,
     ls_type: LsType,
     json: &Value<'_, A>,
-) -> Result<Vec<ParsedPart<A>, A>, AllocError>
+) -> Result<Vec<Part<A>, A>, AllocError>
     ensures { IfOk result (λ all. all.items
         ≡ parsed.items ++ parsed_areas ls_type (value_view json.now)) }
 {
     match members_at("areas", json) {
         Some(members) => with_areas(alloc, parsed, ls_type, members),
         None => {
-            parsed.push(ParsedPart::Finding(TextFinding::Unreadable))?;
+            parsed.push(Part::Unreadable)?;
             Ok(parsed)
         }
     }
@@ -146,10 +147,10 @@ fn with_all_areas<A: Allocator + Copy>(
 /// What was read before, and after it the database of the LSAs of this type.
 fn with_database<A: Allocator + Copy>(
     alloc: A,
-    parsed: Vec<ParsedPart<A>, A>,
+    parsed: Vec<Part<A>, A>,
     ls_type: LsType,
     json: &Value<'_, A>,
-) -> Result<Vec<ParsedPart<A>, A>, AllocError>
+) -> Result<Vec<Part<A>, A>, AllocError>
     ensures { IfOk result (λ all. all.items
         ≡ parsed.items ++ parsed_database ls_type (value_view json.now)) }
 {
@@ -164,10 +165,10 @@ fn with_database<A: Allocator + Copy>(
 /// What was read before, and after it the document's LSAs of this type.
 fn with_type<A: Allocator + Copy>(
     alloc: A,
-    parsed: Vec<ParsedPart<A>, A>,
+    parsed: Vec<Part<A>, A>,
     ls_type: LsType,
     json: &Value<'_, A>,
-) -> Result<Vec<ParsedPart<A>, A>, AllocError>
+) -> Result<Vec<Part<A>, A>, AllocError>
     ensures { IfOk result (λ all. all.items
         ≡ parsed.items ++ parsed_of ls_type (value_view json.now)) }
 {
@@ -181,7 +182,7 @@ fn with_type<A: Allocator + Copy>(
 pub(crate) fn parse_all<A: Allocator + Copy>(
     alloc: A,
     json: &Value<'_, A>,
-) -> Result<Vec<ParsedPart<A>, A>, AllocError>
+) -> Result<Vec<Part<A>, A>, AllocError>
     ensures { IfOk result (λ parsed. parsed.items ≡ parsed_in (value_view json.now)) }
 {
     let parsed = with_type(alloc, Vec::new(alloc), LsType::Router, json)?;

@@ -1,18 +1,19 @@
-//! What a router prints in JSON, sorted by kind.
+//! What a router prints in JSON.
 
-ghost use Rattle.std.specs.Prelude.{◌≡◌, ◌≢◌, Some, None, Err, IfOk, option_map, true, false};
-ghost use Rattle.std.specs.List.{filter_map};
+ghost use Rattle.std.specs.Prelude.{◌≡◌, ◌≢◌, Some, None, Err, IfOk, option_map, false};
 ghost use Rattle.std.specs.Str.{IsUtf8};
+ghost use Rattle.findings.specs.Contents.{content_of, lists_in};
 ghost use Rattle.json.specs.Json.{document};
 ghost use Rattle.json.specs.Value.{value_view};
-ghost use Rattle.frr_text.specs.Sorting.{observation_of, kind_of, finding_of};
 ghost use Rattle.frr_text.specs.Words.{words};
 ghost use Rattle.frr_json.specs.declared.fault.JsonFault.TheVariants as faults;
+ghost use Rattle.frr_json.specs.Contents.{HasContent};
 ghost use Rattle.frr_json.specs.ParsedDocuments.{parsed_in, has_database, is_printed_json};
 
 use crate::fault::JsonFault;
 use crate::parsed_document::{has_database, parse_all};
-use frr_text::{Printed, next_word, sorted};
+use findings::{Content, sorted};
+use frr_text::next_word;
 use json::{Error, Scratch, Value};
 use std::alloc::{AllocError, Allocator};
 
@@ -35,17 +36,13 @@ fn value_of<'a, A: Allocator + Copy>(
     }
 }
 
-/// What a document contains, sorted by kind.
-fn printed_of<A: Allocator + Copy>(alloc: A, json: &Value<'_, A>) -> Result<Printed<A>, AllocError>
-    ensures observations { IfOk result (λ printed. printed.observations.items
-        ≡ filter_map observation_of (parsed_in (value_view json.now))) }
-    ensures kinds { IfOk result (λ printed. printed.kinds.items
-        ≡ filter_map (kind_of {A = A}) (parsed_in (value_view json.now))) }
-    ensures findings { IfOk result (λ printed. printed.findings.items
-        ≡ filter_map (finding_of {A = A}) (parsed_in (value_view json.now))) }
+/// What a document contains.
+fn content_in<A: Allocator + Copy>(alloc: A, json: &Value<'_, A>) -> Result<Content<A>, AllocError>
+    ensures { IfOk result
+        (λ content. lists_in content ≡ content_of (parsed_in (value_view json.now))) }
 {
-    let parsed = parse_all(alloc, json)?;
-    sorted(alloc, parsed)
+    let parts = parse_all(alloc, json)?;
+    sorted(alloc, parts)
 }
 
 /// Reads what a router prints (FRR) for `show ip ospf database` with `router json`, and with
@@ -58,16 +55,9 @@ fn printed_of<A: Allocator + Copy>(alloc: A, json: &Value<'_, A>) -> Result<Prin
 pub fn read_printed_json<A: Allocator + Copy>(
     alloc: A,
     text: &[u8],
-) -> Result<Printed<A>, JsonFault>
+) -> Result<Content<A>, JsonFault>
     // What `Ok` holds.
-    ensures observations { IfOk result (λ printed. option_map (λ json. filter_map observation_of
-        (parsed_in json)) (document text.now) ≡ Some printed.observations.items) }
-    ensures kinds { IfOk result (λ printed. option_map (λ json. filter_map (kind_of {A = A})
-        (parsed_in json)) (document text.now) ≡ Some printed.kinds.items) }
-    ensures findings { IfOk result (λ printed. option_map (λ json. filter_map (finding_of {A = A})
-        (parsed_in json)) (document text.now) ≡ Some printed.findings.items) }
-    ensures database { IfOk result (λ _. IsUtf8 text.now
-        × (option_map has_database (document text.now) ≡ Some true)) }
+    ensures content { IfOk result (λ content. HasContent text.now (lists_in content)) }
 
     // When each error comes.
     ensures not_json { result ≡ Err faults.NotJson → IsUtf8 text.now
@@ -80,7 +70,7 @@ pub fn read_printed_json<A: Allocator + Copy>(
     if !has_database(&json) {
         return Err(JsonFault::NoDatabase);
     }
-    Ok(printed_of(alloc, &json)?)
+    Ok(content_in(alloc, &json)?)
 }
 
 /// Whether a text can only be an object in JSON: its first word begins with a brace. This holds of

@@ -3,7 +3,7 @@ use Rattle.std.proofs.Common.{◌≡◌, Bool, true, false, List, [], ◌∷◌,
 use Rattle.std.specs.Prelude.{◌||◌}
 use Rattle.std.proofs.lemmas.List.{append-nil}
 use Rattle.lsa_codec.specs.declared.address.AreaId.{AreaId}
-use Rattle.frr_text.specs.declared.parsed_part.ParsedPart.{ParsedPart}
+use Rattle.findings.specs.declared.part.Part.{Part}
 use Rattle.frr_text.specs.Words.{Word}
 use Rattle.frr_text.specs.Headings.{area_at, begins_here, is_printed}
 use Rattle.frr_text.specs.ParsedParts.{kinds_at, lsas_at, parsed_at, parsed_in}
@@ -14,15 +14,15 @@ module _ {A : Type 0} where
   unfolding parsed_in
   step area word text = refl
 
-  pub parsed_next : (before between after all : List (ParsedPart A)) (area next : Option AreaId) (here : List Word) (word : Word) (text : List Word)
+  pub parsed_next : (before between after all : List (Part A)) (area next : Option AreaId) (here : List Word) (word : Word) (text : List Word)
       → between ≡ before ++ kinds_at here → after ≡ between ++ lsas_at next here → next ≡ area_at area here → here ≡ word ∷ text
       → before ++ parsed_in area here ≡ all → after ++ parsed_in next text ≡ all
   parsed_next before between after all area next here word text kinds lsas same e h =
       let added : after ≡ before ++ parsed_at next here =
-      lsas ∙ ap (λ (x : List (ParsedPart A)). x ++ lsas_at next here) kinds ∙ append_assoc before (kinds_at here) (lsas_at next here) in
-      ap (λ (x : List (ParsedPart A)). x ++ parsed_in next text) added
+      lsas ∙ ap (λ (x : List (Part A)). x ++ lsas_at next here) kinds ∙ append_assoc before (kinds_at here) (lsas_at next here) in
+      ap (λ (x : List (Part A)). x ++ parsed_in next text) added
       ∙ append_assoc before (parsed_at next here) (parsed_in next text)
-      ∙ ap (λ (rest : List (ParsedPart A)). before ++ rest)
+      ∙ ap (λ (rest : List (Part A)). before ++ rest)
       (ap (λ (n : Option AreaId). parsed_at n here ++ parsed_in n text) same
       ∙ ap (λ (x : List Word). parsed_at (area_at area x) x ++ parsed_in (area_at area x) text) e ∙ sym (step area word text)
       ∙ ap (parsed_in area) (sym e))
@@ -32,10 +32,10 @@ module _ {A : Type 0} where
   unfolding parsed_in
   nothing area = refl
 
-  pub parsed_end : (before all : List (ParsedPart A)) (area : Option AreaId) (here : List Word) → here ≡ [] → before ++ parsed_in area here ≡ all
+  pub parsed_end : (before all : List (Part A)) (area : Option AreaId) (here : List Word) → here ≡ [] → before ++ parsed_in area here ≡ all
       → before ≡ all
   parsed_end before all area here e h =
-      sym (append-nil before) ∙ ap (λ (rest : List (ParsedPart A)). before ++ rest) (sym (nothing area) ∙ ap (parsed_in area) (sym e)) ∙ h
+      sym (append-nil before) ∙ ap (λ (rest : List (Part A)). before ++ rest) (sym (nothing area) ∙ ap (parsed_in area) (sym e)) ∙ h
 
 -- ---- whether it is printed
 

@@ -11,8 +11,8 @@ use Rattle.lsa_instances.specs.declared.area.AreaKind.{AreaKind}
 use Rattle.lsa_instances.specs.declared.area.AreaKind.TheVariants as kinds
 use Rattle.lsa_instances.specs.declared.area.AreaReport.{AreaReport}
 use Rattle.frr_text.specs.declared.label.Label.TheVariants as label
-use Rattle.frr_text.specs.declared.parsed_part.ParsedPart.{ParsedPart}
-use Rattle.frr_text.specs.declared.parsed_part.ParsedPart.TheVariants as contents
+use Rattle.findings.specs.declared.part.Part.{Part}
+use Rattle.findings.specs.declared.part.Part.TheVariants as contents
 use Rattle.frr_text.specs.Words.{Word, words}
 use Rattle.text_words.specs.Addresses.{address_of}
 use Rattle.text_words.specs.Words.{after_words}
@@ -105,10 +105,10 @@ module _ {A : Type 0} where
       (kinds_at here ++ lsas_at (area_at before here) (first ∷ word ∷ rest)) ++ parsed_in (area_at before here) (word ∷ rest)) (sym laid)
       ∙ ap (λ (next : Option AreaId). (kinds_at text ++ lsas_at next (first ∷ word ∷ rest)) ++ parsed_in next (word ∷ rest))
       (area_begun before word area rest h)
-      ∙ ap (λ (lsas : List (ParsedPart A)). (kinds_at text ++ lsas) ++ parsed_in (Some area) (word ∷ rest))
+      ∙ ap (λ (lsas : List (Part A)). (kinds_at text ++ lsas) ++ parsed_in (Some area) (word ∷ rest))
       (no_lsas (Some area) (first ∷ word ∷ rest) (age_first first (word ∷ rest) refl))
-      ∙ ap (λ (kinds : List (ParsedPart A)). (kinds ++ []) ++ parsed_in (Some area) (word ∷ rest)) (kind_here word area rest h)
-      ∙ ap (λ (parsed : List (ParsedPart A)). contents.Kind (parsed_kind area (kind_in rest)) ∷ parsed) ((of_word word p).quiet (Some area) rest)
+      ∙ ap (λ (kinds : List (Part A)). (kinds ++ []) ++ parsed_in (Some area) (word ∷ rest)) (kind_here word area rest h)
+      ∙ ap (λ (parsed : List (Part A)). contents.Kind (parsed_kind area (kind_in rest)) ∷ parsed) ((of_word word p).quiet (Some area) rest)
 
   parsed_as : (before : Option AreaId) (area : AreaId) (kind : AreaKind) (rest : List Word) → area.0 < 2 ^ 32 → kind_in rest ≡ kinds.Ordinary
       → parsed_in {A = A} before (area_words kind (address_text area.0) ++ rest) ≡ contents.Kind (parsed_kind area kind) ∷ parsed_in (Some area) rest
@@ -123,14 +123,14 @@ module _ {A : Type 0} where
       ap (parsed_in before) (append_assoc (said label.Area word) mark rest)
       ∙ parsed_area before word area (mark ++ rest) (area_alone area h) (plain_start word (start_address area.0))
       ∙ ap (λ (kind : AreaKind). contents.Kind (parsed_kind area kind) ∷ parsed_in (Some area) (mark ++ rest)) (kind_stub rest)
-      ∙ ap (λ (parsed : List (ParsedPart A)). contents.Kind (parsed_kind area kinds.Stub) ∷ parsed) ((of_label label.Stub refl).quiet (Some area) rest)
+      ∙ ap (λ (parsed : List (Part A)). contents.Kind (parsed_kind area kinds.Stub) ∷ parsed) ((of_label label.Stub refl).quiet (Some area) rest)
   parsed_as before area kinds.Nssa rest h none =
       let word = address_text area.0 in
       let mark = label_words label.Nssa in
       ap (parsed_in before) (append_assoc (said label.Area word) mark rest)
       ∙ parsed_area before word area (mark ++ rest) (area_alone area h) (plain_start word (start_address area.0))
       ∙ ap (λ (kind : AreaKind). contents.Kind (parsed_kind area kind) ∷ parsed_in (Some area) (mark ++ rest)) (kind_nssa rest)
-      ∙ ap (λ (parsed : List (ParsedPart A)). contents.Kind (parsed_kind area kinds.Nssa) ∷ parsed) ((of_label label.Nssa refl).quiet (Some area) rest)
+      ∙ ap (λ (parsed : List (Part A)). contents.Kind (parsed_kind area kinds.Nssa) ∷ parsed) ((of_label label.Nssa refl).quiet (Some area) rest)
 
   pub parsed_heading : (before : Option AreaId) (parsed : AreaReport) (rest : List Word) → parsed.id.0 < 2 ^ 32 → kind_in rest ≡ kinds.Ordinary
       → parsed_in {A = A} before (heading_words parsed ++ rest) ≡ contents.Kind parsed ∷ parsed_in (Some parsed.id) rest

@@ -12,7 +12,7 @@ use Rattle.std.proofs.lemmas.Slice.Eq.{bytes_eq-Decides}
 use Rattle.lsa_codec.specs.declared.address.AreaId.{AreaId}
 use Rattle.lsa_codec.specs.Spelling.{address_text}
 use Rattle.frr_text.specs.declared.label.Label.TheVariants as label
-use Rattle.frr_text.specs.declared.parsed_part.ParsedPart.{ParsedPart}
+use Rattle.findings.specs.declared.part.Part.{Part}
 use Rattle.frr_text.specs.Words.{Word, words}
 use Rattle.frr_text.specs.Rules.{◌>>=◌}
 use Rattle.text_words.specs.Words.{after_words}
@@ -65,12 +65,12 @@ module _ {A : Type 0} where
   no_heading area word text h =
       step area word text
       ∙ ap (λ (next : Option AreaId). (kinds_at (word ∷ text) ++ lsas_at next (word ∷ text)) ++ parsed_in next text) (area_kept area (word ∷ text) h)
-      ∙ ap (λ (kinds : List (ParsedPart A)). (kinds ++ lsas_at area (word ∷ text)) ++ parsed_in area text) (no_kinds (word ∷ text) h)
+      ∙ ap (λ (kinds : List (Part A)). (kinds ++ lsas_at area (word ∷ text)) ++ parsed_in area text) (no_kinds (word ∷ text) h)
 
   pub nothing : (area : Option AreaId) (word : Word) (text : List Word) → after_label label.Area (word ∷ text) ≡ None
       → after_label label.Age (word ∷ text) ≡ None → parsed_in {A = A} area (word ∷ text) ≡ parsed_in area text
   nothing area word text h k =
-      no_heading area word text h ∙ ap (λ (parsed : List (ParsedPart A)). parsed ++ parsed_in area text) (no_lsas area (word ∷ text) k)
+      no_heading area word text h ∙ ap (λ (parsed : List (Part A)). parsed ++ parsed_in area text) (no_lsas area (word ∷ text) k)
 
 -- ---- words at which nothing begins, whatever follows them
 

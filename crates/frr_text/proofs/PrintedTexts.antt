@@ -18,7 +18,7 @@ use Rattle.frr_text.specs.declared.ls_type.LsType.TheVariants as types
 use Rattle.frr_text.specs.declared.router.Link.{Link}
 use Rattle.frr_text.specs.declared.router.LinkType.{LinkType}
 use Rattle.frr_text.specs.declared.router.LinkType.TheVariants as links
-use Rattle.frr_text.specs.declared.parsed_part.ParsedPart.{ParsedPart}
+use Rattle.findings.specs.declared.part.Part.{Part}
 use Rattle.frr_text.specs.Words.{Word, words}
 use Rattle.frr_text.specs.Labels.{text_of}
 use Rattle.frr_text.specs.Fields.{type_label, id_label}
@@ -275,8 +275,8 @@ module _ {A : Type 0} where
       ap (parsed_in area) laid
       ∙ no_heading area (codes "LS") (codes "age:" ∷ after) (area_none (codes "LS") (codes "age:" ∷ after) refl)
       ∙ ap (λ (here : List Word). lsas_at area here ++ parsed_in area (codes "age:" ∷ after)) (sym laid)
-      ∙ ap (λ (parsed : List (ParsedPart A)). parsed ++ parsed_in area (codes "age:" ∷ after)) (accepted_again area beside header body rest lsa fits body_fits e)
-      ∙ ap (λ (parsed : List (ParsedPart A)). one ∷ parsed)
+      ∙ ap (λ (parsed : List (Part A)). parsed ++ parsed_in area (codes "age:" ∷ after)) (accepted_again area beside header body rest lsa fits body_fits e)
+      ∙ ap (λ (parsed : List (Part A)). one ∷ parsed)
       ((of_word (codes "age:") (plain (codes "age:") refl refl)).quiet area after ∙ quiet_after area beside header body rest h fits body_fits)
 
   pub parsed_word : (area : Option AreaId) (word : Word) (rest : List Word) → IsPlain word → parsed_in {A = A} area (word ∷ rest) ≡ parsed_in area rest

@@ -10,4 +10,4 @@ pub mod PrintingTexts
 pub mod Making
 pub mod Headings
 pub mod ParsedParts
-pub mod Sorting
+pub mod Contents

@@ -1,5 +1,7 @@
 -- What the words contain that a router prints of its databases.
 use Rattle.std.specs.Prelude.{ℕ, List, [], ◌∷◌, ◌++◌, Option, Some, None, Result, Ok, Err}
+use Rattle.findings.specs.declared.unused_reason.UnusedReason.TheVariants as reasons
+use Rattle.findings.specs.Parts.{unused}
 use Rattle.lsa_codec.specs.declared.address.AreaId.{AreaId}
 use Rattle.lsa_codec.specs.declared.fault.LsaFault.{LsaFault}
 use Rattle.lsa_codec.specs.declared.key.Key.{Key}
@@ -7,10 +9,9 @@ use Rattle.lsa_codec.specs.Decoding.{decoded}
 use Rattle.lsa_instances.specs.declared.place.Scope.{Scope}
 use Rattle.lsa_instances.specs.Order.{scope_of_report}
 use Rattle.frr_text.specs.declared.header.Header.{Header}
-use Rattle.frr_text.specs.declared.finding.TextFinding.TheVariants as findings
 use Rattle.lsa_instances.specs.declared.area.AreaReport.{AreaReport}
-use Rattle.frr_text.specs.declared.parsed_part.ParsedPart.{ParsedPart}
-use Rattle.frr_text.specs.declared.parsed_part.ParsedPart.TheVariants as contents
+use Rattle.findings.specs.declared.part.Part.{Part}
+use Rattle.findings.specs.declared.part.Part.TheVariants as contents
 use Rattle.frr_text.specs.Words.{Word}
 use Rattle.frr_text.specs.Headings.{heading_at, area_at}
 use Rattle.frr_text.specs.declared.label.Label.TheVariants as label
@@ -24,43 +25,43 @@ abbrev pub key_of : Header → Key
 key_of header = record { kind = type_code header.name.ls_type; id = header.name.id; adv = header.origination.adv }
 
 module _ {A : Type 0} where
-  abbrev pub in_scope : Key → List ℕ → Option Scope → ParsedPart A
-  in_scope key lsa None = contents.Finding (findings.NoArea key)
+  abbrev pub in_scope : Key → List ℕ → Option Scope → Part A
+  in_scope key lsa None = unused key reasons.NoArea
   in_scope key lsa (Some scope) = contents.Lsa (record { scope = scope; seen = None; lsa = lsa })
 
-  abbrev pub parsed_decoded : Option AreaId → Key → Result (List ℕ) LsaFault → ParsedPart A
-  parsed_decoded area key (Err fault) = contents.Finding (findings.Refused key fault)
+  abbrev pub parsed_decoded : Option AreaId → Key → Result (List ℕ) LsaFault → Part A
+  parsed_decoded area key (Err fault) = unused key (reasons.Refused fault)
   parsed_decoded area key (Ok lsa) = in_scope key lsa (scope_of_report key.kind area)
 
   -- the bytes that the fields make are an accepted LSA, with the checksum and the length that were printed
-  abbrev pub rebuilt : Option AreaId → Header → Option (List ℕ) → ParsedPart A
-  rebuilt area header None = contents.Finding findings.Unreadable
+  abbrev pub rebuilt : Option AreaId → Header → Option (List ℕ) → Part A
+  rebuilt area header None = contents.Unreadable
   rebuilt area header (Some body) = parsed_decoded area (key_of header) (decoded (header_bytes header ++ body))
 
-  abbrev pub parsed_header : Option AreaId → Option (Header × List Word) → ParsedPart A
-  parsed_header area None = contents.Finding findings.Unreadable
+  abbrev pub parsed_header : Option AreaId → Option (Header × List Word) → Part A
+  parsed_header area None = contents.Unreadable
   parsed_header area (Some found) = rebuilt area found.0 (body_in found.0 found.1)
 
-  abbrev pub kind_from : Option AreaReport → List (ParsedPart A)
+  abbrev pub kind_from : Option AreaReport → List (Part A)
   kind_from None = []
   kind_from (Some area) = contents.Kind area ∷ []
 
   -- the kind of the area that a heading here names, if one does
-  unfoldable pub kinds_at : List Word → List (ParsedPart A)
+  unfoldable pub kinds_at : List Word → List (Part A)
   kinds_at text = kind_from (heading_at text)
 
-  abbrev pub lsa_from : Option AreaId → List Word → Option (List Word) → List (ParsedPart A)
+  abbrev pub lsa_from : Option AreaId → List Word → Option (List Word) → List (Part A)
   lsa_from area text None = []
   lsa_from area text (Some rest) = parsed_header area (header_in text) ∷ []
 
   -- the LSA that begins here, or why it cannot be used, if one does
-  unfoldable pub lsas_at : Option AreaId → List Word → List (ParsedPart A)
+  unfoldable pub lsas_at : Option AreaId → List Word → List (Part A)
   lsas_at area text = lsa_from area text (after_label label.Age text)
 
-  abbrev pub parsed_at : Option AreaId → List Word → List (ParsedPart A)
+  abbrev pub parsed_at : Option AreaId → List Word → List (Part A)
   parsed_at area text = kinds_at text ++ lsas_at area text
 
   -- what follows from here on, in the area of the last heading before
-  unfoldable pub parsed_in : Option AreaId → List Word → List (ParsedPart A)
+  unfoldable pub parsed_in : Option AreaId → List Word → List (Part A)
   parsed_in area [] = []
   parsed_in area (word ∷ text) = parsed_at (area_at area (word ∷ text)) (word ∷ text) ++ parsed_in (area_at area (word ∷ text)) text

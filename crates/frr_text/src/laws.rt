@@ -8,7 +8,7 @@ ghost use Rattle.lsa_instances.specs.Order.{scope_of_report};
 ghost use Rattle.frr_text.specs.declared.header.Header.{Header};
 ghost use Rattle.lsa_instances.specs.declared.area.AreaKind.TheVariants as kinds;
 ghost use Rattle.lsa_instances.specs.declared.area.AreaReport.{AreaReport};
-ghost use Rattle.frr_text.specs.declared.parsed_part.ParsedPart.TheVariants as contents;
+ghost use Rattle.findings.specs.declared.part.Part.TheVariants as contents;
 ghost use Rattle.frr_text.specs.Words.{Word, is_blank, words};
 ghost use Rattle.frr_text.specs.Fields.{header_in};
 ghost use Rattle.frr_text.specs.Bodies.{body_in};

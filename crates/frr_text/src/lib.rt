@@ -22,17 +22,15 @@ mod network;
 mod router;
 mod summary;
 // What a text contains.
-mod finding;
 mod laws;
 mod parsed_part;
 mod printed;
 
-pub use finding::TextFinding;
 pub use heading::area_of;
 pub use laws::{
     printed_bodies_are_read, printed_headers_are_read, printed_lsas_are_read,
     printed_words_are_read,
 };
-pub use parsed_part::{ParsedPart, rebuilt};
-pub use printed::{Printed, is_printed, read_printed, sorted};
+pub use parsed_part::rebuilt;
+pub use printed::{is_printed, read_printed};
 pub use text::next_word;

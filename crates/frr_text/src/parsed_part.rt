@@ -10,25 +10,14 @@ ghost use Rattle.lsa_codec.specs.Decoding.{decoded};
 ghost use Rattle.lsa_instances.specs.Order.{scope_of_report};
 
 use crate::body::body_in;
-use crate::finding::TextFinding;
 use crate::header::{Header, header_bytes, header_in};
 use crate::heading::{area_at, heading_at};
 use crate::label::{Label, after_label};
 use crate::text::next_word;
+use findings::{Part, UnusedReason};
 use lsa_codec::{AreaId, Key, Lsa, LsaFault};
-use lsa_instances::{AreaReport, Observation, Scope};
+use lsa_instances::{Observation, Scope};
 use std::alloc::{AllocError, Allocator};
-
-/// What a part of a text contains.
-#[derive(Debug, Drop)]
-pub enum ParsedPart<A: Allocator> {
-    /// The LSA that the printed fields make.
-    Lsa(Observation<A>),
-    /// The kind of the area of a heading.
-    Kind(AreaReport),
-    /// A printed LSA that cannot be used.
-    Finding(TextFinding),
-}
 
 /// The key of the LSA.
 fn key_of(header: Header) -> Key
@@ -42,12 +31,12 @@ fn key_of(header: Header) -> Key
 }
 
 /// An LSA, in its scope.
-fn in_scope<A: Allocator + Copy>(area: Option<AreaId>, key: Key, lsa: Lsa<A>) -> ParsedPart<A>
+fn in_scope<A: Allocator + Copy>(area: Option<AreaId>, key: Key, lsa: Lsa<A>) -> Part<A>
     ensures { result ≡ in_scope key lsa (scope_of_report key.kind area) }
 {
     match Scope::of(key.kind, area) {
-        None => ParsedPart::Finding(TextFinding::NoArea(key)),
-        Some(scope) => ParsedPart::Lsa(Observation {
+        None => Part::unused(key, UnusedReason::NoArea),
+        Some(scope) => Part::Lsa(Observation {
             scope,
             seen: None,
             lsa,
@@ -61,13 +50,13 @@ fn parsed_bytes<A: Allocator + Copy>(
     area: Option<AreaId>,
     key: Key,
     bytes: &[u8],
-) -> Result<ParsedPart<A>, AllocError>
+) -> Result<Part<A>, AllocError>
     ensures { IfOk result (λ parsed. parsed ≡ parsed_decoded area key (decoded bytes.now)) }
 {
     match Lsa::decode(alloc, bytes) {
         Ok((lsa, _)) => Ok(in_scope(area, key, lsa)),
         Err(LsaFault::OutOfMemory) => Err(AllocError),
-        Err(fault) => Ok(ParsedPart::Finding(TextFinding::Refused(key, fault))),
+        Err(fault) => Ok(Part::unused(key, UnusedReason::Refused(fault))),
     }
 }
 
@@ -81,7 +70,7 @@ pub fn rebuilt<A: Allocator + Copy>(
     area: Option<AreaId>,
     header: Header,
     body: &[u8],
-) -> Result<ParsedPart<A>, AllocError>
+) -> Result<Part<A>, AllocError>
     ensures { IfOk result (λ parsed. parsed
         ≡ parsed_decoded area (key_of header) (decoded (header_bytes header ++ body.now))) }
 {
@@ -96,13 +85,13 @@ fn parsed_body<A: Allocator + Copy>(
     area: Option<AreaId>,
     header: Header,
     text: &[u8],
-) -> Result<ParsedPart<A>, AllocError>
+) -> Result<Part<A>, AllocError>
     ensures { IfOk result (λ parsed. parsed
         ≡ rebuilt area header (body_in header (words text.now))) }
 {
     match body_in(alloc, header, text)? {
         Some(body) => rebuilt(alloc, area, header, &body),
-        None => Ok(ParsedPart::Finding(TextFinding::Unreadable)),
+        None => Ok(Part::Unreadable),
     }
 }
 
@@ -111,26 +100,26 @@ fn parsed_header<A: Allocator + Copy>(
     alloc: A,
     area: Option<AreaId>,
     text: &[u8],
-) -> Result<ParsedPart<A>, AllocError>
+) -> Result<Part<A>, AllocError>
     ensures { IfOk result (λ parsed. parsed ≡ parsed_header area (header_in (words text.now))) }
 {
     match header_in(text) {
         Some((header, rest)) => parsed_body(alloc, area, header, rest),
-        None => Ok(ParsedPart::Finding(TextFinding::Unreadable)),
+        None => Ok(Part::Unreadable),
     }
 }
 
 /// Adds the kind of the area that a heading here names, if one does.
 #[tactic(auto, unfolding(crate::specs::ParsedParts::kinds_at))]
 fn parse_kind<A: Allocator + Copy>(
-    parsed: &mut Vec<ParsedPart<A>, A>,
+    parsed: &mut Vec<Part<A>, A>,
     text: &[u8],
 ) -> Result<(), AllocError>
     ensures { OnOk result (parsed.new.items ≡ parsed.old.items ++ kinds_at (words text.now)) }
 {
     match heading_at(text) {
         Some(area) => {
-            parsed.push(ParsedPart::Kind(area))?;
+            parsed.push(Part::Kind(area))?;
             Ok(())
         }
         None => Ok(()),
@@ -141,7 +130,7 @@ fn parse_kind<A: Allocator + Copy>(
 #[tactic(auto, unfolding(crate::specs::ParsedParts::lsas_at))]
 fn parse_lsa<A: Allocator + Copy>(
     alloc: A,
-    parsed: &mut Vec<ParsedPart<A>, A>,
+    parsed: &mut Vec<Part<A>, A>,
     area: Option<AreaId>,
     text: &[u8],
 ) -> Result<(), AllocError>
@@ -161,7 +150,7 @@ fn parse_lsa<A: Allocator + Copy>(
 pub(crate) fn parse_all<A: Allocator + Copy>(
     alloc: A,
     text: &[u8],
-) -> Result<Vec<ParsedPart<A>, A>, AllocError>
+) -> Result<Vec<Part<A>, A>, AllocError>
     ensures { IfOk result (λ parsed. parsed.items ≡ parsed_in None (words text.now)) }
 {
     let mut parsed = Vec::new(alloc);

@@ -1,26 +1,15 @@
--- What a list contains, sorted by kind.
-use Rattle.std.specs.Prelude.{ℕ, Bool, not, ◌&&◌, List, Option, Some, None}
+-- What a list contains, and whether a text is a list.
+use Rattle.std.specs.Prelude.{ℕ, Bool, not, ◌&&◌, List, None}
 use Rattle.std.specs.List.{list_any}
-use Rattle.lsa_instances.specs.declared.header.Header.{Header}
-use Rattle.lsdb_listing.specs.declared.finding.ListFinding.{ListFinding}
+use Rattle.findings.specs.declared.part.Part.{Part}
 use Rattle.lsdb_listing.specs.declared.label.Label.TheVariants as label
-use Rattle.lsdb_listing.specs.declared.parsed_line.ParsedLine.{ParsedLine}
-use Rattle.lsdb_listing.specs.declared.parsed_line.ParsedLine.TheVariants as contents
 use Rattle.lsdb_listing.specs.Headings.{line_kind_of}
 use Rattle.lsdb_listing.specs.Labels.{begins_with}
 use Rattle.lsdb_listing.specs.Lines.{Line, lines}
 use Rattle.lsdb_listing.specs.ParsedLines.{is_heading, parsed_in}
 
-abbrev pub header_of : ParsedLine → Option Header
-header_of (contents.Header header) = Some header
-header_of (contents.Finding finding) = None
-
-abbrev pub finding_of : ParsedLine → Option ListFinding
-finding_of (contents.Header header) = None
-finding_of (contents.Finding finding) = Some finding
-
 -- what a text contains
-abbrev pub parsed_of : List ℕ → List ParsedLine
+abbrev pub parsed_of : {A : Type 0} → List ℕ → List (Part A)
 parsed_of text = parsed_in None (lines text)
 
 -- the heading of rows

@@ -16,7 +16,6 @@ mod title;
 
 // What a list contains.
 mod fault;
-mod finding;
 mod list;
 mod parsed_line;
 
@@ -29,7 +28,6 @@ mod lines;
 
 pub use difference::{Change, Difference, differences};
 pub use fault::ListFault;
-pub use finding::ListFinding;
 pub use lines::list_lines;
 pub use list::{PrintedList, read_list};
 pub use lsa_instances::{Header, InstanceId};

@@ -1,77 +1,19 @@
 //! What a list shows, in lines.
 
-ghost use Rattle.std.specs.Prelude.{◌≡◌, ◌++◌, List, IfOk, OnOk, count_by, flat_map};
+ghost use Rattle.std.specs.Prelude.{◌≡◌, ◌++◌, List, IfOk, OnOk, flat_map};
 ghost use Rattle.std.specs.String.{string_bytes};
+ghost use Rattle.findings.specs.Lines.{finding_lines};
 ghost use Rattle.lsdb.specs.Slots.{lists_of};
 ghost use Rattle.lsdb_listing.specs.declared.difference.Difference.{Difference as AnyDifference};
 ghost use Rattle.lsdb_listing.specs.Once.{AreOnce};
-ghost use Rattle.lsdb_listing.specs.Texts.{difference_line, finding_lines, is_unreadable, keyed_line, unread_line, AreLines};
+ghost use Rattle.lsdb_listing.specs.Texts.{difference_line, AreLines};
 
 use crate::difference::{Difference, differences};
-use crate::finding::ListFinding;
 use crate::list::PrintedList;
 use crate::once::each_once;
+use findings::{Finding, finding_lines};
 use lsdb::Database;
 use std::alloc::{AllocError, Allocator};
-
-/// Adds the line of a finding that has a key.
-fn push_keyed<A: Allocator + Copy>(
-    text: &mut String<A>,
-    name: &str,
-    finding: ListFinding,
-) -> Result<(), AllocError>
-    ensures { OnOk result (string_bytes text.new
-        ≡ string_bytes text.old ++ keyed_line name.now finding) }
-{
-    match finding {
-        ListFinding::NoArea(_) => write!(text, "{name}: {finding}\n"),
-        ListFinding::Unreadable => Ok(()),
-    }
-}
-
-/// Adds the lines of the findings that have a key.
-fn push_all_keyed<A: Allocator + Copy>(
-    text: &mut String<A>,
-    name: &str,
-    findings: &[ListFinding],
-) -> Result<(), AllocError>
-    ensures { OnOk result (string_bytes text.new
-        ≡ string_bytes text.old ++ flat_map (keyed_line name.now) findings.now) }
-{
-    for finding in findings {
-        push_keyed(text, name, *finding)?;
-    }
-    Ok(())
-}
-
-/// Whether the finding is a line of the list that cannot be read.
-fn is_unreadable(finding: ListFinding) -> bool
-    ensures { result ≡ is_unreadable finding }
-{
-    match finding {
-        ListFinding::NoArea(_) => false,
-        ListFinding::Unreadable => true,
-    }
-}
-
-/// Adds the number of lines of the list that cannot be read, unless it is 0.
-fn push_unread<A: Allocator + Copy>(
-    text: &mut String<A>,
-    name: &str,
-    findings: &[ListFinding],
-) -> Result<(), AllocError>
-    ensures { OnOk result (string_bytes text.new
-        ≡ string_bytes text.old ++ unread_line name.now (count_by is_unreadable findings.now)) }
-{
-    let count = findings
-        .iter()
-        .filter(|finding| is_unreadable(**finding))
-        .count();
-    if count == 0 {
-        return Ok(());
-    }
-    write!(text, "{name}: Unreadable {count}\n")
-}
 
 /// Adds the lines of differences.
 fn push_differences<A: Allocator + Copy>(
@@ -93,16 +35,14 @@ fn lines_of<A: Allocator + Copy>(
     alloc: A,
     name: &str,
     found: Vec<Difference, A>,
-    findings: &[ListFinding],
+    findings: &[Finding],
 ) -> Result<String<A>, AllocError>
     ensures { IfOk result (λ text. (once : List AnyDifference) × (AreOnce found.items once
         × (string_bytes text ≡ finding_lines name.now findings.now
         ++ flat_map (difference_line name.now) once))) }
 {
     let once = each_once(alloc, found)?;
-    let mut text = String::new(alloc);
-    push_all_keyed(&mut text, name, findings)?;
-    push_unread(&mut text, name, findings)?;
+    let mut text = finding_lines(alloc, name, findings)?;
     push_differences(&mut text, name, &once)?;
     Ok(text)
 }

@@ -1,17 +1,17 @@
-//! What a list contains, sorted by kind.
+//! What a list contains.
 
 ghost use Rattle.std.specs.Prelude.{◌≡◌, IfOk, IfErr, ◌⊎◌, true, false};
-ghost use Rattle.std.specs.List.{filter_map};
+ghost use Rattle.findings.specs.Contents.{content_of};
 ghost use Rattle.lsdb_listing.specs.declared.fault.ListFault.TheVariants as faults;
 ghost use Rattle.frr_text.specs.Words.{words};
 ghost use Rattle.lsdb_listing.specs.Lines.{lines};
-ghost use Rattle.lsdb_listing.specs.Sorting.{header_of, finding_of, parsed_of, has_line, is_title, is_detail, is_list};
+ghost use Rattle.lsdb_listing.specs.Sorting.{parsed_of, has_line, is_title, is_detail, is_list};
 
 use crate::fault::ListFault;
-use crate::finding::ListFinding;
 use crate::label::{Label, begins_with};
 use crate::line_kind::line_kind_of;
-use crate::parsed_line::{ParsedLine, parse_all};
+use crate::parsed_line::parse_all;
+use findings::{Content, Finding, sorted};
 use lsa_instances::Header;
 use std::alloc::{AllocError, Allocator, Global};
 
@@ -20,54 +20,10 @@ use std::alloc::{AllocError, Allocator, Global};
 pub struct PrintedList<A: Allocator = Global> {
     /// The headers, one for each row.
     pub headers: Vec<Header, A>,
-    /// What cannot be compared.
-    pub findings: Vec<ListFinding, A>,
-}
-
-/// The header, if it is one.
-fn header_of(parsed: ParsedLine) -> Option<Header>
-    ensures { result ≡ header_of parsed }
-{
-    match parsed {
-        ParsedLine::Header(header) => Some(header),
-        ParsedLine::Finding(_) => None,
-    }
-}
-
-/// The finding, if it is one.
-fn finding_of(parsed: ParsedLine) -> Option<ListFinding>
-    ensures { result ≡ finding_of parsed }
-{
-    match parsed {
-        ParsedLine::Header(_) => None,
-        ParsedLine::Finding(finding) => Some(finding),
-    }
-}
-
-/// The headers.
-fn headers_of<A: Allocator + Copy>(
-    alloc: A,
-    parsed: &[ParsedLine],
-) -> Result<Vec<Header, A>, AllocError>
-    ensures { IfOk result (λ headers. headers.items ≡ filter_map header_of parsed.now) }
-{
-    parsed
-        .iter()
-        .filter_map(|one| header_of(*one))
-        .collect(alloc)
-}
-
-/// The findings.
-fn findings_of<A: Allocator + Copy>(
-    alloc: A,
-    parsed: &[ParsedLine],
-) -> Result<Vec<ListFinding, A>, AllocError>
-    ensures { IfOk result (λ findings. findings.items ≡ filter_map finding_of parsed.now) }
-{
-    parsed
-        .iter()
-        .filter_map(|one| finding_of(*one))
-        .collect(alloc)
+    /// What cannot be compared: a finding for each LSA of area scope that stands under a heading
+    /// without an area, and after these the number of lines that cannot be read, unless it is 0.
+    /// The database may lack these LSAs.
+    pub findings: Vec<Finding, A>,
 }
 
 /// Whether a line is the heading of rows.
@@ -113,10 +69,10 @@ fn is_list(text: &[u8]) -> bool
 ///
 /// No line is a heading of a list, or an LSA is printed whole; or memory ran out.
 pub fn read_list<A: Allocator + Copy>(alloc: A, text: &[u8]) -> Result<PrintedList<A>, ListFault>
-    ensures headers { IfOk result (λ list. list.headers.items
-        ≡ filter_map header_of (parsed_of text.now)) }
-    ensures findings { IfOk result (λ list. list.findings.items
-        ≡ filter_map finding_of (parsed_of text.now)) }
+    ensures headers { IfOk result
+        (λ list. list.headers.items ≡ (content_of {A = A} (parsed_of text.now)).headers) }
+    ensures findings { IfOk result
+        (λ list. list.findings.items ≡ (content_of {A = A} (parsed_of text.now)).findings) }
     ensures list { IfOk result (λ list. is_list text.now ≡ true) }
     ensures fault { IfErr result (λ fault. (fault ≡ faults.OutOfMemory)
         ⊎ ((fault ≡ faults.NotAList) × (is_list text.now ≡ false))) }
@@ -124,8 +80,11 @@ pub fn read_list<A: Allocator + Copy>(alloc: A, text: &[u8]) -> Result<PrintedLi
     if !is_list(text) {
         return Err(ListFault::NotAList);
     }
-    let parsed = parse_all(alloc, text)?;
-    let headers = headers_of(alloc, &parsed)?;
-    let findings = findings_of(alloc, &parsed)?;
+    let parts = parse_all(alloc, text)?;
+    let Content {
+        headers,
+        findings,
+        ..
+    } = sorted(alloc, parts)?;
     Ok(PrintedList { headers, findings })
 }

@@ -6,31 +6,22 @@ ghost use Rattle.frr_text.specs.Words.{words};
 ghost use Rattle.lsdb_listing.specs.Lines.{lines};
 ghost use Rattle.lsdb_listing.specs.ParsedLines.{in_scope, parsed_row, parsed_by, parsed_in};
 
-use crate::finding::ListFinding;
 use crate::heading::Heading;
 use crate::line_kind::{LineKind, line_kind_of};
 use crate::row::{Row, row_under};
+use findings::{Part, UnusedReason};
 use lsa_codec::AreaId;
 use lsa_instances::{Header, LINK_OPAQUE_LSA, Place, Scope};
 use std::alloc::{AllocError, Allocator};
 use text_words::cut_at;
 
-/// What a line contains.
-#[derive(Clone, Copy, Debug)]
-pub(crate) enum ParsedLine {
-    /// A header.
-    Header(Header),
-    /// A finding: the line has no usable header.
-    Finding(ListFinding),
-}
-
 /// The header of a row whose LSA has this scope, or a finding where it has none.
-fn in_scope(row: Row, scope: Option<Scope>) -> ParsedLine
+fn in_scope<A: Allocator + Copy>(row: Row, scope: Option<Scope>) -> Part<A>
     ensures { result ≡ in_scope row scope }
 {
     match scope {
-        None => ParsedLine::Finding(ListFinding::NoArea(row.key)),
-        Some(scope) => ParsedLine::Header(Header {
+        None => Part::unused(row.key, UnusedReason::NoArea),
+        Some(scope) => Part::Header(Header {
             place: Place {
                 scope,
                 key: row.key,
@@ -43,11 +34,11 @@ fn in_scope(row: Row, scope: Option<Scope>) -> ParsedLine
 
 /// What a row contains under the heading of an area, or of none. A row of an LSA of link scope is
 /// ignored.
-fn parsed_row(area: Option<AreaId>, row: Option<Row>) -> Option<ParsedLine>
+fn parsed_row<A: Allocator + Copy>(area: Option<AreaId>, row: Option<Row>) -> Option<Part<A>>
     ensures { result ≡ parsed_row area row }
 {
     let Some(row) = row else {
-        return Some(ParsedLine::Finding(ListFinding::Unreadable));
+        return Some(Part::Unreadable);
     };
     if row.key.kind == LINK_OPAQUE_LSA {
         return None;
@@ -57,7 +48,7 @@ fn parsed_row(area: Option<AreaId>, row: Option<Row>) -> Option<ParsedLine>
 
 /// Adds what a line contains.
 fn parse_line<A: Allocator + Copy>(
-    parsed: &mut Vec<ParsedLine, A>,
+    parsed: &mut Vec<Part<A>, A>,
     heading: Option<Heading>,
     line: &[u8],
     line_kind: LineKind,
@@ -67,7 +58,7 @@ fn parse_line<A: Allocator + Copy>(
 {
     match (line_kind, heading) {
         (LineKind::Foreign, _) => {
-            parsed.push(ParsedLine::Finding(ListFinding::Unreadable))?;
+            parsed.push(Part::Unreadable)?;
             Ok(())
         }
         (LineKind::Row, Some(heading)) => {
@@ -84,7 +75,7 @@ fn parse_line<A: Allocator + Copy>(
 pub(crate) fn parse_all<A: Allocator + Copy>(
     alloc: A,
     text: &[u8],
-) -> Result<Vec<ParsedLine, A>, AllocError>
+) -> Result<Vec<Part<A>, A>, AllocError>
     ensures { IfOk result (λ parsed. parsed.items ≡ parsed_in None (lines text.now)) }
 {
     let mut parsed = Vec::new(alloc);

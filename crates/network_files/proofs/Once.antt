@@ -1,14 +1,55 @@
 -- A file has one content.
-use Rattle.std.proofs.Common.{◌≡◌, ◌∙◌, ℕ, sym, ap, Bool, true, false, List}
+use Rattle.std.proofs.Common.{◌≡◌, ◌∙◌, ℕ, refl, sym, ap, Bool, true, false, List, [], ◌∷◌, ◌++◌}
+use Rattle.std.specs.Prelude.{Option, map}
+use Rattle.std.specs.List.{filter_map}
+use Rattle.std.proofs.lemmas.List.{append-nil}
+use Rattle.std.proofs.lemmas.List.Elements.{filter_map-append}
 use Rattle.capture_files.specs.Captures.{IsOfFormat}
 use Rattle.capture_files.specs.Pcap.{IsPcap}
 use Rattle.capture_files.specs.Pcapng.{IsPcapng, has_section}
 use Rattle.capture_files.specs.CaptureTexts.{CaptureText}
+use Rattle.findings.specs.declared.part.Part.{Part}
+use Rattle.findings.specs.declared.reported_lsa.ReportedLsa.{ReportedLsa}
+use Rattle.findings.specs.Contents.{ContentLists, content_of, header_of, kind_of, observation_of}
 use Rattle.network_files.proofs.Documents.{one_document}
 use Rattle.network_files.specs.declared.kind.FileKind.{FileKind}
 use Rattle.network_files.specs.declared.kind.FileKind.TheVariants.{Capture, Json, Printed, Walk}
-use Rattle.network_files.specs.declared.parsed_file.ParsedFile.{ParsedFile}
-use Rattle.network_files.specs.ParsedFiles.{IsFileAs, IsReadFromCapture, content_of_frames, content_of}
+use Rattle.network_files.specs.ParsedFiles.{HasContent, databases_in}
+use Rattle.ospf_captures.specs.Contents as captures
+use Rattle.snmp_walk.specs.Contents as walks
+use Rattle.snmp_walk.specs.Missing.{missing_row}
+use Rattle.snmp_walk.specs.ParsedObjects.{parsed_in}
+use Rattle.snmp_walk.specs.Sorting.{part_of}
+
+-- ---- rows that are missing add nothing to the databases
+
+module _ {A : Type 0} where
+  no_observations : (rows : List ReportedLsa) → filter_map (observation_of {A = A}) (map missing_row rows) ≡ []
+  no_observations [] = refl
+  no_observations (row ∷ rows) = no_observations rows
+
+  no_kinds : (rows : List ReportedLsa) → filter_map (kind_of {A = A}) (map missing_row rows) ≡ []
+  no_kinds [] = refl
+  no_kinds (row ∷ rows) = no_kinds rows
+
+  no_headers : (rows : List ReportedLsa) → filter_map (header_of {A = A}) (map missing_row rows) ≡ []
+  no_headers [] = refl
+  no_headers (row ∷ rows) = no_headers rows
+
+  nothing_more : {X : Type 0} (f : Part A → Option X) (these : List (Part A)) (rows : List ReportedLsa) → filter_map f (map missing_row rows) ≡ []
+      → filter_map f (these ++ map missing_row rows) ≡ filter_map f these
+  nothing_more f these rows none =
+      filter_map-append f these (map missing_row rows) ∙ ap (λ rest. filter_map f these ++ rest) none ∙ append-nil (filter_map f these)
+
+  same_databases : (these : List (Part A)) (rows : List ReportedLsa)
+      → databases_in (content_of (these ++ map missing_row rows)) ≡ databases_in (content_of these)
+  unfolding content_of
+  same_databases these rows = λ i. (
+    nothing_more observation_of these rows (no_observations rows) i,
+    (nothing_more kind_of these rows (no_kinds rows) i, nothing_more header_of these rows (no_headers rows) i),
+  )
+
+-- ---- files of each kind
 
 module _ (pcap : (file : List ℕ) (a b : CaptureText) → IsPcap file a → IsPcap file b → a ≡ b)
     (pcapng : (file : List ℕ) (a b : CaptureText) → IsPcapng file a → IsPcapng file b → a ≡ b) where
@@ -16,15 +57,19 @@ module _ (pcap : (file : List ℕ) (a b : CaptureText) → IsPcap file a → IsP
   one_capture true = pcapng
   one_capture false = pcap
 
-  by_capture : {A : Type 0} (bytes : List ℕ) (one two : ParsedFile A) → IsReadFromCapture bytes one → IsReadFromCapture bytes two
-      → content_of one ≡ content_of two
-  by_capture {A} bytes one two a b =
-      let same = one_capture (has_section bytes) bytes a.capture b.capture a.read b.read in
-      a.content ∙ ap (λ (capture : CaptureText). content_of_frames {A = A} capture.packets) same ∙ sym b.content
+  module _ {A : Type 0} (bytes : List ℕ) (one two : ContentLists A) where
+    by_capture : captures.HasContent bytes one → captures.HasContent bytes two → one ≡ two
+    by_capture a b =
+        let same = one_capture (has_section bytes) bytes a.capture b.capture a.read b.read in
+        a.whole ∙ ap (λ (capture : CaptureText). content_of (captures.parts_in capture.packets capture.end)) same ∙ sym b.whole
 
-  pub one_reading : {A : Type 0} (kind : FileKind) (bytes : List ℕ) (one two : ParsedFile A) → IsFileAs kind bytes one → IsFileAs kind bytes two
-      → content_of one ≡ content_of two
-  one_reading Capture bytes one two a b = by_capture bytes one two a b
-  one_reading Json bytes one two a b = one_document bytes one two a b
-  one_reading Printed bytes one two a b = a.content ∙ sym b.content
-  one_reading Walk bytes one two a b = a.content ∙ sym b.content
+    by_walk : walks.HasContent bytes one → walks.HasContent bytes two → databases_in one ≡ databases_in two
+    by_walk a b =
+        let found : List (Part A) = filter_map part_of (parsed_in bytes) in
+        ap databases_in a.whole ∙ same_databases found a.rows ∙ sym (same_databases found b.rows) ∙ sym (ap databases_in b.whole)
+
+    pub one_reading : (kind : FileKind) → HasContent kind bytes one → HasContent kind bytes two → databases_in one ≡ databases_in two
+    one_reading Capture a b = ap databases_in (by_capture a b)
+    one_reading Json a b = ap databases_in (one_document bytes one two a b)
+    one_reading Printed a b = ap databases_in (a ∙ sym b)
+    one_reading Walk a b = by_walk a b

@@ -1,6 +1,5 @@
 -- A file that can be read is not refused.
 use Rattle.std.proofs.Common.{◌≡◌, ◌∙◌, ℕ, refl, sym, ap, true≢false, Bool, true, false, List}
-use Rattle.std.proofs.lemmas.Option.{none-some}
 use Rattle.std.specs.Prelude.{◌≢◌, is_ok}
 use Rattle.capture_files.specs.declared.fault.CaptureFault.{CaptureFault}
 use Rattle.capture_files.specs.declared.fault.CaptureFault.TheVariants as captures
@@ -8,13 +7,13 @@ use Rattle.capture_files.specs.Captures.{IsOfFormat, IsFaultOfFormat}
 use Rattle.capture_files.specs.Pcap.{IsPcap, IsPcapFault, IsMalformedAt}
 use Rattle.capture_files.specs.Pcapng.{IsPcapng, IsPcapngFault, has_section}
 use Rattle.capture_files.specs.CaptureTexts.{CaptureText}
-use Rattle.network_files.proofs.Documents.{no_lack}
+use Rattle.findings.specs.Contents.{ContentLists}
+use Rattle.network_files.proofs.Documents.{is_document, no_lack}
 use Rattle.network_files.specs.declared.fault.FileFault.{FileFault}
 use Rattle.network_files.specs.declared.fault.FileFault.TheVariants as faults
 use Rattle.network_files.specs.declared.kind.FileKind.{FileKind}
 use Rattle.network_files.specs.declared.kind.FileKind.TheVariants.{Capture, Json, Printed, Walk}
-use Rattle.network_files.specs.declared.parsed_file.ParsedFile.{ParsedFile}
-use Rattle.network_files.specs.ParsedFiles.{IsFileAs, IsRefusalAs}
+use Rattle.network_files.specs.ParsedFiles.{HasContent, IsRefusalAs}
 use Rattle.std.specs.Prelude.{Result, Ok, Err}
 
 not_both : {X E : Type 0} (r : Result X E) (x : X) (e : E) → r ≡ Ok x → r ≡ Err e → ⊥
@@ -41,21 +40,21 @@ module _ (pcap : (file : List ℕ) (parsed : CaptureText) (offset : ℕ) → IsP
   no_fault true = pcapng
   no_fault false = no_fault_of_pcap
 
-  pub memory_alone : {A : Type 0} (kind : FileKind) (bytes : List ℕ) (file : ParsedFile A) (fault : FileFault)
-      → IsFileAs kind bytes file → IsRefusalAs A kind bytes fault → fault ≡ faults.OutOfMemory
-  memory_alone Capture bytes file faults.OutOfMemory a b = refl
-  memory_alone Capture bytes file (faults.Capture fault) a b = absurd (no_fault (has_section bytes) bytes a.capture fault a.read b.0 b.1)
-  memory_alone Capture bytes file faults.NotJson a b = absurd b
-  memory_alone Capture bytes file faults.NoDatabase a b = absurd b
-  memory_alone Capture bytes file faults.UnknownKind a b = absurd b
-  memory_alone Json bytes file faults.OutOfMemory a b = refl
-  memory_alone Json bytes file (faults.Capture fault) a b = absurd b
-  memory_alone Json bytes file faults.NotJson a b = absurd (none-some a.json (sym (b a.spelled) ∙ a.read))
-  memory_alone Json bytes file faults.NoDatabase a b = absurd (no_lack bytes file a b.1)
-  memory_alone Json bytes file faults.UnknownKind a b = absurd b
-  memory_alone Printed bytes file fault a b = b
-  memory_alone Walk bytes file faults.OutOfMemory a b = refl
-  memory_alone Walk bytes file (faults.Capture fault) a b = absurd b
-  memory_alone Walk bytes file faults.NotJson a b = absurd b
-  memory_alone Walk bytes file faults.NoDatabase a b = absurd b
-  memory_alone Walk bytes file faults.UnknownKind a b = absurd (true≢false (sym a.read ∙ b))
+  pub memory_alone : {A : Type 0} (kind : FileKind) (bytes : List ℕ) (content : ContentLists A) (fault : FileFault)
+      → HasContent kind bytes content → IsRefusalAs A kind bytes fault → fault ≡ faults.OutOfMemory
+  memory_alone Capture bytes content faults.OutOfMemory a b = refl
+  memory_alone Capture bytes content (faults.Capture fault) a b = absurd (no_fault (has_section bytes) bytes a.capture fault a.read b.0 b.1)
+  memory_alone Capture bytes content faults.NotJson a b = absurd b
+  memory_alone Capture bytes content faults.NoDatabase a b = absurd b
+  memory_alone Capture bytes content faults.UnknownKind a b = absurd b
+  memory_alone Json bytes content faults.OutOfMemory a b = refl
+  memory_alone Json bytes content (faults.Capture fault) a b = absurd b
+  memory_alone Json bytes content faults.NotJson a b = absurd (is_document bytes content a (b a.spelled))
+  memory_alone Json bytes content faults.NoDatabase a b = absurd (no_lack bytes content a b.1)
+  memory_alone Json bytes content faults.UnknownKind a b = absurd b
+  memory_alone Printed bytes content fault a b = b
+  memory_alone Walk bytes content faults.OutOfMemory a b = refl
+  memory_alone Walk bytes content (faults.Capture fault) a b = absurd b
+  memory_alone Walk bytes content faults.NotJson a b = absurd b
+  memory_alone Walk bytes content faults.NoDatabase a b = absurd b
+  memory_alone Walk bytes content faults.UnknownKind a b = absurd (true≢false (sym a.walk ∙ b))

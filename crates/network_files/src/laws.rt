@@ -7,19 +7,20 @@ ghost use Rattle.network_files.specs.declared.fault.FileFault.{FileFault as AnyF
 ghost use Rattle.network_files.specs.declared.fault.FileFault.TheVariants as faults;
 ghost use Rattle.network_files.specs.declared.parsed_file.ParsedFile.{ParsedFile as AnyFile};
 ghost use Rattle.network_files.specs.Dumps.{IsDump};
-ghost use Rattle.network_files.specs.ParsedFiles.{IsRefusalOf, IsFileOf, content_of};
+ghost use Rattle.network_files.specs.ParsedFiles.{IsRefusalOf, IsFileOf, lists_in_file, databases_in};
 
 use capture_files::{one_reading_of_pcap, one_reading_of_pcapng};
 use lsdb_merge::joined_in_any_order;
 use std::alloc::Allocator;
 
-/// The bytes of a file determine the LSAs and the kinds of areas that it contains, or that it is
-/// refused.
+/// The bytes of a file determine the LSAs, the kinds of areas and the headers that it contains, or
+/// that it is refused.
 ///
 /// The function does nothing: its contract is the law.
 pub fn one_reading_of_a_file<A: Allocator>()
     ensures same { (bytes : List ℕ) (one two : AnyFile A) → IsFileOf bytes one
-        → IsFileOf bytes two → content_of one ≡ content_of two }
+        → IsFileOf bytes two → databases_in (lists_in_file one)
+        ≡ databases_in (lists_in_file two) }
 
     // A file that can be read is refused only where memory ran out.
     ensures refused { (bytes : List ℕ) (file : AnyFile A) (fault : AnyFault) → IsFileOf bytes file

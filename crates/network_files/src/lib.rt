@@ -7,16 +7,12 @@
 //! are, and not on their order.
 #![tactic(auto)]
 
-mod capture;
-mod document;
+mod content;
 mod dump;
 mod fault;
 mod kind;
 mod laws;
 mod parsed_file;
-mod printed;
-mod printed_findings;
-mod walk;
 
 pub use dump::{JoinedFiles, areas_of, join_files};
 pub use fault::FileFault;

@@ -1,15 +1,12 @@
 //! What a file contains.
 
 ghost use Rattle.std.specs.Prelude.{IfOk, IfErr};
-ghost use Rattle.network_files.specs.ParsedFiles.{IsFileOf, IsRefusalOf};
+ghost use Rattle.network_files.specs.ParsedFiles.{IsFileAs, IsFileOf, IsRefusalAs, IsRefusalOf};
 
-use crate::capture::read_capture_file;
-use crate::document::read_json_file;
+use crate::content::content_as;
 use crate::fault::FileFault;
 use crate::kind::FileKind;
-use crate::printed::read_text_file;
-use crate::walk::read_walk_file;
-use findings::Finding;
+use findings::{Content, Finding};
 use lsa_instances::{AreaReport, Header, Observation};
 use std::alloc::{Allocator, Global};
 
@@ -28,6 +25,30 @@ pub struct ParsedFile<A: Allocator = Global> {
     pub findings: Vec<Finding, A>,
 }
 
+/// Reads a file of this kind.
+fn read_as<A: Allocator + Copy>(
+    alloc: A,
+    kind: FileKind,
+    bytes: &[u8],
+) -> Result<ParsedFile<A>, FileFault>
+    ensures parsed { IfOk result (λ file. IsFileAs kind bytes.now file) }
+    ensures fault { IfErr result (λ fault. IsRefusalAs A kind bytes.now fault) }
+{
+    let Content {
+        observations,
+        kinds,
+        headers,
+        findings,
+    } = content_as(alloc, kind, bytes)?;
+    Ok(ParsedFile {
+        kind,
+        observations,
+        areas: kinds,
+        headers,
+        findings,
+    })
+}
+
 /// Reads a file of any kind.
 ///
 /// # Errors
@@ -40,10 +61,5 @@ pub fn read_file<A: Allocator + Copy>(alloc: A, bytes: &[u8]) -> Result<ParsedFi
     ensures parsed { IfOk result (λ file. IsFileOf bytes.now file) }
     ensures fault { IfErr result (λ fault. IsRefusalOf A bytes.now fault) }
 {
-    match FileKind::of(bytes) {
-        FileKind::Capture => read_capture_file(alloc, bytes),
-        FileKind::Json => read_json_file(alloc, bytes),
-        FileKind::Printed => read_text_file(alloc, bytes),
-        FileKind::Walk => read_walk_file(alloc, bytes),
-    }
+    read_as(alloc, FileKind::of(bytes), bytes)
 }

@@ -5,11 +5,11 @@ use Rattle.std.proofs.Math.Seq.{drop-cons}
 use Rattle.std.proofs.lemmas.List.{drop_all, append-nil, map_more}
 use Rattle.capture_files.specs.declared.frame.Frame.{Frame}
 use Rattle.capture_files.specs.CaptureTexts.{packet_of}
-use Rattle.ospf_packets.specs.declared.parsed_frame.ParsedFrame.{ParsedFrame}
+use Rattle.findings.specs.declared.part.Part.{Part}
 use Rattle.ospf_packets.specs.ParsedFrames.{parsed_frame, parsed_after}
 use Rattle.ospf_packets.proofs.Slices.{rest_at}
 
-pub parsed_next : {A : Type 0} (parsed : List (ParsedFrame A)) (frames : List Frame) (i : ℕ) (d : Frame) (all : List (ParsedFrame A)) → i < length frames
+pub parsed_next : {A : Type 0} (parsed : List (Part A)) (frames : List Frame) (i : ℕ) (d : Frame) (all : List (Part A)) → i < length frames
     → parsed ++ parsed_after (map packet_of (take i frames)) (map packet_of (drop i frames)) ≡ all
     → (parsed ++ parsed_frame (map packet_of (take i frames)) (packet_of (get_or frames i d))
     (map packet_of (take (length frames - (i + 1)) (drop (i + 1) frames))))
@@ -24,7 +24,7 @@ parsed_next {A} parsed frames i d all lt h =
     ∙ ap (λ before. parsed ++ (here ++ parsed_after {A = A} before (map packet_of (drop (i + 1) frames)))) (map_more packet_of frames i d lt)
     ∙ ap (λ fs. parsed ++ parsed_after {A = A} (map packet_of (take i frames)) (map packet_of fs)) (sym cut) ∙ h
 
-pub parsed_all : {A : Type 0} (parsed : List (ParsedFrame A)) (frames : List Frame) (i : ℕ) (all : List (ParsedFrame A)) → length frames ≤ i
+pub parsed_all : {A : Type 0} (parsed : List (Part A)) (frames : List Frame) (i : ℕ) (all : List (Part A)) → length frames ≤ i
     → parsed ++ parsed_after (map packet_of (take i frames)) (map packet_of (drop i frames)) ≡ all → parsed ≡ all
 unfolding parsed_after
 parsed_all {A} parsed frames i all le h =

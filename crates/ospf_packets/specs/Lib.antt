@@ -7,5 +7,4 @@ pub mod Hellos
 pub mod Updates
 pub mod Headers
 pub mod ParsedFrames
-pub mod Sorting
-pub mod Counting
+pub mod Contents

@@ -8,8 +8,8 @@ use Rattle.lsa_codec.specs.Fields.{length_of, kind_of}
 use Rattle.lsa_instances.specs.Order.{scope_in}
 use Rattle.findings.specs.declared.frame_warning.FrameWarning.{FrameWarning}
 use Rattle.findings.specs.declared.frame_warning.FrameWarning.TheVariants.{BadLength, RefusedLsa}
-use Rattle.ospf_packets.specs.declared.parsed_frame.ParsedFrame.{ParsedFrame}
-use Rattle.ospf_packets.specs.declared.parsed_frame.ParsedFrame.TheVariants as contents
+use Rattle.findings.specs.declared.part.Part.{Part}
+use Rattle.findings.specs.declared.part.Part.TheVariants as contents
 use Rattle.ospf_packets.specs.declared.update.Flooded.{Flooded}
 use Rattle.ospf_packets.specs.Packets.{lack}
 
@@ -23,19 +23,19 @@ lsa_length whole bytes =
 
 module _ {A : Type 0} where
   -- an LSA that is accepted has the scope of its LS type in the area of the packet
-  abbrev pub parsed_decoded : Flooded → Result (List ℕ) LsaFault → ParsedFrame A
+  abbrev pub parsed_decoded : Flooded → Result (List ℕ) LsaFault → Part A
   parsed_decoded by (Ok lsa) = contents.Lsa (record { scope = scope_in by.area (kind_of lsa); seen = by.seen; lsa = lsa })
   parsed_decoded by (Err fault) = contents.Warning (RefusedLsa fault)
 
   -- an LSA, or why its bytes are not one
-  abbrev pub parsed_lsa : Flooded → List ℕ → ParsedFrame A
+  abbrev pub parsed_lsa : Flooded → List ℕ → Part A
   parsed_lsa by bytes = parsed_decoded by (decoded bytes)
 
-  abbrev pub first_parsed : Flooded → List ℕ → (List ℕ → List (ParsedFrame A)) → Result ℕ FrameWarning → List (ParsedFrame A)
+  abbrev pub first_parsed : Flooded → List ℕ → (List ℕ → List (Part A)) → Result ℕ FrameWarning → List (Part A)
   first_parsed by bytes after (Err warning) = contents.Warning warning ∷ []
   first_parsed by bytes after (Ok size) = parsed_lsa by (take size bytes) ∷ after (drop size bytes)
 
   -- n LSAs at the front. Where the length of one of them is impossible, it is not known where the others begin
-  unfoldable pub parsed_lsas : Flooded → ℕ → List ℕ → List (ParsedFrame A)
+  unfoldable pub parsed_lsas : Flooded → ℕ → List ℕ → List (Part A)
   parsed_lsas by zero bytes = []
   parsed_lsas by (suc n) bytes = first_parsed by bytes (λ rest. parsed_lsas by n rest) (lsa_length by.whole bytes)

@@ -6,8 +6,8 @@ ghost use Rattle.ospf_packets.specs.Headers.{header_in, whole_headers, left_over
 
 use crate::field::{u16_at, u32_at};
 use crate::packet::lack;
-use crate::parsed_frame::ParsedFrame;
 use crate::update::{Flooded, LSA_HEADER};
+use findings::Part;
 use lsa_codec::{Addr, AreaId, Key, RouterId};
 use lsa_instances::{Header, InstanceId, Place, Scope};
 use std::alloc::{AllocError, Allocator};
@@ -41,7 +41,7 @@ fn header_in(area: AreaId, bytes: &[u8]) -> Header
 
 /// Adds the LSA headers that stand one after another, those that are whole.
 fn parse_whole_headers<A: Allocator + Copy>(
-    parsed: &mut Vec<ParsedFrame<A>, A>,
+    parsed: &mut Vec<Part<A>, A>,
     area: AreaId,
     bytes: &[u8],
 ) -> Result<(), AllocError>
@@ -49,14 +49,14 @@ fn parse_whole_headers<A: Allocator + Copy>(
 {
     for index in 0..bytes.len() / LSA_HEADER {
         let header = header_in(area, &bytes[LSA_HEADER * index..]);
-        parsed.push(ParsedFrame::Header(header))?;
+        parsed.push(Part::Header(header))?;
     }
     Ok(())
 }
 
 /// Adds the LSA headers that fill these bytes, and a warning where bytes are left over.
 fn parse_headers<A: Allocator + Copy>(
-    parsed: &mut Vec<ParsedFrame<A>, A>,
+    parsed: &mut Vec<Part<A>, A>,
     by: Flooded,
     bytes: &[u8],
 ) -> Result<(), AllocError>
@@ -64,14 +64,14 @@ fn parse_headers<A: Allocator + Copy>(
 {
     parse_whole_headers(parsed, by.area, bytes)?;
     if bytes.len() % LSA_HEADER != 0 {
-        parsed.push(ParsedFrame::Warning(lack(by.whole)))?;
+        parsed.push(Part::Warning(lack(by.whole)))?;
     }
     Ok(())
 }
 
 /// Adds what a packet contains whose LSA headers stand after this number of bytes.
 pub(crate) fn parse_headers_after<A: Allocator + Copy>(
-    parsed: &mut Vec<ParsedFrame<A>, A>,
+    parsed: &mut Vec<Part<A>, A>,
     by: Flooded,
     before: usize,
     packet: &[u8],
@@ -80,7 +80,7 @@ pub(crate) fn parse_headers_after<A: Allocator + Copy>(
         ≡ parsed.old.items ++ headers_after before by packet.now) }
 {
     if packet.len() < before {
-        parsed.push(ParsedFrame::Warning(lack(by.whole)))?;
+        parsed.push(Part::Warning(lack(by.whole)))?;
         return Ok(());
     }
     parse_headers(parsed, by, &packet[before..])

@@ -9,7 +9,6 @@
 #![tactic(auto)]
 
 mod checksum;
-mod counting;
 mod datagram;
 mod field;
 mod fragment;
@@ -21,4 +20,4 @@ mod packets;
 mod parsed_frame;
 mod update;
 
-pub use packets::{Packets, read_frames};
+pub use packets::read_frames;

@@ -15,26 +15,13 @@ use crate::hello::{OPTIONS, SHORTEST_HELLO, kind_by_options};
 use crate::packet::{PACKET_HEADER, Packet, lack, ospf_of};
 use crate::update::{Flooded, parse_lsas};
 use capture_files::Frame;
-use findings::FrameWarning;
+use findings::{FrameWarning, Part};
 use lsa_codec::AreaId;
-use lsa_instances::{AreaReport, Header, Observation};
+use lsa_instances::AreaReport;
 use std::alloc::{AllocError, Allocator};
 
 /// The number of bytes of an update packet before its LSAs.
 const UPDATE_HEADER: usize = 28;
-
-/// What a frame contains, or a warning about it.
-#[derive(Debug, Drop)]
-pub(crate) enum ParsedFrame<A: Allocator> {
-    /// An LSA.
-    Lsa(Observation<A>),
-    /// The kind of an area.
-    Kind(AreaReport),
-    /// The header of an LSA, without its body.
-    Header(Header),
-    /// A warning: the frame, or a part of it, is not used.
-    Warning(FrameWarning),
-}
 
 /// What the packet says about all of its LSAs.
 fn flooded(seen: Option<u64>, packet: Packet<'_>) -> Flooded
@@ -50,33 +37,33 @@ fn flooded(seen: Option<u64>, packet: Packet<'_>) -> Flooded
 
 /// Adds what a Hello packet contains.
 fn parse_hello<A: Allocator + Copy>(
-    parsed: &mut Vec<ParsedFrame<A>, A>,
+    parsed: &mut Vec<Part<A>, A>,
     by: Flooded,
     packet: &[u8],
 ) -> Result<(), AllocError>
     ensures { OnOk result (parsed.new.items ≡ parsed.old.items ++ parsed_hello by packet.now) }
 {
     if packet.len() < SHORTEST_HELLO {
-        parsed.push(ParsedFrame::Warning(lack(by.whole)))?;
+        parsed.push(Part::Warning(lack(by.whole)))?;
         return Ok(());
     }
     let id = by.area;
     let kind = kind_by_options(packet[OPTIONS]);
-    parsed.push(ParsedFrame::Kind(AreaReport { id, kind }))?;
+    parsed.push(Part::Kind(AreaReport { id, kind }))?;
     Ok(())
 }
 
 /// Adds what a Link State Update packet contains.
 fn parse_update<A: Allocator + Copy>(
     alloc: A,
-    parsed: &mut Vec<ParsedFrame<A>, A>,
+    parsed: &mut Vec<Part<A>, A>,
     by: Flooded,
     packet: &[u8],
 ) -> Result<(), AllocError>
     ensures { OnOk result (parsed.new.items ≡ parsed.old.items ++ parsed_update by packet.now) }
 {
     if packet.len() < UPDATE_HEADER {
-        parsed.push(ParsedFrame::Warning(lack(by.whole)))?;
+        parsed.push(Part::Warning(lack(by.whole)))?;
         return Ok(());
     }
     let count = u32_at(packet, 24);
@@ -86,7 +73,7 @@ fn parse_update<A: Allocator + Copy>(
 /// Adds what a packet of this type contains.
 fn parse_by_type<A: Allocator + Copy>(
     alloc: A,
-    parsed: &mut Vec<ParsedFrame<A>, A>,
+    parsed: &mut Vec<Part<A>, A>,
     by: Flooded,
     kind: u8,
     packet: &[u8],
@@ -101,7 +88,7 @@ fn parse_by_type<A: Allocator + Copy>(
         3 => Ok(()),
         5 => parse_headers_after(parsed, by, PACKET_HEADER, packet),
         _ => {
-            parsed.push(ParsedFrame::Warning(FrameWarning::OtherType))?;
+            parsed.push(Part::Warning(FrameWarning::OtherType))?;
             Ok(())
         }
     }
@@ -110,7 +97,7 @@ fn parse_by_type<A: Allocator + Copy>(
 /// Adds what the packet contains that is the payload of a datagram: all of it, or what is at hand.
 fn parse_packet<A: Allocator + Copy>(
     alloc: A,
-    parsed: &mut Vec<ParsedFrame<A>, A>,
+    parsed: &mut Vec<Part<A>, A>,
     seen: Option<u64>,
     whole: bool,
     payload: &[u8],
@@ -124,7 +111,7 @@ fn parse_packet<A: Allocator + Copy>(
             parse_by_type(alloc, parsed, by, packet.bytes[1], packet.bytes)
         }
         Err(warning) => {
-            parsed.push(ParsedFrame::Warning(warning))?;
+            parsed.push(Part::Warning(warning))?;
             Ok(())
         }
     }
@@ -134,7 +121,7 @@ fn parse_packet<A: Allocator + Copy>(
 /// later frames.
 fn parse_joined<A: Allocator + Copy>(
     alloc: A,
-    parsed: &mut Vec<ParsedFrame<A>, A>,
+    parsed: &mut Vec<Part<A>, A>,
     seen: Option<u64>,
     first: Datagram<'_>,
     after: &[Frame<'_>],
@@ -145,7 +132,7 @@ fn parse_joined<A: Allocator + Copy>(
     match joined(alloc, first, after)? {
         Some(payload) => parse_packet(alloc, parsed, seen, true, &payload),
         None => {
-            parsed.push(ParsedFrame::Warning(FrameWarning::MissingFragment))?;
+            parsed.push(Part::Warning(FrameWarning::MissingFragment))?;
             Ok(())
         }
     }
@@ -154,7 +141,7 @@ fn parse_joined<A: Allocator + Copy>(
 /// Adds a warning for a fragment that does not begin its datagram, unless the one just before it is
 /// there.
 fn parse_later<A: Allocator + Copy>(
-    parsed: &mut Vec<ParsedFrame<A>, A>,
+    parsed: &mut Vec<Part<A>, A>,
     fragment: Datagram<'_>,
     before: &[Frame<'_>],
 ) -> Result<(), AllocError>
@@ -162,7 +149,7 @@ fn parse_later<A: Allocator + Copy>(
         ++ parsed_later (has_front (datagram_text fragment.entry) (map packet_of before.now))) }
 {
     if !has_front(fragment, before) {
-        parsed.push(ParsedFrame::Warning(FrameWarning::MissingFragment))?;
+        parsed.push(Part::Warning(FrameWarning::MissingFragment))?;
     }
     Ok(())
 }
@@ -171,7 +158,7 @@ fn parse_later<A: Allocator + Copy>(
 #[tactic(auto, unfolding(crate::specs::ParsedFrames::parsed_frame))]
 fn parse_frame<A: Allocator + Copy>(
     alloc: A,
-    parsed: &mut Vec<ParsedFrame<A>, A>,
+    parsed: &mut Vec<Part<A>, A>,
     before: &[Frame<'_>],
     frame: &Frame<'_>,
     after: &[Frame<'_>],
@@ -190,7 +177,7 @@ fn parse_frame<A: Allocator + Copy>(
             parse_packet(alloc, parsed, frame.seen, datagram.whole, datagram.payload)
         }
         Err(warning) => {
-            parsed.push(ParsedFrame::Warning(warning))?;
+            parsed.push(Part::Warning(warning))?;
             Ok(())
         }
     }
@@ -201,7 +188,7 @@ fn parse_frame<A: Allocator + Copy>(
 pub(crate) fn parse_all<A: Allocator + Copy>(
     alloc: A,
     frames: &[Frame<'_>],
-) -> Result<Vec<ParsedFrame<A>, A>, AllocError>
+) -> Result<Vec<Part<A>, A>, AllocError>
     ensures { IfOk result (λ parsed. parsed.items ≡ parsed_in (map packet_of frames.now)) }
 {
     let mut parsed = Vec::new(alloc);

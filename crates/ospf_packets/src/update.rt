@@ -5,8 +5,7 @@ ghost use Rattle.ospf_packets.specs.Updates.{lsa_length, parsed_lsa, parsed_lsas
 
 use crate::field::u16_at;
 use crate::packet::lack;
-use crate::parsed_frame::ParsedFrame;
-use findings::FrameWarning;
+use findings::{FrameWarning, Part};
 use lsa_codec::{AreaId, Lsa, LsaFault};
 use lsa_instances::{Observation, Scope};
 use std::alloc::{AllocError, Allocator};
@@ -48,17 +47,17 @@ fn parsed_lsa<A: Allocator + Copy>(
     alloc: A,
     by: Flooded,
     bytes: &[u8],
-) -> Result<ParsedFrame<A>, AllocError>
+) -> Result<Part<A>, AllocError>
     ensures { IfOk result (λ parsed. parsed ≡ parsed_lsa by bytes.now) }
 {
     match Lsa::decode(alloc, bytes) {
-        Ok((lsa, _)) => Ok(ParsedFrame::Lsa(Observation {
+        Ok((lsa, _)) => Ok(Part::Lsa(Observation {
             scope: Scope::in_area(by.area, lsa.key().kind),
             seen: by.seen,
             lsa,
         })),
         Err(LsaFault::OutOfMemory) => Err(AllocError),
-        Err(fault) => Ok(ParsedFrame::Warning(FrameWarning::RefusedLsa(fault))),
+        Err(fault) => Ok(Part::Warning(FrameWarning::RefusedLsa(fault))),
     }
 }
 
@@ -66,7 +65,7 @@ fn parsed_lsa<A: Allocator + Copy>(
 #[tactic(auto, using(crate::proofs::Lsas::one_more, crate::proofs::Lsas::stopped, crate::proofs::Lsas::all_parsed))]
 pub(crate) fn parse_lsas<A: Allocator + Copy>(
     alloc: A,
-    parsed: &mut Vec<ParsedFrame<A>, A>,
+    parsed: &mut Vec<Part<A>, A>,
     by: Flooded,
     count: u32,
     bytes: &[u8],
@@ -81,7 +80,7 @@ pub(crate) fn parse_lsas<A: Allocator + Copy>(
                 rest = &rest[size..];
             }
             Err(warning) => {
-                parsed.push(ParsedFrame::Warning(warning))?;
+                parsed.push(Part::Warning(warning))?;
                 return Ok(());
             }
         }

@@ -7,4 +7,5 @@ pub mod Printing
 pub mod ParsedObjects
 pub mod Sorting
 pub mod Missing
+pub mod Contents
 pub mod steps

@@ -1,16 +1,16 @@
 -- The rows of which a walk has other columns and not the bytes: it was cut.
-use Rattle.std.specs.Prelude.{◌≡◌, ◌&&◌, Bool, not, List, ◌++◌, map, Option, Some, None}
-use Rattle.std.specs.List.{filter_map, list_any}
+use Rattle.std.specs.Prelude.{◌≡◌, ◌&&◌, Bool, not, List, Option, Some, None}
+use Rattle.std.specs.List.{list_any}
 use Rattle.std.specs.List.Sorted.{IsStrictlySortedBy}
 use Rattle.std.specs.Ordering.{eq_by_cmp}
 use Rattle.findings.specs.Order.{reported_cmp}
-use Rattle.findings.specs.declared.finding.Finding.{Finding}
 use Rattle.findings.specs.declared.finding.Finding.TheVariants as findings
+use Rattle.findings.specs.declared.part.Part.{Part}
+use Rattle.findings.specs.declared.part.Part.TheVariants as parts
 use Rattle.findings.specs.declared.reported_lsa.ReportedLsa.{ReportedLsa}
 use Rattle.findings.specs.declared.unused_reason.UnusedReason.TheVariants.{Missing}
 use Rattle.snmp_walk.specs.declared.parsed_object.ParsedObject.{ParsedObject}
 use Rattle.snmp_walk.specs.declared.parsed_object.ParsedObject.TheVariants as contents
-use Rattle.snmp_walk.specs.Sorting.{finding_of}
 
 -- whether the row is one of these
 abbrev pub has : ReportedLsa → List ReportedLsa → Bool
@@ -41,11 +41,6 @@ module _ {A : Type 0} where
   bytes_row contents.Nothing = None
   bytes_row contents.Foreign = None
 
-abbrev pub missing_row : ReportedLsa → Finding
-missing_row row = findings.Unused row Missing
-
--- what objects lack, in the order of the walk, and after that the rows without bytes
-pub record AreFindings {A : Type 0} (parsed : List (ParsedObject A)) (all : List Finding) : Type 0 where
-  pub rows : List ReportedLsa
-  pub missing : AreMissing (filter_map column_row parsed) (filter_map bytes_row parsed) rows
-  pub whole : all ≡ filter_map finding_of parsed ++ map missing_row rows
+-- a row whose bytes are missing
+abbrev pub missing_row : {A : Type 0} → ReportedLsa → Part A
+missing_row row = parts.Finding (findings.Unused row Missing)

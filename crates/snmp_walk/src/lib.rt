@@ -17,4 +17,4 @@ mod walk;
 
 pub use fault::WalkFault;
 pub use laws::printed_bytes_are_read;
-pub use walk::{Walk, read_walk};
+pub use walk::read_walk;

@@ -7,7 +7,7 @@ ghost use Rattle.findings.specs.Order.{reported_cmp};
 ghost use Rattle.snmp_walk.specs.Missing.{column_row, bytes_row, missing_row, AreMissing};
 
 use crate::parsed_object::ParsedObject;
-use findings::{Finding, ReportedLsa, UnusedReason};
+use findings::{Finding, Part, ReportedLsa, UnusedReason};
 use std::alloc::{AllocError, Allocator};
 use std::collections::BTreeSet;
 
@@ -89,15 +89,15 @@ pub(crate) fn rows_missing<A: Allocator + Copy>(
     without(alloc, &columns, &bytes)
 }
 
-/// Adds the rows to the findings.
-pub(crate) fn add_missing<A: Allocator + Copy>(
-    findings: &mut Vec<Finding, A>,
+/// Adds the rows to what a walk contains.
+pub(crate) fn put_missing<A: Allocator + Copy>(
+    parts: &mut Vec<Part<A>, A>,
     rows: &[ReportedLsa],
 ) -> Result<(), AllocError>
-    ensures { OnOk result (findings.new.items ≡ findings.old.items ++ map missing_row rows.now) }
+    ensures { OnOk result (parts.new.items ≡ parts.old.items ++ map missing_row rows.now) }
 {
     for row in rows {
-        findings.push(Finding::Unused(*row, UnusedReason::Missing))?;
+        parts.push(Part::Finding(Finding::Unused(*row, UnusedReason::Missing)))?;
     }
     Ok(())
 }

@@ -2,56 +2,27 @@
 
 ghost use Rattle.std.specs.Prelude.{◌≡◌, IfOk, IfErr, ◌⊎◌, true, false};
 ghost use Rattle.std.specs.List.{filter_map, list_any};
+ghost use Rattle.findings.specs.Contents.{lists_in};
 ghost use Rattle.snmp_walk.specs.declared.fault.WalkFault.TheVariants as faults;
-ghost use Rattle.snmp_walk.specs.Missing.{AreFindings};
+ghost use Rattle.snmp_walk.specs.Contents.{HasContent};
 ghost use Rattle.snmp_walk.specs.ParsedObjects.{parsed_in};
-ghost use Rattle.snmp_walk.specs.Sorting.{observation_of, kind_of, finding_of, is_of_mib};
+ghost use Rattle.snmp_walk.specs.Sorting.{is_of_mib, part_of};
 
 use crate::fault::WalkFault;
-use crate::missing::{add_missing, rows_missing};
+use crate::missing::{put_missing, rows_missing};
 use crate::parsed_object::{ParsedObject, parse_all};
-use findings::Finding;
-use lsa_instances::{AreaReport, Observation};
-use std::alloc::{AllocError, Allocator, Global};
+use findings::{Content, Finding, Part, sorted};
+use std::alloc::{AllocError, Allocator};
 
-/// What a walk contains, in the order of the walk.
-#[derive(Debug, Drop)]
-pub struct Walk<A: Allocator = Global> {
-    /// The LSAs, byte for byte; a walk has no time stamps.
-    pub observations: Vec<Observation<A>, A>,
-    /// The kinds of areas.
-    pub kinds: Vec<AreaReport, A>,
-    /// What is missing, or cannot be used.
-    pub findings: Vec<Finding, A>,
-}
-
-/// The LSA that an object contains.
-fn observation_of<A: Allocator + Copy>(parsed: ParsedObject<A>) -> Option<Observation<A>>
-    ensures { result ≡ observation_of parsed }
+/// The part of the content of a file that an object is, if it is one.
+fn part_of<A: Allocator + Copy>(parsed: ParsedObject<A>) -> Option<Part<A>>
+    ensures { result ≡ part_of parsed }
 {
     match parsed {
-        ParsedObject::Lsa(_, observation) => Some(observation),
-        _ => None,
-    }
-}
-
-/// The kind of an area that an object contains.
-fn kind_of<A: Allocator + Copy>(parsed: &ParsedObject<A>) -> Option<AreaReport>
-    ensures { result ≡ kind_of parsed.now }
-{
-    match parsed {
-        ParsedObject::Kind(area) => Some(*area),
-        _ => None,
-    }
-}
-
-/// The finding that an object causes.
-fn finding_of<A: Allocator + Copy>(parsed: &ParsedObject<A>) -> Option<Finding>
-    ensures { result ≡ finding_of parsed.now }
-{
-    match parsed {
-        ParsedObject::Finding(finding) => Some(*finding),
-        _ => None,
+        ParsedObject::Lsa(_, observation) => Some(Part::Lsa(observation)),
+        ParsedObject::Kind(area) => Some(Part::Kind(area)),
+        ParsedObject::Finding(finding) => Some(Part::Finding(finding)),
+        ParsedObject::Row(_) | ParsedObject::Nothing | ParsedObject::Foreign => None,
     }
 }
 
@@ -73,59 +44,27 @@ fn is_walk<A: Allocator + Copy>(parsed: &[ParsedObject<A>]) -> bool
     parsed.iter().any(|object| is_of_mib(object))
 }
 
-/// The kinds of areas.
-fn kinds_of<A: Allocator + Copy>(
-    alloc: A,
-    parsed: &[ParsedObject<A>],
-) -> Result<Vec<AreaReport, A>, AllocError>
-    ensures { IfOk result (λ kinds. kinds.items ≡ filter_map kind_of parsed.now) }
-{
-    parsed
-        .iter()
-        .filter_map(|object| kind_of(object))
-        .collect(alloc)
-}
-
-/// The findings that objects cause.
-fn findings_of<A: Allocator + Copy>(
-    alloc: A,
-    parsed: &[ParsedObject<A>],
-) -> Result<Vec<Finding, A>, AllocError>
-    ensures { IfOk result (λ findings. findings.items ≡ filter_map finding_of parsed.now) }
-{
-    parsed
-        .iter()
-        .filter_map(|object| finding_of(object))
-        .collect(alloc)
-}
-
-/// The LSAs.
-fn observations_of<A: Allocator + Copy>(
+/// The parts that objects are.
+fn parts_of<A: Allocator + Copy>(
     alloc: A,
     parsed: Vec<ParsedObject<A>, A>,
-) -> Result<Vec<Observation<A>, A>, AllocError>
-    ensures { IfOk result (λ observations. observations.items
-        ≡ filter_map observation_of parsed.items) }
+) -> Result<Vec<Part<A>, A>, AllocError>
+    ensures { IfOk result (λ parts. parts.items ≡ filter_map part_of parsed.items) }
 {
     parsed
         .into_iter()
-        .filter_map(|object| observation_of(object))
+        .filter_map(|object| part_of(object))
         .collect(alloc)
 }
 
-/// Reads a walk, as net-snmp prints it.
+/// Reads a walk, as net-snmp prints it: the LSAs, which have no time stamps, the kinds of areas,
+/// and what is missing or cannot be used.
 ///
 /// # Errors
 ///
 /// The text has no object of the OSPF-MIB, or memory ran out.
-pub fn read_walk<A: Allocator + Copy>(alloc: A, text: &[u8]) -> Result<Walk<A>, WalkFault>
-    ensures observations { IfOk result (λ walk. walk.observations.items
-        ≡ filter_map observation_of (parsed_in text.now)) }
-    ensures kinds { IfOk result (λ walk. walk.kinds.items
-        ≡ filter_map (kind_of {A = A}) (parsed_in text.now)) }
-    ensures findings { IfOk result
-        (λ walk. AreFindings {A = A} (parsed_in text.now) walk.findings.items) }
-    ensures walk { IfOk result (λ walk. list_any (is_of_mib {A = A}) (parsed_in text.now) ≡ true) }
+pub fn read_walk<A: Allocator + Copy>(alloc: A, text: &[u8]) -> Result<Content<A>, WalkFault>
+    ensures content { IfOk result (λ content. HasContent text.now (lists_in content)) }
     ensures fault { IfErr result (λ fault. (fault ≡ faults.OutOfMemory)
         ⊎ ((fault ≡ faults.NotAWalk)
         × (list_any (is_of_mib {A = A}) (parsed_in text.now) ≡ false))) }
@@ -134,14 +73,8 @@ pub fn read_walk<A: Allocator + Copy>(alloc: A, text: &[u8]) -> Result<Walk<A>, 
     if !is_walk(&parsed) {
         return Err(WalkFault::NotAWalk);
     }
-    let kinds = kinds_of(alloc, &parsed)?;
-    let mut findings = findings_of(alloc, &parsed)?;
     let missing = rows_missing(alloc, &parsed)?;
-    add_missing(&mut findings, &missing)?;
-    let observations = observations_of(alloc, parsed)?;
-    Ok(Walk {
-        observations,
-        kinds,
-        findings,
-    })
+    let mut parts = parts_of(alloc, parsed)?;
+    put_missing(&mut parts, &missing)?;
+    Ok(sorted(alloc, parts)?)
 }

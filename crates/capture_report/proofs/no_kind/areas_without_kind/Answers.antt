@@ -10,7 +10,7 @@ returns g c =
     let kinds = areas_of c.args.files.now in
     IfOk-weaker c.without.result _ _
     (λ left h.
-    those_left kinds c.in_ok-kind_areas.field-0.items c.deref.result.now left.items c.in_ok-kinds.kinds c.in_ok-kind_areas.ensures
+    those_left kinds c.deref.result.now c.deref-2.result.now left.items c.in_ok-kinds.kinds (c.deref.ensures.value ∙ c.in_ok-kind_areas.ensures)
     c.in_ok-kinds.ensures h
-    ∙ ap (without_kind kinds) (c.deref.ensures.value ∙ c.in_ok-ids.ensures))
+    ∙ ap (without_kind kinds) (c.deref-2.ensures.value ∙ c.in_ok-ids.ensures))
     c.without.ensures

@@ -1,6 +1,0 @@
-use Rattle.std.proofs.Common.{◌≡◌, ◌++◌, take, map}
-use Rattle.capture_report.specs.DatabaseFindings.{asbr_finding}
-use Rattle.capture_report.proofs.database.put_asbrs.Given as goal
-
-abbrev pub invariant-loop-id : goal.invariant-loop-id
-invariant-loop-id g l = l.findings.items ≡ l.fn.findings.items ++ map asbr_finding (take l.id-index l.routers)
