@@ -74,6 +74,7 @@ fn routes_in_order<A: Allocator + Copy>(
 }
 
 /// The route to a prefix by the best way, through one area or through those of the way.
+#[inline(always)]
 fn route_through<A: Allocator + Copy>(
     alloc: A,
     area: Option<AreaId>,

@@ -47,6 +47,7 @@ fn count_alike<K: Ord + Copy>(key: K, candidates: &[Contender<'_, K>]) -> usize
 
 /// The best way to the destination of the candidate at a place, of all candidates from there on.
 /// They are in order of their destinations.
+#[inline(always)]
 pub(crate) fn next_way<K: Ord + Copy + Drop, A: Allocator + Copy>(
     alloc: A,
     candidates: &[Contender<'_, K>],

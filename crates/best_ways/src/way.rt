@@ -42,6 +42,7 @@ impl<A: Allocator + Copy> Way<A> {
     }
 
     /// The way of one candidate.
+    #[inline(always)]
     fn new<K>(alloc: A, candidate: &Contender<'_, K>) -> Result<Way<A>, AllocError>
         ensures { IfOk result (λ way. way ≡ fresh candidate.now) }
     {
@@ -73,6 +74,7 @@ impl<A: Allocator + Copy> Way<A> {
     }
 
     /// The best way of candidates for one destination.
+    #[inline(always)]
     pub(crate) fn of<K>(
         alloc: A,
         first: &Contender<'_, K>,
