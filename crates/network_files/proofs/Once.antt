@@ -15,7 +15,7 @@ use Rattle.network_files.proofs.Documents.{one_document}
 use Rattle.network_files.specs.declared.kind.FileKind.{FileKind}
 use Rattle.network_files.specs.declared.kind.FileKind.TheVariants.{Capture, Json, Printed, Walk}
 use Rattle.network_files.specs.ParsedFiles.{HasContent, databases_in}
-use Rattle.ospf_captures.specs.Contents as captures
+use Rattle.ospf_packets.specs.Contents as captures
 use Rattle.snmp_walk.specs.Contents as walks
 use Rattle.snmp_walk.specs.Missing.{missing_row}
 use Rattle.snmp_walk.specs.ParsedObjects.{parsed_in}
