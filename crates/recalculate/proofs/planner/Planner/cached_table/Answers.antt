@@ -45,10 +45,10 @@ returns-clause-trees g c =
     both_come c.args.router c.new_table.result c.args.self.now c.ask.new.self c.ask.ensures _ (ap (λ (p : PlannerValue). p.session) c.self.view_is)
     (ap (λ (p : PlannerValue). p.first_kept) c.self.view_is) (ap (λ (p : PlannerValue). p.tables.first) c.self.view_is)
     (trees_made c.self.inside.study c.self.inside.meter c.new_table.new.meter c.self.inside.present c.new_table.new.self c.self.inside.baseline c.self.inside.asked
-        c.new_table.result _ c.args.router c.database.ensures.state _ c.self.view_is c.new_table.ensures.trees)
+    c.new_table.result _ c.args.router c.database.ensures.state _ c.self.view_is c.new_table.ensures.trees)
 
 pub returns-clause-step : goal.returns-clause-step
 returns-clause-step g c =
     stayed_twice _ _ _ c.ask.ensures.step
     (trees_stay c.self.inside.study c.self.inside.meter c.new_table.new.meter c.self.inside.present c.new_table.new.self c.self.inside.baseline c.self.inside.asked
-        c.new_table.result _ c.args.router c.database.ensures.state _ c.self.view_is c.new_table.ensures.trees)
+    c.new_table.result _ c.args.router c.database.ensures.state _ c.self.view_is c.new_table.ensures.trees)
