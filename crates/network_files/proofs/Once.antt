@@ -15,7 +15,7 @@ use Rattle.network_files.proofs.Documents.{one_document}
 use Rattle.network_files.specs.declared.kind.FileKind.{FileKind}
 use Rattle.network_files.specs.declared.kind.FileKind.TheVariants.{Capture, Json, Printed, Walk}
 use Rattle.network_files.specs.ParsedFiles.{HasContent, databases_in}
-use Rattle.ospf_captures.specs.Contents as captures
+use Rattle.ospf_packets.specs.Contents as captures
 use Rattle.snmp_walk.specs.Contents as walks
 use Rattle.snmp_walk.specs.Missing.{missing_row}
 use Rattle.snmp_walk.specs.ParsedObjects.{parsed_in}
@@ -23,19 +23,19 @@ use Rattle.snmp_walk.specs.Sorting.{part_of}
 
 -- ---- rows that are missing add nothing to the databases
 
+no_observations : (A : Type 0) (rows : List ReportedLsa) → filter_map (observation_of {A = A}) (map missing_row rows) ≡ []
+no_observations A [] = refl
+no_observations A (row ∷ rows) = no_observations A rows
+
+no_kinds : (A : Type 0) (rows : List ReportedLsa) → filter_map (kind_of {A = A}) (map missing_row rows) ≡ []
+no_kinds A [] = refl
+no_kinds A (row ∷ rows) = no_kinds A rows
+
+no_headers : (A : Type 0) (rows : List ReportedLsa) → filter_map (header_of {A = A}) (map missing_row rows) ≡ []
+no_headers A [] = refl
+no_headers A (row ∷ rows) = no_headers A rows
+
 module _ {A : Type 0} where
-  no_observations : (rows : List ReportedLsa) → filter_map (observation_of {A = A}) (map missing_row rows) ≡ []
-  no_observations [] = refl
-  no_observations (row ∷ rows) = no_observations rows
-
-  no_kinds : (rows : List ReportedLsa) → filter_map (kind_of {A = A}) (map missing_row rows) ≡ []
-  no_kinds [] = refl
-  no_kinds (row ∷ rows) = no_kinds rows
-
-  no_headers : (rows : List ReportedLsa) → filter_map (header_of {A = A}) (map missing_row rows) ≡ []
-  no_headers [] = refl
-  no_headers (row ∷ rows) = no_headers rows
-
   nothing_more : {X : Type 0} (f : Part A → Option X) (these : List (Part A)) (rows : List ReportedLsa) → filter_map f (map missing_row rows) ≡ []
       → filter_map f (these ++ map missing_row rows) ≡ filter_map f these
   nothing_more f these rows none =
@@ -45,8 +45,8 @@ module _ {A : Type 0} where
       → databases_in (content_of (these ++ map missing_row rows)) ≡ databases_in (content_of these)
   unfolding content_of
   same_databases these rows = λ i. (
-    nothing_more observation_of these rows (no_observations rows) i,
-    (nothing_more kind_of these rows (no_kinds rows) i, nothing_more header_of these rows (no_headers rows) i),
+    nothing_more observation_of these rows (no_observations A rows) i,
+    (nothing_more kind_of these rows (no_kinds A rows) i, nothing_more header_of these rows (no_headers A rows) i),
   )
 
 -- ---- files of each kind

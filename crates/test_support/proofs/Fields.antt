@@ -1,13 +1,16 @@
 -- What a walk has of a `&` to a `FailingAlloc`, and of a call of `Allowance::spend`. Assumes `Logic`.
 --     Allowance                  the row of the field with the count
 --     lent                       the `&self` of both functions, at a signature with two lifetimes
---     inner_at, allowance_at         where the two fields of the value at a place are
+--     at_types, instance         the types that both functions are called at, and one of the two at them
+--     inner_at, allowance_at     where the two fields of the value at a place are
 --     fields                     of `&self` there is a `&` to each field
 --     Spend, spends              the contract of `spend`, and what a caller picks for it: the lifetime, a share of its token, the place and the value
 --     spend_goes, spend_gives    what such a call is given, and what is left after it
 use Rattle.std.proofs.Common.{◌≡◌, ℕ, ◌+◌, ◌<◌, Bool, true, [], ◌∷◌, refl, ap, Bor}
 use seplogic.Ra.Ura.{Ura}
+use mir.Syntax.{Args, Fn, a_type, dnil, dcons}
 use mir.Val.{Val, vptr, vbool}
+use mir.MapTy.{inst_fn}
 use base.Logic.{SProp, ent, sep, id⊢}
 use base.Fml.{Lft, Share, ftrue, fsep, flft}
 use prog.Memory.{Memory, size, align, up}
@@ -19,7 +22,7 @@ use types.Kit.{updating, show, check, now as at_once}
 use denote.Builtin.{bool, RefOf}
 use denote.Memory.{hidden_shr}
 use denote.Opens.{unhide}
-use denote.Param.{param}
+use denote.Param.{param, bounded}
 use denote.RattleType.{RattleType}
 use denote.Ref.{shr_vals}
 use denote.Signature.{Slot, plain, type_at}
@@ -37,6 +40,12 @@ Allowance = allowance.the_row
 module _ (Z : Al) where
   abbrev pub lent : Slot 2
   lent = RefOf (0 ∷ []) tt (plain (λ _. failing.the_row (param 0 Z.row))) (λ _. tt)
+
+  abbrev pub at_types : Args
+  at_types = bounded (a_type ∷ []) (Z.row, tt) (dcons Z.d (dcons Z.drops dnil))
+
+  abbrev pub instance : Fn → Fn
+  instance f = inst_fn at_types f
 
   abbrev pub inner_at : ℕ × ℕ → ℕ × ℕ
   inner_at p = (p.0, p.1 + up (align (α Z)) 0)

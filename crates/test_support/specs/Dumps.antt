@@ -1,5 +1,5 @@
--- Dumps of link state databases.
-use Rattle.std.specs.Prelude.{ℕ, min, List, [], ◌∷◌, ◌++◌, length}
+-- Dumps of link state databases, and saved sessions.
+use Rattle.std.specs.Prelude.{ℕ, min, List, [], ◌∷◌, ◌++◌, length, drop}
 use Rattle.std.specs.Int.{w16, w32, to_be_bytes}
 use Rattle.std.specs.List.{flat_map}
 use Rattle.test_support.specs.Lsas.{Lsas, no_lsas}
@@ -20,3 +20,7 @@ dump_bytes areas as_lsas =
 -- the dump of area 0.0.0.0 alone
 abbrev pub dump_of_area : Lsas → List ℕ
 dump_of_area lsas = dump_bytes ((0, lsas) ∷ []) no_lsas
+
+-- a saved session: "OSWP", version 2, the rest of a dump, a history
+abbrev pub session_bytes : List ℕ → List ℕ → List ℕ
+session_bytes dump history = (0x4f ∷ 0x53 ∷ 0x57 ∷ 0x50 ∷ 2 ∷ []) ++ drop 5 dump ++ history

@@ -7,7 +7,8 @@
 //! [`dump_of_text`] reads the text of a database is only tested.
 //!
 //! [`growths_of`] makes a call with each number of growths that is too few for it, and
-//! [`first_wrong`] each call of a list.
+//! [`first_wrong`] each call of a list. [`outcome_of`] makes a
+//! call with such a number, and then with ample memory.
 #![tactic(auto)]
 
 // LSAs and dumps.
@@ -31,8 +32,10 @@ pub use doubles::{Failing, FailsOnce, Sink, Source, Zeros};
 pub use failing_alloc::FailingAlloc;
 pub use known::{MASK_16, R1, R2, R3, R4, SAMPLE, network_of_three};
 pub use link::{RouterLink, to_network, to_router, to_stub};
-pub use list::{LsaList, dump_of};
+pub use list::{LsaList, dump_of, session_of};
 pub use lsa::Header;
 pub use network_bytes::NETWORK;
-pub use refusals::{Answer, FallibleCall, Outcome, first_wrong, growths_of, growths_or_wrong};
+pub use refusals::{
+    Answer, CallOn, FallibleCall, Outcome, first_wrong, growths_of, growths_or_wrong, outcome_of,
+};
 pub use text::{TextFault, dump_of_text};

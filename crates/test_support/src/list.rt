@@ -2,7 +2,7 @@
 
 ghost use Rattle.std.specs.Prelude.{◌≡◌, is_ok, if◌then◌else◌, IfOk, ◌∷◌, []};
 ghost use Rattle.test_support.specs.Lsas.{no_lsas, with_bytes, with_lsa, with_router, with_network, router_body, network_body};
-ghost use Rattle.test_support.specs.Dumps.{counted_bytes, dump_of_area, dump_bytes};
+ghost use Rattle.test_support.specs.Dumps.{counted_bytes, dump_of_area, dump_bytes, session_bytes};
 
 use crate::known::MASK_16;
 use crate::link::RouterLink;
@@ -212,4 +212,19 @@ pub fn dump_of(
     }
     dump.extend_from_slice(&as_lsas.counted()?)?;
     Ok(dump)
+}
+
+/// The bytes of a saved session: a dump of version 1, with version 2, and a history after it.
+///
+/// # Errors
+///
+/// Memory ran out.
+pub fn session_of(alloc: Global, dump: &[u8], history: &[u8]) -> Result<Vec<u8>, AllocError>
+    ensures { IfOk result (λ session. session.items ≡ session_bytes dump.now history.now) }
+{
+    let mut session = Vec::new(alloc);
+    session.extend_from_slice(&[0x4f, 0x53, 0x57, 0x50, 2])?;
+    session.extend_from_slice(dump.get(5..).unwrap_or(&[]))?;
+    session.extend_from_slice(history)?;
+    Ok(session)
 }

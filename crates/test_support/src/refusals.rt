@@ -53,6 +53,37 @@ pub trait FallibleCall {
     }
 }
 
+/// A call on what it is lent.
+pub trait CallOn<'a, S>: Copy {
+    /// What the call answers.
+    fn answer(
+        &self,
+        alloc: Global,
+        failing: &'a FailingAlloc,
+        subject: &mut S,
+    ) -> Result<Answer, Fail>;
+}
+
+/// The outcome of a call that changes nothing of what it is lent, with `growths` growths and then
+/// with ample memory.
+///
+/// # Errors
+///
+/// The call fails for another reason than memory.
+pub fn outcome_of<'a, S: Drop, C: CallOn<'a, S>>(
+    alloc: Global,
+    failing: &'a FailingAlloc,
+    mut subject: S,
+    call: C,
+    growths: u64,
+) -> Result<Outcome, Fail> {
+    failing.set_remaining(growths);
+    let first = call.answer(alloc, failing, &mut subject)?;
+    failing.set_remaining(u64::MAX);
+    let then = call.answer(alloc, failing, &mut subject)?;
+    Ok(Outcome::of_answers(alloc, first, then))
+}
+
 /// The outcome of a call with `growths` growths.
 fn outcome_with<G: FallibleCall>(alloc: Global, call: &G, growths: u64) -> Result<Outcome, Fail> {
     let failing = FailingAlloc::new(alloc, u64::MAX);

@@ -108,57 +108,53 @@ fn read_item(text: &str) -> Option<Item<'_>> {
     Some(item)
 }
 
+/// What stands after the colon of a line, with commas between.
+trait Part: Copy {
+    /// The part that a text is, if it is one.
+    fn read(text: &str) -> Option<Self>;
+}
+
 /// A link of a router-LSA.
-fn link(text: &str) -> Option<RouterLink> {
-    let item = read_item(text)?;
-    let kind = match item.word {
-        "point-to-point" => 1,
-        "transit" => 2,
-        "stub" => 3,
-        "virtual" => 4,
-        _ => return None,
-    };
-    Some(RouterLink {
-        kind,
-        id: item.id,
-        data: item.data,
-        metric: u16::try_from(item.cost).ok()?,
-    })
+impl Part for RouterLink {
+    fn read(text: &str) -> Option<RouterLink> {
+        let item = read_item(text)?;
+        let kind = match item.word {
+            "point-to-point" => 1,
+            "transit" => 2,
+            "stub" => 3,
+            "virtual" => 4,
+            _ => return None,
+        };
+        Some(RouterLink {
+            kind,
+            id: item.id,
+            data: item.data,
+            metric: u16::try_from(item.cost).ok()?,
+        })
+    }
 }
 
-/// Adds a router-LSA with these links. `unread` is the fault where one of them cannot be read.
-fn add_router(
-    alloc: Global,
-    lsas: &mut LsaList,
-    item: Item,
-    links: Option<&str>,
-    unread: TextFault,
-) -> Result<(), TextFault> {
-    let mut list = Vec::new(alloc);
-    if let Some(links) = links {
-        for text in links.split(',') {
-            list.push(link(text).ok_or(unread)?)?;
-        }
+/// An attached router of a network-LSA.
+impl Part for u32 {
+    fn read(text: &str) -> Option<u32> {
+        number(text)
     }
-    Ok(lsas.router_of(item.age, item.id, item.flags, &list)?)
 }
 
-/// Adds a network-LSA with these attached routers. `unread` is the fault where one of them cannot
-/// be read.
-fn add_network(
+/// The parts after a colon, or none where there is no colon. `unread` is the fault where one of
+/// them cannot be read.
+fn parts<T: Part>(
     alloc: Global,
-    lsas: &mut LsaList,
-    item: Item,
-    attached: Option<&str>,
+    text: Option<&str>,
     unread: TextFault,
-) -> Result<(), TextFault> {
+) -> Result<Vec<T>, TextFault> {
     let mut list = Vec::new(alloc);
-    if let Some(attached) = attached {
-        for text in attached.split(',') {
-            list.push(number(text).ok_or(unread)?)?;
+    if let Some(text) = text {
+        for part in text.split(',') {
+            list.push(T::read(part).ok_or(unread)?)?;
         }
     }
-    Ok(lsas.network_of(item.age, (item.id, item.mask), item.by, &list)?)
+    Ok(list)
 }
 
 /// Adds a summary-LSA of this LS type (RFC 2328, A.4.4).
@@ -187,8 +183,14 @@ fn add_line(
     };
     let item = read_item(head).ok_or(unread)?;
     match item.word {
-        "router" => add_router(alloc, lsas, item, rest, unread),
-        "network" => add_network(alloc, lsas, item, rest, unread),
+        "router" => {
+            let links = parts(alloc, rest, unread)?;
+            Ok(lsas.router_of(item.age, item.id, item.flags, &links)?)
+        }
+        "network" => {
+            let attached = parts(alloc, rest, unread)?;
+            Ok(lsas.network_of(item.age, (item.id, item.mask), item.by, &attached)?)
+        }
         "summary" => add_summary(lsas, 3, item),
         "asbr-summary" => add_summary(lsas, 4, item),
         _ => Err(unread),

@@ -8,8 +8,8 @@ mod lent;
 use crate::tests::lists::pieces::{DUMP, TABLES};
 use crate::tests::observed::observations;
 use answers::{
-    of_capture, of_database, of_differences, of_document, of_file, of_lines, of_list,
-    of_observations, of_packets, of_printed, of_walk,
+    of_capture, of_content, of_database, of_differences, of_document, of_file, of_lines, of_list,
+    of_observations, of_walk,
 };
 use capture_files::{End, read_capture};
 use frr_json::read_printed_json;
@@ -105,7 +105,7 @@ fn of_bytes(
     match call {
         Call::Capture => of_capture(alloc, read_capture(failing, bytes)),
         Call::Walk => of_walk(alloc, read_walk(failing, bytes)),
-        Call::Printed => of_printed(alloc, read_printed(failing, bytes)),
+        Call::Printed => of_content(alloc, read_printed(failing, bytes)),
         Call::Document => of_document(alloc, read_printed_json(failing, bytes)),
         Call::List => of_list(alloc, read_list(failing, bytes)),
         _ => of_file(alloc, read_file(failing, bytes)),
@@ -125,7 +125,7 @@ fn answer_with(
         Call::Differences | Call::Lines => of_listing(alloc, failing, call, growths),
         Call::Frames => {
             failing.set_remaining(growths);
-            of_packets(alloc, read_frames(failing, &frames(), End::Whole))
+            of_content(alloc, read_frames(failing, &frames(), End::Whole))
         }
         _ => {
             let bytes = read_bytes(alloc, call)?;

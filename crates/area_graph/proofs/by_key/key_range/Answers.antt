@@ -7,8 +7,8 @@ use Rattle.area_graph.proofs.by_key.key_range.Goals as goal
 
 pub returns-in-Router : goal.returns-in-Router
 returns-in-Router c =
-    subst (λ (v : Vertex). HaveKeysBetween (IsOfVertex v) c.of_router.result c.of_router-2.result) (sym c.in-Router.is)
-    (router_keys c.in-Router.router c.of_router.result c.of_router-2.result c.of_router.ensures c.of_router-2.ensures)
+    subst (λ (v : Vertex). HaveKeysBetween (IsOfVertex v) c.of_router.result c.of_router-in-Router.result) (sym c.in-Router.is)
+    (router_keys c.in-Router.router c.of_router.result c.of_router-in-Router.result c.of_router.ensures c.of_router-in-Router.ensures)
 
 pub returns-in-Network : goal.returns-in-Network
 returns-in-Network c =

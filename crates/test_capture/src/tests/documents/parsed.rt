@@ -7,8 +7,8 @@ use super::pieces::{
 };
 use crate::tests::observed::Expected;
 use crate::tests::printed::parsed::has;
+use findings::{Finding, ReportedLsa, UnusedReason};
 use frr_json::{JsonFault, is_printed_json, read_printed_json};
-use frr_text::TextFinding;
 use lsa_codec::{AreaId, LsaFault};
 use lsa_instances::Scope;
 use std::alloc::Global;
@@ -19,7 +19,7 @@ fn contains(
     alloc: Global,
     text: &[u8],
     lsas: &[Expected],
-    findings: &[TextFinding],
+    findings: &[Finding],
 ) -> Result<bool, JsonFault> {
     Ok(has(&read_printed_json(alloc, text)?, lsas, &[], findings))
 }
@@ -28,8 +28,14 @@ const BACKBONE: Scope = Scope::Area(AreaId(0));
 
 const OTHER_AREA: Scope = Scope::Area(AreaId(1));
 
+/// What names the summary-LSA.
+const SUMMARY_LSA: ReportedLsa = ReportedLsa {
+    area: None,
+    key: SUMMARY_KEY,
+};
+
 /// Documents, their LSAs and findings.
-const DOCUMENTS: &[(&str, &[u8], &[Expected], &[TextFinding])] = &[
+const DOCUMENTS: &[(&str, &[u8], &[Expected], &[Finding])] = &[
     (
         "a router-LSA of a transit link",
         ROUTER,
@@ -71,19 +77,19 @@ const DOCUMENTS: &[(&str, &[u8], &[Expected], &[TextFinding])] = &[
         "another checksum than the printed one",
         OTHER_METRIC,
         &[],
-        &[TextFinding::Refused(SUMMARY_KEY, LsaFault::Checksum)],
+        &[Finding::Unused(SUMMARY_LSA, UnusedReason::Refused(LsaFault::Checksum))],
     ),
     (
         "a name that is no area",
         NO_AREA,
         &[],
-        &[TextFinding::NoArea(SUMMARY_KEY)],
+        &[Finding::Unused(SUMMARY_LSA, UnusedReason::NoArea)],
     ),
     (
         "no Link State ID, and an area that is no array",
         UNREADABLE,
         &[],
-        &[TextFinding::Unreadable, TextFinding::Unreadable],
+        &[Finding::Unreadable(2)],
     ),
 ];
 

@@ -3,16 +3,15 @@
 use crate::tests::documents::pieces::LINKS_BYTES;
 use crate::tests::printed::parsed::has;
 use capture_files::{Capture, CaptureFault};
+use findings::Content;
 use frr_json::JsonFault;
-use frr_text::Printed;
 use lsa_codec::AreaId;
 use lsa_instances::{AreaReport, Header, Observation, Scope};
 use lsdb::Database;
 use lsdb_listing::{Difference, ListFault, PrintedList};
 use lsdb_merge::JoinFault;
 use network_files::{FileFault, ParsedFile};
-use ospf_packets::Packets;
-use snmp_walk::{Walk, WalkFault};
+use snmp_walk::WalkFault;
 use std::alloc::{AllocError, Global};
 use std::fmt::Debug;
 use std::test::*;
@@ -86,60 +85,44 @@ pub(super) fn of_capture(
     }
 }
 
-/// The answer that is what packets contain.
-pub(super) fn of_packets(
+/// The answer that is what a file contains, whatever its format.
+fn of_contents(alloc: Global, content: &Content<&FailingAlloc>) -> Result<Answer, Fail> {
+    contents_of(
+        alloc,
+        &content.findings.as_slice(),
+        &content.observations,
+        &content.kinds,
+        &content.headers,
+    )
+}
+
+/// The same, of frames or of what a router prints as a text.
+pub(super) fn of_content(
     alloc: Global,
-    packets: Result<Packets<&FailingAlloc>, AllocError>,
+    content: Result<Content<&FailingAlloc>, AllocError>,
 ) -> Result<Answer, Fail> {
-    match packets {
-        Ok(packets) => contents_of(
-            alloc,
-            &packets.findings.as_slice(),
-            &packets.observations,
-            &packets.kinds,
-            &packets.headers,
-        ),
+    match content {
+        Ok(content) => of_contents(alloc, &content),
         Err(AllocError) => Ok(None),
     }
 }
 
-/// The answer that is what a walk contains.
+/// The same, of a walk.
 pub(super) fn of_walk(
     alloc: Global,
-    walk: Result<Walk<&FailingAlloc>, WalkFault>,
+    walk: Result<Content<&FailingAlloc>, WalkFault>,
 ) -> Result<Answer, Fail> {
     match walk {
-        Ok(walk) => {
-            let findings = walk.findings.as_slice();
-            contents_of(alloc, &findings, &walk.observations, &walk.kinds, &[])
-        }
+        Ok(walk) => of_contents(alloc, &walk),
         Err(WalkFault::OutOfMemory) => Ok(None),
         Err(fault) => Err(fault)?,
     }
 }
 
-/// The answer that is what a router prints.
-fn of_contents(alloc: Global, printed: &Printed<&FailingAlloc>) -> Result<Answer, Fail> {
-    let findings = printed.findings.as_slice();
-    contents_of(alloc, &findings, &printed.observations, &printed.kinds, &[])
-}
-
-/// The same, where it prints a text.
-pub(super) fn of_printed(
-    alloc: Global,
-    printed: Result<Printed<&FailingAlloc>, AllocError>,
-) -> Result<Answer, Fail> {
-    match printed {
-        Ok(printed) => of_contents(alloc, &printed),
-        Err(AllocError) => Ok(None),
-    }
-}
-
-/// The same, where it prints a document of one LSA. A document that contains something else is a
-/// failure.
+/// The same, of a document of one LSA. A document that contains something else is a failure.
 pub(super) fn of_document(
     alloc: Global,
-    printed: Result<Printed<&FailingAlloc>, JsonFault>,
+    printed: Result<Content<&FailingAlloc>, JsonFault>,
 ) -> Result<Answer, Fail> {
     match printed {
         Ok(printed) => {

@@ -1,9 +1,10 @@
 //! What lists contain, and which texts are none.
 
 use super::pieces::{OF_LINKS, SECTIONS, STUB_AREA, TABLES, WHOLE_LSA};
+use findings::{Finding, ReportedLsa, UnusedReason};
 use lsa_codec::{Addr, AreaId, Key, RouterId};
 use lsa_instances::{Place, Scope};
-use lsdb_listing::{Header, InstanceId, ListFault, ListFinding, read_list};
+use lsdb_listing::{Header, InstanceId, ListFault, read_list};
 use std::alloc::Global;
 use std::test::*;
 
@@ -37,12 +38,7 @@ fn are_of(headers: &[Header], rows: &[Row]) -> bool {
 }
 
 /// Whether a text contains these headers, and gives these findings.
-fn contains(
-    alloc: Global,
-    text: &[u8],
-    rows: &[Row],
-    findings: &[ListFinding],
-) -> Result<bool, Fail> {
+fn contains(alloc: Global, text: &[u8], rows: &[Row], findings: &[Finding]) -> Result<bool, Fail> {
     let list = read_list(alloc, text)?;
     Ok(are_of(&list.headers, rows) && list.findings.as_slice() == findings)
 }
@@ -54,14 +50,17 @@ const OTHER_AREA: Scope = Scope::Area(AreaId(1));
 const STUB: Scope = Scope::Area(AreaId(2));
 
 /// What names the router-LSA of 1.1.1.1.
-const ROUTER_KEY: Key = Key {
-    kind: 1,
-    id: Addr(0x0101_0101),
-    adv: RouterId(0x0101_0101),
+const ROUTER_LSA: ReportedLsa = ReportedLsa {
+    area: None,
+    key: Key {
+        kind: 1,
+        id: Addr(0x0101_0101),
+        adv: RouterId(0x0101_0101),
+    },
 };
 
 /// Texts, their headers, and what they give beside those.
-const LISTS: &[(&str, &[u8], &[Row], &[ListFinding])] = &[
+const LISTS: &[(&str, &[u8], &[Row], &[Finding])] = &[
     (
         "tables of a stub area",
         STUB_AREA,
@@ -126,19 +125,19 @@ const LISTS: &[(&str, &[u8], &[Row], &[ListFinding])] = &[
         "a row that was cut",
         b"Net Link States (Area 0.0.0.1)\n192.168.50.4   4.4.4.4           17 0x8000",
         &[],
-        &[ListFinding::Unreadable],
+        &[Finding::Unreadable(1)],
     ),
     (
         "a checksum of a table that was cut",
         b"AS External Link States\n10.91.0.0      10.255.0.5        34 0x80000001 0x84c",
         &[],
-        &[ListFinding::Unreadable],
+        &[Finding::Unreadable(1)],
     ),
     (
         "a checksum of a section that was cut",
         b"Global\n 0005  0.0.0.0         3.3.3.3          80000001    31    ecc",
         &[],
-        &[ListFinding::Unreadable],
+        &[Finding::Unreadable(1)],
     ),
     ("LSAs of links, which are ignored", OF_LINKS, &[], &[]),
     (
@@ -146,13 +145,13 @@ const LISTS: &[(&str, &[u8], &[Row], &[ListFinding])] = &[
         b"Net Link States (Area 0.0.0.1)\n\nOther Link States (Area 0.0.0.1)\n\
         192.168.50.4   4.4.4.4           17 0x80000001 0xc67f\n",
         &[],
-        &[ListFinding::Unreadable],
+        &[Finding::Unreadable(1)],
     ),
     (
         "a row of an area under no area",
         b"Global\n 0001  1.1.1.1         1.1.1.1          80000003    29    46bb\n",
         &[],
-        &[ListFinding::NoArea(ROUTER_KEY)],
+        &[Finding::Unused(ROUTER_LSA, UnusedReason::NoArea)],
     ),
 ];
 

@@ -2,10 +2,10 @@
 //! separate program.
 
 use capture_files::{End, Frame, LinkType};
-use findings::Finding;
+use findings::{Content, Finding};
 use lsa_codec::AreaId;
 use lsa_instances::{AreaReport, Observation, Scope};
-use ospf_packets::{Packets, read_frames};
+use ospf_packets::read_frames;
 use std::alloc::{AllocError, Global};
 use std::test::*;
 
@@ -172,7 +172,7 @@ fn frame(captured: &Captured) -> Option<Frame<'static>> {
 }
 
 /// What frames contain.
-pub(super) fn read_captured(alloc: Global, captured: &[Captured]) -> Result<Packets, Fail> {
+pub(super) fn read_captured(alloc: Global, captured: &[Captured]) -> Result<Content, Fail> {
     let mut frames = Vec::new(alloc);
     for one in captured {
         frames.push(frame(one).ok_or("a part")?)?;
@@ -181,7 +181,7 @@ pub(super) fn read_captured(alloc: Global, captured: &[Captured]) -> Result<Pack
 }
 
 /// What a frame contains.
-pub(super) fn read(alloc: Global, link: LinkType, bytes: &[u8]) -> Result<Packets, AllocError> {
+pub(super) fn read(alloc: Global, link: LinkType, bytes: &[u8]) -> Result<Content, AllocError> {
     read_frames(alloc, &[whole(link, bytes)], End::Whole)
 }
 
@@ -214,7 +214,7 @@ fn are_of(observations: &[Observation], lsas: &[Part]) -> bool {
 
 /// Whether packets contain these LSAs and kinds of areas, and give these findings.
 pub(super) fn contain(
-    packets: &Packets,
+    packets: &Content,
     lsas: &[Part],
     kinds: &[AreaReport],
     findings: &[Finding],

@@ -6,7 +6,8 @@ use super::pieces::{
     TYPE_2_BYTES,
 };
 use crate::tests::observed::{Expected, are_of};
-use frr_text::{Printed, TextFinding, is_printed, read_printed};
+use findings::{Content, Finding, ReportedLsa, UnusedReason};
+use frr_text::{is_printed, read_printed};
 use lsa_codec::{AreaId, LsaFault};
 use lsa_instances::{AreaKind, AreaReport, Scope};
 use std::alloc::{Allocator, Global};
@@ -14,10 +15,10 @@ use std::test::*;
 
 /// Whether what is printed has these LSAs and kinds of areas, and these findings.
 pub(in crate::tests) fn has<A: Allocator + Copy>(
-    printed: &Printed<A>,
+    printed: &Content<A>,
     lsas: &[Expected],
     kinds: &[AreaReport],
-    findings: &[TextFinding],
+    findings: &[Finding],
 ) -> bool {
     let is_parsed = are_of(&printed.observations, lsas) && printed.kinds.as_slice() == kinds;
     is_parsed && printed.findings.as_slice() == findings
@@ -29,7 +30,7 @@ fn contains(
     text: &[u8],
     lsas: &[Expected],
     kinds: &[AreaReport],
-    findings: &[TextFinding],
+    findings: &[Finding],
 ) -> Result<bool, Fail> {
     Ok(has(&read_printed(alloc, text)?, lsas, kinds, findings))
 }
@@ -54,8 +55,14 @@ const NSSA: AreaReport = AreaReport {
     kind: AreaKind::Nssa,
 };
 
+/// What names the summary-LSA.
+const SUMMARY_LSA: ReportedLsa = ReportedLsa {
+    area: None,
+    key: SUMMARY_KEY,
+};
+
 /// Texts, their LSAs, the kinds of areas in their headings, and their findings.
-const TEXTS: &[(&str, &[u8], &[Expected], &[AreaReport], &[TextFinding])] = &[
+const TEXTS: &[(&str, &[u8], &[Expected], &[AreaReport], &[Finding])] = &[
     (
         "a summary-LSA",
         SUMMARY,
@@ -75,7 +82,7 @@ const TEXTS: &[(&str, &[u8], &[Expected], &[AreaReport], &[TextFinding])] = &[
         OTHER_METRIC,
         &[],
         &[BACKBONE],
-        &[TextFinding::Refused(SUMMARY_KEY, LsaFault::Checksum)],
+        &[Finding::Unused(SUMMARY_LSA, UnusedReason::Refused(LsaFault::Checksum))],
     ),
     (
         "a router-LSA",
@@ -110,7 +117,7 @@ const TEXTS: &[(&str, &[u8], &[Expected], &[AreaReport], &[TextFinding])] = &[
         OPAQUE,
         &[],
         &[BACKBONE],
-        &[TextFinding::Unreadable],
+        &[Finding::Unreadable(1)],
     ),
     ("headings", HEADINGS, &[], &[STUB, NSSA, BACKBONE], &[]),
 ];

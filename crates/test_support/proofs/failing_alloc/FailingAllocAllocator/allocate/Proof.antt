@@ -2,9 +2,8 @@
 -- `Logic`.
 use Rattle.std.proofs.Common.{◌≡◌, Bool, true, false, List, [], ◌∷◌, Ok, Err, refl, w64}
 use Rattle.std.proofs.raw_atomic.Walks.{proved}
-use mir.Syntax.{Args, Fn, a_type, dnil, dcons}
+use mir.Syntax.{Fn}
 use mir.Val.{Val, vbool}
-use mir.MapTy.{inst_fn}
 use base.Logic.{ent, emp}
 use base.Fml.{ftrue, flft}
 use prog.Memory.{size, align, capped}
@@ -21,7 +20,6 @@ use denote.Builtin.{usize}
 use denote.Exit.{yes}
 use denote.Plain.{uint_vals, uint_Tells}
 use denote.Memory.{hidden_shr}
-use denote.Param.{bounded}
 use denote.RattleType.{owns}
 use denote.RawPtr.{block_ptr}
 use denote.Ref.{shr_vals}
@@ -34,7 +32,7 @@ use denote.Triple.Walked.{Stays, stay_dropped, walk_of, ends_at, Goes-dropped}
 use Rattle.std.proofs.VecSteps.Shapes.{after}
 use Rattle.std.specs.Allocator.{block_if_ok}
 use Rattle.std.proofs.alloc.Calls.{Al, seen, Answer, Answer-typed, Answer-Ok, Answer-err, Takes, at_takes, Answered, Takes-goes, Takes-gives, answers}
-use Rattle.test_support.proofs.Fields.{Allowance, lent, inner_at, allowance_at, fields, Spend, spends, spend_goes, spend_gives}
+use Rattle.test_support.proofs.Fields.{Allowance, lent, at_types, instance, inner_at, allowance_at, fields, Spend, spends, spend_goes, spend_gives}
 use Rattle.test_support.proofs.allowance.Allowance.spend.Met.{met as spend_met}
 use Rattle.test_support.specs.contracts.failing_alloc.FailingAllocAllocator.allocate as f
 use Rattle.test_support.specs.contracts.failing_alloc.FailingAllocAllocator.allocate.Key as key
@@ -48,22 +46,16 @@ module _ (Z : Al) where
   abbrev stayed : Stays ended.signature.params ended.kept
   stayed = (stay_dropped (lent Z) yes, (stay_dropped (plain (λ _. usize)) yes, (stay_dropped (plain (λ _. usize)) yes, tt)))
 
-  abbrev at_types : Args
-  at_types = bounded (a_type ∷ []) (Z.row, tt) (dcons Z.d (dcons Z.drops dnil))
-
-  abbrev here : Fn
-  here = inst_fn at_types code.function
-
 pub allocate_spec : {M : Type 1} → statement M
 allocate_spec 𝓤 𝓛 𝓜 𝓡 wired Y laws g d drops bound _ =
     let Z : Al = record { row = Y; laws = laws; g = g; d = d; drops = drops } in
-    let T = ended Z in let hs = stayed Z in
+    let T = ended Z in let hs = stayed Z in let here : Fn = instance Z code.function in
     let c = f.clauses Y g d drops 𝓛 𝓜.mem 𝓡.returns in
     let W = walk_of 𝓛 T hs c in let 𝓣 = tables 𝓤 𝓛.H 𝓜 𝓡 𝓡.env in
     let fm = framed 𝓤 𝓛.H 𝓜 𝓣 in
     let goes = Goes-dropped 𝓛 2 (plain (λ _. usize)) yes (λ κs x w. refl) in
     proved 𝓛 T hs c 𝓜 𝓡 (Goes-dropped 𝓛 2 (lent Z) yes (λ κs x w. refl), (goes, (goes, tt)))
-    (key.name (at_types Z)) (here Z) (code.unfolded 𝓤 𝓛.H 𝓜 𝓡 wired (Y, tt) d drops)
+    (key.name (at_types Z)) here (code.unfolded 𝓤 𝓛.H 𝓜 𝓡 wired (Y, tt) d drops)
     (λ κs. (shr_vals, (uint_vals w64, (uint_vals w64, tt)))) (λ κs. ((λ r vs s. s.0), (uint_Tells w64, (uint_Tells w64, tt)))) (λ κs qs bounds a τ are.
     let κ₁ = κs.0 in let κ₂ = κs.1.0 in let q₁ = qs.0 in let q₂ = qs.1.0 in
     let r = a.0 in let n = a.1.0 in let m = a.1.1.0 in
@@ -96,7 +88,7 @@ allocate_spec 𝓤 𝓛 𝓜 𝓡 wired Y laws g d drops bound _ =
     (λ _. move ! (1 ∷ []) $ drop ! $ nothing ! $ sets ! (agg ! (no_more !)) refl (tt, tt) $
     sets ! (agg ! (and_then ! (lit ! tt) (and_then ! (get ! refl) (no_more !)))) refl (Answer-typed false 0 0) $
     returns_within ! (W.post y) refl (look_at ! 0 refl) $ free_all ! refl $ out (Err (record {})) _ (Answer-err 𝓛))
-    (λ _. skips ! $ exec ! 𝓣.C 𝓣.Λ (env (here Z).locals l) (after 4 (here Z).body) (at_ret _ (W.post y)) $
+    (λ _. skips ! $ exec ! 𝓣.C 𝓣.Λ (env here.locals l) (after 4 here.body) (at_ret _ (W.post y)) $
     sets ! (addr ! (through ! refl (fld ! refl (stop !)))) refl (tt, tt) $
     let G = Takes Z 𝓛 𝓜.mem 𝓡.returns in let z' = at_takes Z 𝓛 𝓜.mem 𝓡.returns κ₁ q₁ at_inner h n m τ in
     move ! (1 ∷ 0 ∷ []) $ use2 𝓛 (raw (G.pre z'))

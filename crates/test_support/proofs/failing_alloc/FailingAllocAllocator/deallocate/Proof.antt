@@ -1,9 +1,8 @@
 -- It gives the block back to the inner allocator. Assumes `Logic`.
 use Rattle.std.proofs.Common.{◌≡◌, [], ◌∷◌, refl, w64}
 use Rattle.std.proofs.raw_atomic.Walks.{proved}
-use mir.Syntax.{Args, Fn, a_type, dnil, dcons}
+use mir.Syntax.{Fn}
 use mir.Val.{vunit, vint, vptr}
-use mir.MapTy.{inst_fn}
 use base.Logic.{fst∗, never}
 use base.Fml.{ftrue, flft}
 use prog.Memory.{size, align, capped}
@@ -19,7 +18,6 @@ use denote.Builtin.{usize, RawPtr}
 use denote.Exit.{yes}
 use denote.Memory.{hidden_shr}
 use denote.Plain.{uint_vals, uint_Tells}
-use denote.Param.{bounded}
 use denote.RawPtr.{Ptr, block_ptr, null_ptr, ptr_val, in_a_block, rawptr_vals, rawptr_Tells}
 use denote.RattleType.{owns}
 use denote.Ref.{shr_vals}
@@ -31,7 +29,7 @@ use denote.Triple.Table.{framed}
 use denote.Triple.Walked.{Stays, stay_dropped, walk_of, ends_at, Goes-dropped}
 use Rattle.std.specs.Allocator.{owned_block}
 use Rattle.std.proofs.alloc.Calls.{Al, seen, token, Gives, at_gives, Gives-goes, Gives-Gives}
-use Rattle.test_support.proofs.Fields.{Allowance, lent, inner_at, allowance_at, fields}
+use Rattle.test_support.proofs.Fields.{Allowance, lent, at_types, instance, inner_at, allowance_at, fields}
 use Rattle.test_support.specs.contracts.failing_alloc.FailingAllocAllocator.deallocate as f
 use Rattle.test_support.specs.contracts.failing_alloc.FailingAllocAllocator.deallocate.Key as key
 use Rattle.test_support.proofs.failing_alloc.FailingAllocAllocator.deallocate.Statement.{statement}
@@ -47,21 +45,15 @@ module _ (Z : Al) where
     (stay_dropped (plain (λ _. RawPtr)) yes, (stay_dropped (plain (λ _. usize)) yes, (stay_dropped (plain (λ _. usize)) yes, tt))),
   )
 
-  abbrev at_types : Args
-  at_types = bounded (a_type ∷ []) (Z.row, tt) (dcons Z.d (dcons Z.drops dnil))
-
-  abbrev here : Fn
-  here = inst_fn at_types code.function
-
 pub deallocate_spec : {M : Type 1} → statement M
 deallocate_spec 𝓤 𝓛 𝓜 𝓡 wired Y laws g d drops bound _ =
     let Z : Al = record { row = Y; laws = laws; g = g; d = d; drops = drops } in
-    let T = ended Z in let hs = stayed Z in
+    let T = ended Z in let hs = stayed Z in let here : Fn = instance Z code.function in
     let c = f.clauses Y g d drops 𝓛 𝓜.mem 𝓡.returns in
     let W = walk_of 𝓛 T hs c in let 𝓣 = tables 𝓤 𝓛.H 𝓜 𝓡 𝓡.env in
     let goes = Goes-dropped 𝓛 2 (plain (λ _. usize)) yes (λ κs x w. refl) in
     proved 𝓛 T hs c 𝓜 𝓡 (Goes-dropped 𝓛 2 (lent Z) yes (λ κs x w. refl), (Goes-dropped 𝓛 2 (plain (λ _. RawPtr)) yes (λ κs x w. refl), (goes, (goes, tt))))
-    (key.name (at_types Z)) (here Z) (code.unfolded 𝓤 𝓛.H 𝓜 𝓡 wired (Y, tt) d drops)
+    (key.name (at_types Z)) here (code.unfolded 𝓤 𝓛.H 𝓜 𝓡 wired (Y, tt) d drops)
     (λ κs. (shr_vals, (rawptr_vals, (uint_vals w64, (uint_vals w64, tt)))))
     (λ κs. ((λ r vs s. s.0), (rawptr_Tells, (uint_Tells w64, (uint_Tells w64, tt))))) (λ κs qs bounds a τ are.
     let κ₁ = κs.0 in let κ₂ = κs.1.0 in let q₁ = qs.0 in let q₂ = qs.1.0 in
@@ -78,7 +70,7 @@ deallocate_spec 𝓤 𝓛 𝓜 𝓡 wired Y laws g d drops bound _ =
     (fields Z 𝓛 κ₁ κ₂ r) $ split ! $ keep ! (5 ∷ 0 ∷ 3 ∷ 4 ∷ []) $
     -- [the block with the right to free it; the `&` to the inner allocator; the tokens of κ₁ and of κ₂]
     in_a_block ! a.1.0 (λ p. owned_block (token Z h) τ p) (fst∗ 𝓤 (never 𝓤) (sem 𝓛 (token Z h τ null_ptr))) (λ b o e.
-    regoal ! (λ p. prop (WpFn 𝓤 𝓛.H 𝓣.C 𝓣.Λ (here Z) (vptr r.ref_ptr.0 r.ref_ptr.1 ∷ ptr_val p ∷ vint w64 n ∷ vint w64 m ∷ []) (W.post (y p)))) e refl $
+    regoal ! (λ p. prop (WpFn 𝓤 𝓛.H 𝓣.C 𝓣.Λ here (vptr r.ref_ptr.0 r.ref_ptr.1 ∷ ptr_val p ∷ vint w64 n ∷ vint w64 m ∷ []) (W.post (y p)))) e refl $
     enter ! _ _ _ _ _ $ alloc_all ! (λ l. pass_all ! refl ((tt, tt), ((tt, tt), ((tt, record { fits = n_fits }), ((tt, record { fits = m_fits }), tt)))) $
     sets ! (addr ! (through ! refl (fld ! refl (stop !)))) refl (tt, tt) $
     let G = Gives Z 𝓛 𝓜.mem 𝓡.returns in let z = at_gives Z 𝓛 𝓜.mem 𝓡.returns κ₁ q₁ at_inner h b o n m τ in
