@@ -18,15 +18,14 @@ use Rattle.lsdb.specs.Slots.{Slots, SectionSlots, item_at, section_of, lists_of,
 use Rattle.edit_script.specs.declared.edit.Edit.TheVariants.{AddSummary, AddExternal}
 use Rattle.edit_script.specs.declared.edit.MetricType.{MetricType}
 use Rattle.edit_history.specs.declared.fault.EditFault.{EditFault}
-use Rattle.edit_history.specs.declared.fault.EditFault.TheVariants.{NoArea, NoRouter, OutOfMemory}
+use Rattle.edit_history.specs.declared.fault.EditFault.TheVariants.{NoRouter, OutOfMemory}
 use Rattle.edit_history.specs.Rules.{Rule, adding}
 use Rattle.edit_history.specs.Effect.{area_of, router_lsa_in, has_router, options_in, is_type2, room_for, has_room, added, rule_of, ◌>>=◌}
 use Rattle.edit_history.specs.Exchange.{SwapData}
 use Rattle.edit_history.specs.Applied.{Planned, IsRefused}
 use Rattle.edit_history.specs.steps.Plans.{IsFirstLsa, Opens}
-use Rattle.edit_history.proofs.NamedLsas.{no_area, has_area, named_there}
+use Rattle.edit_history.proofs.NamedLsas.{has_area, named_there, no_router_in, router_in}
 use Rattle.edit_history.proofs.FailureFates.{list_item}
-use Rattle.edit_history.proofs.FailureRules.{no_lsa_in, lsa_in}
 use Rattle.edit_history.proofs.RoomForLsas.{room_not_memory}
 use Rattle.edit_history.proofs.RulesCarriedOut.{refused_as, no_memory, on_ok, on_err}
 use Rattle.edit_history.proofs.Additions.{IsKeyed, planned_new, added_refused, added_ruled, new_room}
@@ -53,17 +52,10 @@ abbrev summary_rule : Lists → AreaId → RouterId → Net → ℕ → SectionL
 summary_rule db area router prefix metric section =
     router_lsa_in section router >>= λ lsa. added db (Area area) (summary_for section.area router prefix metric)
 
-summary_row : (db : Lists) (area : AreaId) (router : RouterId) (prefix : Net) (metric : ℕ)
+pub summary_row : (db : Lists) (area : AreaId) (router : RouterId) (prefix : Net) (metric : ℕ)
     → rule_of db (AddSummary area router prefix metric) ≡ (area_of db area >>= summary_rule db area router prefix metric)
 unfolding rule_of
 summary_row db area router prefix metric = refl
-
-pub add_no_area : (d : Slots) (area : AreaId) (router : RouterId) (prefix : Net) (metric : ℕ) → find (is_section (Area area)) (lists_of d) ≡ None
-    → IsRefused d (AddSummary area router prefix metric) NoArea
-add_no_area d area router prefix metric none =
-    refused_as d (AddSummary area router prefix metric) NoArea (λ e. cc)
-    (summary_row (lists_of d) area router prefix metric
-    ∙ on_err (area_of (lists_of d) area) NoArea (summary_rule (lists_of d) area router prefix metric) (no_area (lists_of d) area none))
 
 not_there : (d : Slots) (i : ℕ) (s : SectionLsas) → item_at d i ≡ None → item_at (lists_of d) i ≡ Some s → ⊥
 not_there [] i s is at = cc
@@ -96,7 +88,7 @@ add_no_router d area router prefix metric number named none =
     refused_as d (AddSummary area router prefix metric) NoRouter (λ e. cc)
     (add_in d area router prefix metric number named
     ∙ on_err (router_lsa_in h.section router) NoRouter (λ lsa. added (lists_of d) (Area area) (summary_for h.section.area router prefix metric))
-    (no_lsa_in (lists_of d) area router h.section h.lsas none))
+    (no_router_in (lists_of d) area router h.section h.lsas none))
 
 -- the router is there
 add_row : (d : Slots) (area : AreaId) (router : RouterId) (prefix : Net) (metric number : ℕ) (slot : SlotId) (lsa : List ℕ)
@@ -107,7 +99,7 @@ add_row d area router prefix metric number slot lsa named at =
     let h = has_area (lists_of d) area (named_there d (Area area) number named) in
     add_in d area router prefix metric number named
     ∙ on_ok (router_lsa_in h.section router) lsa (λ x. added (lists_of d) (Area area) (summary_for h.section.area router prefix metric))
-    (lsa_in (lists_of d) area router h.section lsa h.lsas at.first)
+    (router_in (lists_of d) area router h.section lsa h.lsas at.first)
     ∙ ap (λ (head : Option AreaHead). added (lists_of d) (Area area) (summary_for head router prefix metric))
     (sym (head_found d (Area area) number h.section named h.found))
 

@@ -28,15 +28,12 @@ use Rattle.edit_history.specs.Exchange.{SwapData}
 use Rattle.edit_history.specs.Applied.{Planned}
 use Rattle.edit_history.specs.steps.Plans.{Opens}
 use Rattle.edit_history.proofs.Keys.{found_passes, only_section, name_is}
-use Rattle.edit_history.proofs.RuleOutcomes.{Stays, all_stay, none_change, changes_mid}
+use Rattle.edit_history.proofs.RuleOutcomes.{all_stay, none_change, changes_mid}
 use Rattle.edit_history.proofs.RoomForLsas.{IsRoom, is_room}
 use Rattle.edit_history.proofs.Searches.{none_found}
 use Rattle.edit_history.proofs.RulesCarriedOut.{CarriesOutRule, carries}
 
 -- ---- what the rule leaves
-
-abbrev no_fates : Option AreaHead → List ℕ → Type 0
-no_fates head lsa = Stays (λ h x. stays) head lsa
 
 kept_all : (name : Section) (x : List ℕ) (s : SectionLsas) → kept_lsas (adding name x).fates s ≡ s.lsas
 kept_all name x s = all_stay (λ h y. stays) s.area s.lsas (λ k d lt. refl)

@@ -1,7 +1,7 @@
 -- Edits that change LSAs of areas alone leave those of AS scope as they are.
-use Rattle.std.proofs.Common.{◌≡◌, ℕ, zero, suc, ◌<◌, Bool, true, false, cond, List, [], ◌∷◌, map, length, take, Option, Some, None, Result}
+use Rattle.std.proofs.Common.{◌≡◌, ℕ, zero, suc, ◌<◌, Bool, true, false, cond, List, [], ◌∷◌, length, take, Option, Some, None, Result}
 use Rattle.std.proofs.Common.{refl, sym, ap, ◌∙◌, subst, arith}
-use Rattle.std.specs.Prelude.{◌&&◌, ◌||◌, AllPairs, is_some, nat_le}
+use Rattle.std.specs.Prelude.{◌&&◌, AllPairs, is_some, nat_le}
 use Rattle.std.specs.List.{All, cons_option, find, list_any}
 use Rattle.std.proofs.lemmas.Bool.{and_parts, leb-false, or_parts}
 use Rattle.std.proofs.lemmas.List.{take-map}
@@ -10,9 +10,7 @@ use Rattle.lsdb.specs.Lists.{AreaHead, IsBefore, IsDatabase, Lists, SectionLsas,
 use Rattle.lsdb.specs.Slots.{Slot, Slots, SectionSlots, lists_of, put, section_of, update_at}
 use Rattle.lsdb.specs.declared.section.Section.TheVariants.{AsWide}
 use Rattle.lsdb.proofs.ListLemmas.{pairs_head, pairs_tail}
-use Rattle.edit_script.specs.declared.edit.Edit.{Edit}
 use Rattle.edit_history.specs.declared.fault.EditFault.{EditFault}
-use Rattle.edit_history.specs.Effect.{effect}
 use Rattle.edit_history.specs.Exchange.{RecordData, SwapData, changes_as_scope, done_slots, is_of_as_scope, undone_slots}
 use Rattle.edit_history.specs.Journal.{HistoryData, Links, LinksOn, origin}
 use Rattle.edit_history.specs.Session.{after_edits, edits_of, moved_back, moved_on, session_of, state, unless_refused}

@@ -8,16 +8,16 @@ use Rattle.lsa_codec.specs.declared.address.AreaId.{AreaId}
 use Rattle.lsa_codec.specs.declared.address.RouterId.{RouterId}
 use Rattle.lsdb.specs.declared.section.Section.TheVariants.{Area}
 use Rattle.lsdb.specs.declared.slot.SlotId.{SlotId}
-use Rattle.lsdb.specs.Lists.{SectionLsas, Lists, is_section, has_key, lsas_of, is_network}
+use Rattle.lsdb.specs.Lists.{SectionLsas, Lists, has_key, lsas_of, is_network}
 use Rattle.lsdb.specs.Slots.{Slots, lists_of, IsNamed}
 use Rattle.edit_script.specs.declared.edit.Edit.TheVariants.{FailLink, FailNet, FailRouter}
 use Rattle.edit_history.specs.declared.fault.EditFault.{EditFault}
-use Rattle.edit_history.specs.declared.fault.EditFault.TheVariants.{NoArea, NoRouter, NoLink, SameRouter, NoNetwork}
+use Rattle.edit_history.specs.declared.fault.EditFault.TheVariants.{NoRouter, NoLink, SameRouter, NoNetwork}
 use Rattle.edit_history.specs.Rules.{Rule, by_fates, within}
 use Rattle.edit_history.specs.Effect.{area_of, router_lsa_in, or_refused, has_router, are_linked, link_fate, net_fate, router_fate, rule_of, ◌>>=◌}
 use Rattle.edit_history.specs.Applied.{IsRefused}
 use Rattle.edit_history.specs.steps.Plans.{IsFirstLsa}
-use Rattle.edit_history.proofs.NamedLsas.{no_area, has_area, named_there}
+use Rattle.edit_history.proofs.NamedLsas.{has_area, named_there, no_router_in, router_in}
 use Rattle.edit_history.proofs.RulesCarriedOut.{refused_as, on_ok, on_err}
 
 -- ---- links between two routers
@@ -35,17 +35,10 @@ both_rule area router neighbor section = router_lsa_in section router >>= other_
 abbrev apart_rule : AreaId → RouterId → RouterId → SectionLsas → Bool → Result Rule EditFault
 apart_rule area router neighbor section same = if same then Err SameRouter else both_rule area router neighbor section
 
-link_row : (db : Lists) (area : AreaId) (router neighbor : RouterId)
+pub link_row : (db : Lists) (area : AreaId) (router neighbor : RouterId)
     → rule_of db (FailLink area router neighbor) ≡ (area_of db area >>= λ section. apart_rule area router neighbor section (router.0 == neighbor.0))
 unfolding rule_of
 link_row db area router neighbor = refl
-
-pub link_no_area : (d : Slots) (area : AreaId) (router neighbor : RouterId) → find (is_section (Area area)) (lists_of d) ≡ None
-    → IsRefused d (FailLink area router neighbor) NoArea
-link_no_area d area router neighbor none =
-    refused_as d (FailLink area router neighbor) NoArea (λ e. cc)
-    (link_row (lists_of d) area router neighbor ∙ on_err (area_of (lists_of d) area) NoArea
-    (λ section. apart_rule area router neighbor section (router.0 == neighbor.0)) (no_area (lists_of d) area none))
 
 -- the area is there
 link_in : (d : Slots) (area : AreaId) (router neighbor : RouterId) (number : ℕ) (same : Bool) (answer : Result Rule EditFault)
@@ -65,14 +58,6 @@ link_same d area router neighbor number named is =
     refused_as d (FailLink area router neighbor) SameRouter (λ e. cc)
     (link_in d area router neighbor number true (Err SameRouter) named is (λ section lsas. refl))
 
-pub no_lsa_in : (db : Lists) (area : AreaId) (router : RouterId) (section : SectionLsas) → lsas_of (Area area) db ≡ section.lsas
-    → find (has_key (router_key router)) (lsas_of (Area area) db) ≡ None → router_lsa_in section router ≡ Err NoRouter
-no_lsa_in db area router section lsas none = ap (or_refused NoRouter) (ap (find (has_key (router_key router))) (sym lsas) ∙ none)
-
-pub lsa_in : (db : Lists) (area : AreaId) (router : RouterId) (section : SectionLsas) (lsa : List ℕ) → lsas_of (Area area) db ≡ section.lsas
-    → find (has_key (router_key router)) (lsas_of (Area area) db) ≡ Some lsa → router_lsa_in section router ≡ Ok lsa
-lsa_in db area router section lsa lsas first = ap (or_refused NoRouter) (ap (find (has_key (router_key router))) (sym lsas) ∙ first)
-
 pub link_no_router : (d : Slots) (area : AreaId) (router neighbor : RouterId) (number : ℕ) → IsNamed d (Area area) number
     → (router.0 == neighbor.0) ≡ false → find (has_key (router_key router)) (lsas_of (Area area) (lists_of d)) ≡ None
     → IsRefused d (FailLink area router neighbor) NoRouter
@@ -80,7 +65,7 @@ link_no_router d area router neighbor number named is none =
     refused_as d (FailLink area router neighbor) NoRouter (λ e. cc)
     (link_in d area router neighbor number false (Err NoRouter) named is
     (λ section lsas. on_err (router_lsa_in section router) NoRouter (other_rule area router neighbor section)
-    (no_lsa_in (lists_of d) area router section lsas none)))
+    (no_router_in (lists_of d) area router section lsas none)))
 
 pub link_no_neighbor : (d : Slots) (area : AreaId) (router neighbor : RouterId) (number : ℕ) (slot : SlotId) (lsa : List ℕ)
     → IsNamed d (Area area) number → (router.0 == neighbor.0) ≡ false → IsFirstLsa d (Area area) (has_key (router_key router)) slot lsa
@@ -89,9 +74,9 @@ link_no_neighbor d area router neighbor number slot lsa named is at none =
     refused_as d (FailLink area router neighbor) NoRouter (λ e. cc)
     (link_in d area router neighbor number false (Err NoRouter) named is
     (λ section lsas. on_ok (router_lsa_in section router) lsa (other_rule area router neighbor section)
-    (lsa_in (lists_of d) area router section lsa lsas at.first)
+    (router_in (lists_of d) area router section lsa lsas at.first)
     ∙ on_err (router_lsa_in section neighbor) NoRouter (λ other. linked_rule area router neighbor (are_linked router neighbor lsa other))
-    (no_lsa_in (lists_of d) area neighbor section lsas none)))
+    (no_router_in (lists_of d) area neighbor section lsas none)))
 
 both_there : (d : Slots) (area : AreaId) (router neighbor : RouterId) (number : ℕ) (slot : SlotId) (lsa : List ℕ) (other_slot : SlotId) (other : List ℕ)
     (linked : Bool) → IsNamed d (Area area) number → (router.0 == neighbor.0) ≡ false
@@ -101,9 +86,9 @@ both_there : (d : Slots) (area : AreaId) (router neighbor : RouterId) (number : 
 both_there d area router neighbor number slot lsa other_slot other linked named is at there links =
     link_in d area router neighbor number false (linked_rule area router neighbor linked) named is
     (λ section lsas. on_ok (router_lsa_in section router) lsa (other_rule area router neighbor section)
-    (lsa_in (lists_of d) area router section lsa lsas at.first)
+    (router_in (lists_of d) area router section lsa lsas at.first)
     ∙ on_ok (router_lsa_in section neighbor) other (λ other. linked_rule area router neighbor (are_linked router neighbor lsa other))
-    (lsa_in (lists_of d) area neighbor section other lsas there.first)
+    (router_in (lists_of d) area neighbor section other lsas there.first)
     ∙ ap (linked_rule area router neighbor) links)
 
 pub link_none : (d : Slots) (area : AreaId) (router neighbor : RouterId) (number : ℕ) (slot : SlotId) (lsa : List ℕ) (other_slot : SlotId)
@@ -127,18 +112,11 @@ link_ruled d area router neighbor number slot lsa other_slot other named is at t
 abbrev net_found : AreaId → Addr → Result (List ℕ) EditFault → Result Rule EditFault
 net_found area network found = found >>= λ lsa. Ok (within (Area area) (net_fate network))
 
-net_row : (db : Lists) (area : AreaId) (network : Addr)
+pub net_row : (db : Lists) (area : AreaId) (network : Addr)
     → rule_of db (FailNet area network) ≡ (area_of db area >>= λ section. net_found area network
     (or_refused NoNetwork (find (is_network network) section.lsas)))
 unfolding rule_of
 net_row db area network = refl
-
-pub net_no_area : (d : Slots) (area : AreaId) (network : Addr) → find (is_section (Area area)) (lists_of d) ≡ None
-    → IsRefused d (FailNet area network) NoArea
-net_no_area d area network none =
-    refused_as d (FailNet area network) NoArea (λ e. cc)
-    (net_row (lists_of d) area network ∙ on_err (area_of (lists_of d) area) NoArea
-    (λ section. net_found area network (or_refused NoNetwork (find (is_network network) section.lsas))) (no_area (lists_of d) area none))
 
 net_in : (d : Slots) (area : AreaId) (network : Addr) (number : ℕ) (found : Option (List ℕ)) → IsNamed d (Area area) number
     → find (is_network network) (lsas_of (Area area) (lists_of d)) ≡ found

@@ -196,9 +196,6 @@ state_back d (r ∷ rs) links =
 pub state_is : (d : Slots) (h : HistoryData) → Links d h → state (session_of d h) ≡ lists_of d
 state_is d h links = state_back d h.past links.back
 
-pub grown_none : (d : Slots) → Grown d d
-grown_none d = ([], refl)
-
 -- ---- an edit is recorded
 
 pub record Recorded (d e : Slots) (h : HistoryData) (r : RecordData) : Type 0 where

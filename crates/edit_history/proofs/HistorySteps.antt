@@ -1,20 +1,15 @@
 -- One step of a history, by its vector and its cursor.
-use Rattle.std.proofs.Common.{◌≡◌, ℕ, suc, ◌+◌, add-one, ◌<◌, List, ◌∷◌, length, get_or, take, drop, sym, ap, ◌∙◌, subst}
+use Rattle.std.proofs.Common.{◌≡◌, ℕ, suc, ◌<◌, List, ◌∷◌, length, get_or, take, drop, sym, ◌∙◌, subst}
 use Rattle.std.specs.Prelude.{reverse, slice_set}
 use Rattle.lsdb.specs.Slots.{Slots}
 use Rattle.edit_history.specs.Exchange.{RecordData, undone_slots, undone, done_slots, redone}
 use Rattle.edit_history.specs.Journal.{HistoryData, Links}
-use Rattle.edit_history.specs.Session.{Session, session_of, StepsBack, StepsOn}
+use Rattle.edit_history.specs.Session.{session_of, StepsBack, StepsOn, Turned}
 use Rattle.edit_history.proofs.Cursor.{seen, seen_after, seen_after_back, seen_ahead, seen_after_on}
 use Rattle.edit_history.proofs.Linked.{step_back, step_on, session_back, session_on}
 
--- the step's database and history, and what they show
-pub record Turned (d e : Slots) (h k : HistoryData) (Steps : Session → Session → Type 0) : Type 0 where
-  pub links : Links e k
-  pub session : Steps (session_of d h) (session_of e k)
-
 pub back_turn : (d : Slots) (h : HistoryData) (items : List RecordData) (i j : ℕ) (r : RecordData) → seen items j ≡ h → j ≡ suc i → i < length items
-    → r ≡ get_or items i r → Links d h → Turned d (undone_slots d r.swaps) h (seen (slice_set items i (undone d r)) i) StepsBack
+    → r ≡ get_or items i r → Links d h → Turned StepsBack d (undone_slots d r.swaps) h (seen (slice_set items i (undone d r)) i)
 back_turn d h items i j r view is lt reads links =
     let rs : List RecordData = reverse (take i items) in
     let fs : List RecordData = drop j items in
@@ -23,7 +18,7 @@ back_turn d h items i j r view is lt reads links =
     (undone d r) is lt in
     let e : Slots = undone_slots d r.swaps in
     record {
-      links = subst (λ (k : HistoryData). Links e k) (sym after) (step_back d r rs fs (subst (λ (k : HistoryData). Links d k) before links));
+      linked = subst (λ (k : HistoryData). Links e k) (sym after) (step_back d r rs fs (subst (λ (k : HistoryData). Links d k) before links));
       session =
           subst (λ (k : HistoryData). StepsBack (session_of d h) (session_of e k)) (sym after)
           (subst (λ (k : HistoryData). StepsBack (session_of d k) (session_of e (record { past = rs; future = undone d r ∷ fs }))) (sym before)
@@ -31,7 +26,7 @@ back_turn d h items i j r view is lt reads links =
     }
 
 pub on_turn : (d : Slots) (h : HistoryData) (items : List RecordData) (i j : ℕ) (r : RecordData) → seen items i ≡ h → j ≡ suc i → i < length items
-    → r ≡ get_or items i r → Links d h → Turned d (done_slots d r.swaps) h (seen (slice_set items i (redone d r)) j) StepsOn
+    → r ≡ get_or items i r → Links d h → Turned StepsOn d (done_slots d r.swaps) h (seen (slice_set items i (redone d r)) j)
 on_turn d h items i j r view is lt reads links =
     let rs : List RecordData = reverse (take i items) in
     let fs : List RecordData = drop (suc i) items in
@@ -41,25 +36,9 @@ on_turn d h items i j r view is lt reads links =
     let e : Slots = done_slots d r.swaps in
     let linked : Links d (record { past = rs; future = r ∷ fs }) = subst (λ (k : HistoryData). Links d k) before links in
     record {
-      links = subst (λ (k : HistoryData). Links e k) (sym after) (step_on d r rs fs linked);
+      linked = subst (λ (k : HistoryData). Links e k) (sym after) (step_on d r rs fs linked);
       session =
           subst (λ (k : HistoryData). StepsOn (session_of d h) (session_of e k)) (sym after)
           (subst (λ (k : HistoryData). StepsOn (session_of d k) (session_of e (record { past = redone d r ∷ rs; future = fs }))) (sym before)
           (session_on d r rs fs linked));
     }
-
-pub back_count : (h : HistoryData) (items : List RecordData) (i j : ℕ) (r v : RecordData) → seen items j ≡ h → j ≡ suc i → i < length items
-    → r ≡ get_or items i r → length h.past ≡ length (reverse (take i (slice_set items i v))) + 1
-back_count h items i j r v view is lt reads =
-    let before = sym view ∙ seen_after items i j r is lt reads in
-    let after = seen_after_back items i j v is lt in
-    ap (λ (k : HistoryData). length k.past) before ∙ sym (add-one (length (reverse (take i items))))
-    ∙ ap (λ (k : HistoryData). length k.past + 1) (sym after)
-
-pub on_count : (h : HistoryData) (items : List RecordData) (i j : ℕ) (r v : RecordData) → seen items i ≡ h → j ≡ suc i → i < length items
-    → r ≡ get_or items i r → length h.future ≡ length (drop j (slice_set items i v)) + 1
-on_count h items i j r v view is lt reads =
-    let before = sym view ∙ seen_ahead items i r lt reads in
-    let after = seen_after_on items i j v is lt in
-    ap (λ (k : HistoryData). length k.future) before ∙ sym (add-one (length (drop (suc i) items)))
-    ∙ ap (λ (k : HistoryData). length k.future + 1) (sym after)

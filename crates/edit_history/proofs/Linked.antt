@@ -1,5 +1,5 @@
 -- A history stays linked to its database as it steps back and on.
-use Rattle.std.proofs.Common.{◌≡◌, ℕ, zero, suc, ◌-◌, ◌≤◌, List, [], ◌∷◌, ◌++◌, length, take, drop, Result, Ok, append_assoc, refl, sym, ap, ◌∙◌, subst, arith}
+use Rattle.std.proofs.Common.{◌≡◌, ℕ, zero, suc, add-one, ◌+◌, ◌-◌, ◌≤◌, List, [], ◌∷◌, ◌++◌, length, take, drop, Result, Ok, append_assoc, length-append, refl, sym, ap, ◌∙◌, subst, arith}
 use Rattle.std.specs.Prelude.{map, reverse}
 use Rattle.std.proofs.lemmas.List.{length-reverse, length-map, reverse-append, take_all, drop_all, append-nil}
 use Rattle.lsdb.specs.Lists.{Lists}
@@ -11,7 +11,7 @@ use Rattle.edit_history.specs.Effect.{effect, changes}
 use Rattle.edit_history.specs.Applied.{swap_change}
 use Rattle.edit_history.specs.Exchange.{SwapData, RecordData, undone, redone, undone_slots, undone_swaps, done_slots}
 use Rattle.edit_history.specs.Journal.{HistoryData, LinksBack, LinksOn, Links, origin}
-use Rattle.edit_history.specs.Session.{Session, edits_of, session_of, StepsBack, StepsOn, moved_back, moved_on}
+use Rattle.edit_history.specs.Session.{Session, edits_of, session_of, StepsBack, StepsOn, Turned, moved_back, moved_on}
 use Rattle.edit_history.proofs.Exchanged.{undo_done, do_undone, undone_sound, done_sound}
 
 abbrev pub whole : Lists → Result Lists EditFault
@@ -149,3 +149,14 @@ done_len d h = length-reverse (edits_of h.past) ∙ length-map h.past (λ (r : R
 
 pub undone_len : (d : Slots) (h : HistoryData) → length (session_of d h).undone ≡ length h.future
 undone_len d h = length-map h.future (λ (r : RecordData). r.edit)
+
+-- one step leaves one edit less in its way
+pub past_less : {d e : Slots} {h k : HistoryData} → Turned StepsBack d e h k → length h.past ≡ length k.past + 1
+past_less {d} {e} {h} {k} turned =
+    sym (done_len d h) ∙ ap (λ (es : List Edit). length es) turned.session.done
+    ∙ length-append (session_of e k).done (turned.session.edit ∷ []) ∙ ap (λ (n : ℕ). n + 1) (done_len e k)
+
+pub future_less : {d e : Slots} {h k : HistoryData} → Turned StepsOn d e h k → length h.future ≡ length k.future + 1
+future_less {d} {e} {h} {k} turned =
+    sym (undone_len d h) ∙ ap (λ (es : List Edit). length es) turned.session.undone
+    ∙ sym (add-one (length (session_of e k).undone)) ∙ ap (λ (n : ℕ). n + 1) (undone_len e k)

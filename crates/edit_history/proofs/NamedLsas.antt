@@ -13,16 +13,28 @@ use Rattle.lsdb.specs.declared.slot.SlotId.{SlotId}
 use Rattle.lsdb.specs.Lists.{SectionLsas, Lists, is_section, has_key, lsas_of}
 use Rattle.lsdb.specs.Slots.{Slot, Slots, slot_at, lists_of, lsas_or_none, IsNamed, IsSlotOf}
 use Rattle.lsdb.proofs.KeyLemmas.{same_key_true}
+use Rattle.edit_script.specs.declared.edit.Edit.{Edit}
 use Rattle.edit_history.specs.declared.fault.EditFault.{EditFault}
 use Rattle.edit_history.specs.declared.fault.EditFault.TheVariants.{NoArea, NoRouter, OutOfMemory}
-use Rattle.edit_history.specs.Effect.{router_lsa_in, router_lsa_of, area_of, or_refused, ◌>>=◌}
+use Rattle.edit_history.specs.Rules.{Rule}
+use Rattle.edit_history.specs.Effect.{router_lsa_in, router_lsa_of, rule_of, area_of, or_refused, ◌>>=◌}
+use Rattle.edit_history.specs.Applied.{IsRefused}
 use Rattle.edit_history.specs.steps.Plans.{IsFirstLsa}
 use Rattle.edit_history.proofs.Keys.{found_passes}
+use Rattle.edit_history.proofs.RulesCarriedOut.{refused_as, on_err}
 
 -- ---- the area
 
 pub no_area : (db : Lists) (area : AreaId) → find (is_section (Area area)) db ≡ None → area_of db area ≡ Err NoArea
 no_area db area none = ap (λ (o : Option SectionLsas). or_refused NoArea o) none
+
+-- an edit that begins with an area that is not there
+pub no_area_refused : (d : Slots) (edit : Edit) (area : AreaId) (rest : SectionLsas → Result Rule EditFault) (fault : EditFault)
+    → rule_of (lists_of d) edit ≡ (area_of (lists_of d) area >>= rest) → fault ≡ NoArea → find (is_section (Area area)) (lists_of d) ≡ None
+    → IsRefused d edit fault
+no_area_refused d edit area rest fault row is none =
+    subst (λ (f : EditFault). IsRefused d edit f) (sym is)
+    (refused_as d edit NoArea (λ e. cc) (row ∙ on_err (area_of (lists_of d) area) NoArea rest (no_area (lists_of d) area none)))
 
 -- the area, where it is there
 pub record HasArea (db : Lists) (area : AreaId) : Type 0 where
@@ -46,27 +58,19 @@ named_there d name i named = subst (λ (o : Option SectionLsas). IsSome o) named
 abbrev pub router_lsa_after : RouterId → Result SectionLsas EditFault → Result (List ℕ) EditFault
 router_lsa_after router s = s >>= λ section. router_lsa_in section router
 
-pub no_router_area : (db : Lists) (area : AreaId) (router : RouterId) → find (is_section (Area area)) db ≡ None
-    → router_lsa_of db area router ≡ Err NoArea
-no_router_area db area router none = ap (router_lsa_after router) (no_area db area none)
+pub no_router_in : (db : Lists) (area : AreaId) (router : RouterId) (section : SectionLsas) → lsas_of (Area area) db ≡ section.lsas
+    → find (has_key (router_key router)) (lsas_of (Area area) db) ≡ None → router_lsa_in section router ≡ Err NoRouter
+no_router_in db area router section lsas none = ap (or_refused NoRouter) (ap (find (has_key (router_key router))) (sym lsas) ∙ none)
 
-pub no_router_in : (db : Lists) (area : AreaId) (router : RouterId) (h : HasArea db area)
-    → find (has_key (router_key router)) (lsas_of (Area area) db) ≡ None → router_lsa_in h.section router ≡ Err NoRouter
-no_router_in db area router h none = ap (or_refused NoRouter) (ap (find (has_key (router_key router))) (sym h.lsas) ∙ none)
-
-pub router_in : (db : Lists) (area : AreaId) (router : RouterId) (lsa : List ℕ) (h : HasArea db area)
-    → find (has_key (router_key router)) (lsas_of (Area area) db) ≡ Some lsa → router_lsa_in h.section router ≡ Ok lsa
-router_in db area router lsa h first = ap (or_refused NoRouter) (ap (find (has_key (router_key router))) (sym h.lsas) ∙ first)
-
-pub no_router : (db : Lists) (area : AreaId) (router : RouterId) → IsSome (find (is_section (Area area)) db)
-    → find (has_key (router_key router)) (lsas_of (Area area) db) ≡ None → router_lsa_of db area router ≡ Err NoRouter
-no_router db area router some none = let h = has_area db area some in ap (router_lsa_after router) h.is ∙ no_router_in db area router h none
+pub router_in : (db : Lists) (area : AreaId) (router : RouterId) (section : SectionLsas) (lsa : List ℕ) → lsas_of (Area area) db ≡ section.lsas
+    → find (has_key (router_key router)) (lsas_of (Area area) db) ≡ Some lsa → router_lsa_in section router ≡ Ok lsa
+router_in db area router section lsa lsas first = ap (or_refused NoRouter) (ap (find (has_key (router_key router))) (sym lsas) ∙ first)
 
 pub router_lsa_is : (d : Slots) (area : AreaId) (router : RouterId) (slot : SlotId) (lsa : List ℕ)
     → IsFirstLsa d (Area area) (has_key (router_key router)) slot lsa → router_lsa_of (lists_of d) area router ≡ Ok lsa
 router_lsa_is d area router slot lsa at =
     let h = has_area (lists_of d) area (named_there d (Area area) slot.section at.named) in
-    ap (router_lsa_after router) h.is ∙ router_in (lists_of d) area router lsa h at.first
+    ap (router_lsa_after router) h.is ∙ router_in (lists_of d) area router h.section lsa h.lsas at.first
 
 -- ---- what was found
 

@@ -1,16 +1,15 @@
 -- The first wanted LSA, among the slots that are noted of its router and its prefix.
-use Rattle.std.proofs.Common.{◌≡◌, ℕ, ◌+◌, ◌<◌, ◌≤◌, Bool, true, false, List, [], ◌∷◌, ◌++◌, length, map, take, get_or, Option, Some, None, ◌==◌, sym, ap, ◌∙◌, subst, arith, ⊎_elim}
+use Rattle.std.proofs.Common.{◌≡◌, ℕ, ◌<◌, ◌≤◌, Bool, true, false, List, [], ◌∷◌, ◌++◌, length, map, take, get_or, Some, None, sym, ap, ◌∙◌, subst, arith, ⊎_elim}
 use Rattle.std.specs.Prelude.{All}
 use Rattle.std.specs.List.{find}
-use Rattle.std.proofs.lemmas.Bool.{and_parts, cases_lt, eqb-true}
+use Rattle.std.proofs.lemmas.Bool.{cases_lt}
 use Rattle.std.proofs.lemmas.List.{get_or-take, get_or_default, length-take, map-id, take_all}
 use Rattle.std.proofs.lemmas.List.Elements.{All-append, All-cons, All-nil}
 use Rattle.lsa_codec.specs.declared.address.RouterId.{RouterId}
 use Rattle.lsa_codec.specs.Prefix.{Net}
 use Rattle.lsdb.specs.Slots.{Slots, item_at, lsas_in, slots_in, IsFirstSlot}
-use Rattle.lsdb.specs.PrefixSlots.{SlotOfPrefix, prefix_of, prefix_slot, AreSlotsOfPrefix}
+use Rattle.lsdb.specs.PrefixSlots.{SlotOfPrefix, prefix_slot, AreSlotsOfPrefix}
 use Rattle.edit_history.specs.declared.lookup.Wanted.{Wanted}
-use Rattle.edit_history.specs.Effect.{is_originated_for, is_prefix}
 use Rattle.edit_history.specs.steps.Plans.{is_wanted, passes, slot_of}
 use Rattle.edit_history.specs.steps.Searching.{AreOriginatedFor}
 use Rattle.edit_history.proofs.Candidates.{stands_at, first_at, none_at}
@@ -101,18 +100,3 @@ module _ (w : Wanted) (d : Slots) (section : ℕ) (router : RouterId) (net : Net
   miss_all read all before =
       miss (length found) (omega arith)
       (subst (λ (es : List SlotOfPrefix). NoneStands w d section es) (sym (map-id read) ∙ all ∙ sym (take_all (length found) found (omega arith))) before)
-
--- ---- a wanted LSA is originated by one router for one prefix
-
-same_prefix : (net : Net) (o : Option Net) → is_prefix net o ≡ true → o ≡ Some net
-same_prefix net None same = absurd cc
-same_prefix net (Some own) same =
-    let parts = and_parts (own.addr.0 == net.addr.0) (own.len == net.len) same in
-    let addr : own.addr.0 ≡ net.addr.0 = eqb-true _ _ parts.0 in
-    let len : own.len ≡ net.len = eqb-true _ _ parts.1 in
-    λ i. Some (record { addr = record { 0 = addr i }; len = len i })
-
-pub for_prefix : (kind : ℕ) (router : RouterId) (net : Net) → AreOriginatedFor router net (is_originated_for kind router net)
-for_prefix kind router net lsa pass =
-    let parts = and_parts _ _ (and_parts _ _ pass).1 in
-    (eqb-true _ _ parts.0, same_prefix net (prefix_of lsa) parts.1)

@@ -13,21 +13,21 @@ use Rattle.lsa_codec.specs.Originating.{with_metric}
 use Rattle.lsdb.specs.declared.section.Section.{Section}
 use Rattle.lsdb.specs.declared.section.Section.TheVariants.{Area, AsWide}
 use Rattle.lsdb.specs.declared.slot.SlotId.{SlotId}
-use Rattle.lsdb.specs.Lists.{Lists, IsDatabase, is_section, lsas_of}
+use Rattle.lsdb.specs.Lists.{Lists, IsDatabase, lsas_of}
 use Rattle.lsdb.specs.Slots.{Slots, lists_of, IsNamed}
 use Rattle.lsdb.proofs.SlotLemmas.{put_safe}
 use Rattle.edit_script.specs.declared.edit.Edit.TheVariants.{Summary, DropExternal}
 use Rattle.edit_history.specs.declared.fault.EditFault.{EditFault}
-use Rattle.edit_history.specs.declared.fault.EditFault.TheVariants.{NoArea, NoSummary, NoExternal, OutOfMemory}
+use Rattle.edit_history.specs.declared.fault.EditFault.TheVariants.{NoSummary, NoExternal, OutOfMemory}
 use Rattle.edit_history.specs.Rules.{Rule, removed, rewritten, one_lsa}
 use Rattle.edit_history.specs.Effect.{area_of, or_refused, is_originated_for, rule_of, ◌>>=◌}
 use Rattle.edit_history.specs.Exchange.{SwapData}
 use Rattle.edit_history.specs.Applied.{Planned, IsRefused}
 use Rattle.edit_history.specs.steps.Plans.{IsFirstLsa}
 use Rattle.edit_history.proofs.Keys.{found_passes}
-use Rattle.edit_history.proofs.NamedLsas.{no_area, has_area, named_there}
+use Rattle.edit_history.proofs.NamedLsas.{has_area, named_there}
 use Rattle.edit_history.proofs.OneLsa.{one_swap, planned_one}
-use Rattle.edit_history.proofs.RulesCarriedOut.{refused_as, no_memory, on_ok, on_err}
+use Rattle.edit_history.proofs.RulesCarriedOut.{refused_as, no_memory, on_ok}
 
 pub kind_found : (d : Slots) (name : Section) (kind : ℕ) (router : RouterId) (prefix : Net) (slot : SlotId) (lsa : List ℕ)
     → IsFirstLsa d name (is_originated_for kind router prefix) slot lsa → kind_of lsa ≡ kind
@@ -40,19 +40,11 @@ kind_found d name kind router prefix slot lsa at =
 abbrev metric_rule : AreaId → ℕ → Result (List ℕ) EditFault → Result Rule EditFault
 metric_rule area metric found = found >>= λ lsa. Ok (one_lsa (Area area) (key_of lsa) (rewritten (with_metric metric lsa)))
 
-summary_row : (db : Lists) (area : AreaId) (router : RouterId) (prefix : Net) (metric : ℕ)
+pub summary_row : (db : Lists) (area : AreaId) (router : RouterId) (prefix : Net) (metric : ℕ)
     → rule_of db (Summary area router prefix metric) ≡ (area_of db area >>= λ section. metric_rule area metric
     (or_refused NoSummary (find (is_originated_for 3 router prefix) section.lsas)))
 unfolding rule_of
 summary_row db area router prefix metric = refl
-
-pub summary_no_area : (d : Slots) (area : AreaId) (router : RouterId) (prefix : Net) (metric : ℕ) → find (is_section (Area area)) (lists_of d) ≡ None
-    → IsRefused d (Summary area router prefix metric) NoArea
-summary_no_area d area router prefix metric none =
-    refused_as d (Summary area router prefix metric) NoArea (λ e. cc)
-    (summary_row (lists_of d) area router prefix metric
-    ∙ on_err (area_of (lists_of d) area) NoArea (λ section. metric_rule area metric
-    (or_refused NoSummary (find (is_originated_for 3 router prefix) section.lsas))) (no_area (lists_of d) area none))
 
 summary_in : (d : Slots) (area : AreaId) (router : RouterId) (prefix : Net) (metric number : ℕ) (found : Option (List ℕ))
     → IsNamed d (Area area) number → find (is_originated_for 3 router prefix) (lsas_of (Area area) (lists_of d)) ≡ found

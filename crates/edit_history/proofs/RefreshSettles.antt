@@ -30,14 +30,21 @@ refresh_leads db =
 
 -- ---- a settled database
 
+-- a list of which each item stays as it is
+each_stays : {X : Type 0} (f : X → X) (xs : List X) → All (λ x. f x ≡ x) xs → map f xs ≡ xs
+each_stays f [] all = refl
+each_stays {X} f (x ∷ xs) all =
+    let P : X → Type 0 = λ y. f y ≡ y in
+    let here = All-head P x xs all in
+    let rest = each_stays f xs (All-tail P x xs all) in
+    λ i. here i ∷ rest i
+
 module _ (db : Lists) where
   fresh_lsas : (area : AreaId) (lsas : List (List ℕ)) → All (λ lsa. is_stale db area lsa ≡ false) lsas → map (refreshed_lsa db area) lsas ≡ lsas
-  fresh_lsas area [] all = refl
-  fresh_lsas area (lsa ∷ lsas) all =
-      let P : List ℕ → Type 0 = λ l. is_stale db area l ≡ false in
-      let here : refreshed_lsa db area lsa ≡ lsa = ap (λ b. cond b (with_metric (due_in db area lsa) lsa) lsa) (All-head P lsa lsas all) in
-      let rest = fresh_lsas area lsas (All-tail P lsa lsas all) in
-      λ i. here i ∷ rest i
+  fresh_lsas area lsas all =
+      each_stays (refreshed_lsa db area) lsas
+      (All-weaker (λ lsa. is_stale db area lsa ≡ false) (λ lsa. refreshed_lsa db area lsa ≡ lsa)
+      (λ lsa fresh. ap (λ b. cond b (with_metric (due_in db area lsa) lsa) lsa) fresh) lsas all)
 
   fresh_section : (head : Option AreaHead) (lsas : List (List ℕ)) → AreSettled db head lsas → refreshed_lsas db is_backbone head lsas ≡ lsas
   fresh_section None lsas fresh = refl
@@ -47,12 +54,10 @@ module _ (db : Lists) where
     by_test false = refl
 
   fresh_sections : (ss : Lists) → All (λ s. AreSettled db s.area s.lsas) ss → map (refreshed_section db is_backbone) ss ≡ ss
-  fresh_sections [] all = refl
-  fresh_sections (s ∷ ss) all =
-      let P : SectionLsas → Type 0 = λ t. AreSettled db t.area t.lsas in
-      let here = fresh_section s.area s.lsas (All-head P s ss all) in
-      let rest = fresh_sections ss (All-tail P s ss all) in
-      λ i. record { area = s.area; lsas = here i } ∷ rest i
+  fresh_sections ss all =
+      each_stays (refreshed_section db is_backbone) ss
+      (All-weaker (λ s. AreSettled db s.area s.lsas) (λ s. refreshed_section db is_backbone s ≡ s)
+      (λ s fresh i. record { area = s.area; lsas = fresh_section s.area s.lsas fresh i }) ss all)
 
   -- an LSA that is not stale stays, in both passes
   fresh_stays : IsSettled db → (head : AreaHead) (lsa : List ℕ) → is_stale db (id_of head) lsa ≡ false → refresh_fates db (Some head) lsa ≡ stays

@@ -1,6 +1,6 @@
 -- Swaps that do what a rule requires carry an edit out; and what a refusal has to show.
 use Rattle.std.proofs.Common.{◌≡◌, ◌≢◌, List, map, Result, Ok, Err, refl, sym, ap, ◌∙◌, subst}
-use Rattle.std.specs.Prelude.{IsOk}
+use Rattle.std.specs.Prelude.{IsOk, IfOk, IfErr}
 use Rattle.lsdb.specs.Lists.{Lists}
 use Rattle.lsdb.specs.Slots.{Slots, lists_of}
 use Rattle.edit_script.specs.declared.edit.Edit.{Edit}
@@ -10,6 +10,7 @@ use Rattle.edit_history.specs.Rules.{Rule, Change, lists_after, changes_by}
 use Rattle.edit_history.specs.Effect.{rule_of, ◌>>=◌}
 use Rattle.edit_history.specs.Exchange.{SwapData, CanDo, done_slots, done_swaps}
 use Rattle.edit_history.specs.Applied.{swap_change, CarriesOut, Planned, IsRefused}
+use Rattle.edit_history.specs.steps.Plans.{IsPlan}
 use Rattle.edit_history.proofs.CarriedPlans.{grown_same}
 
 -- the swaps do what the rule requires
@@ -56,6 +57,15 @@ has_rule db (Err fault) ok = ok
 
 pub no_memory_ruled : (d : Slots) (edit : Edit) → IsOk (rule_of (lists_of d) edit) → IsRefused d edit OutOfMemory
 no_memory_ruled d edit ok = record { known = λ other. absurd (other refl); memory = λ _. has_rule (lists_of d) (rule_of (lists_of d) edit) ok }
+
+-- ---- the plan
+
+-- a plan whose last step fails only where memory runs out
+pub plan_of : {V : Type 0} (d e : Slots) (edit : Edit) (swaps_of : V → List SwapData) (P : V → Type 0) (r : Result V EditFault) → IfOk r P
+    → IfErr r (λ fault. fault ≡ OutOfMemory) → ((swaps : V) → P swaps → Planned d e edit (swaps_of swaps)) → IsRefused d edit OutOfMemory
+    → IsPlan d e edit swaps_of r
+plan_of d e edit swaps_of P (Ok swaps) is memory planned refused = planned swaps is
+plan_of d e edit swaps_of P (Err fault) is memory planned refused = subst (λ (f : EditFault). IsRefused d edit f) (sym memory) refused
 
 -- ---- one step of a rule
 

@@ -9,12 +9,11 @@ use Rattle.lsa_codec.specs.declared.address.RouterId.{RouterId}
 use Rattle.lsa_codec.specs.declared.key.Key.{Key}
 use Rattle.lsdb.specs.declared.section.Section.{Section}
 use Rattle.lsdb.specs.declared.slot.SlotId.{SlotId}
-use Rattle.lsdb.specs.Lists.{SectionLsas, Lists, has_key, is_section, lsas_of}
+use Rattle.lsdb.specs.Lists.{SectionLsas, Lists, has_key, lsas_of}
 use Rattle.lsdb.specs.Slots.{Slot, Slots, SectionSlots, item_at, slot_at, slot_in, full, lists_of, lsas_in, lsas_or_none, slots_in}
-use Rattle.lsdb.specs.Slots.{slots_or_none, IsFirstSlot, IsNamed, IsSlotOf}
+use Rattle.lsdb.specs.Slots.{slots_or_none, IsFirstSlot, IsSlotOf}
 use Rattle.edit_history.specs.Effect.{is_in_section}
-use Rattle.edit_history.specs.steps.Plans.{IsFirstLsa, slot_of}
-use Rattle.edit_history.proofs.NamedLsas.{same_slot}
+use Rattle.edit_history.specs.steps.Plans.{slot_of}
 
 -- ---- any and first
 
@@ -83,25 +82,6 @@ slot_there d section i p e = by_item (item_at d section) e where
   by_item : (o : Option SectionSlots) → item_at (slots_or_none o) i ≡ Some p → slot_in o i ≡ Some p
   by_item None e = absurd cc
   by_item (Some s) e = e
-
--- ---- a section by its name
-
-pub lsas_named : (d : Slots) (name : Section) (i : ℕ) → item_at (lists_of d) i ≡ find (is_section name) (lists_of d)
-    → lsas_in d i ≡ lsas_of name (lists_of d)
-lsas_named d name i same = ap lsas_or_none same
-
-pub first_named : (d : Slots) (name : Section) (test : List ℕ → Bool) (i : ℕ) (slot : SlotId) (lsa : List ℕ)
-    → item_at (lists_of d) i ≡ find (is_section name) (lists_of d) → IsSome (item_at (lists_of d) i) → slot.section ≡ i
-    → slot_at d slot ≡ Some (find test (lsas_in d i)) → slot_at d slot ≡ Some (Some lsa) → IsFirstLsa d name test slot lsa
-first_named d name test i slot lsa same some in_section at_slot held = record {
-  named = subst (IsNamed d name) (sym in_section) (record { same = same; exists = some });
-  first = ap (find test) (sym (lsas_named d name i same)) ∙ same_slot (find test (lsas_in d i)) lsa (slot_at d slot) at_slot held;
-  held = held;
-}
-
-pub none_named : (d : Slots) (name : Section) (test : List ℕ → Bool) (i : ℕ) → item_at (lists_of d) i ≡ find (is_section name) (lists_of d)
-    → find test (lsas_in d i) ≡ None → find test (lsas_of name (lists_of d)) ≡ None
-none_named d name test i same none = ap (find test) (sym (lsas_named d name i same)) ∙ none
 
 -- ---- a key
 

@@ -6,7 +6,6 @@ use Rattle.std.proofs.lemmas.Nat.{and-not, and_comm, and_le_l, pow_pos}
 use Rattle.lsa_codec.specs.LsTypes.{summary_lsa, external_lsa}
 use Rattle.lsa_codec.specs.declared.address.Addr.{Addr}
 use Rattle.lsa_codec.specs.declared.address.RouterId.{RouterId}
-use Rattle.lsa_codec.specs.declared.key.Key.{Key}
 use Rattle.lsa_codec.specs.Fields.{kind_of, link_state_id_of, advertising_router_of}
 use Rattle.lsa_codec.specs.Key.{key_of}
 use Rattle.lsa_codec.specs.Prefix.{Net, mask_of_len}

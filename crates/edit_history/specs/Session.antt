@@ -8,7 +8,7 @@ use Rattle.edit_history.specs.declared.fault.EditFault.{EditFault}
 use Rattle.edit_history.specs.declared.fault.EditFault.TheVariants.{HistoryFull}
 use Rattle.edit_history.specs.Effect.{effect, ◌>>=◌, edit_touches}
 use Rattle.edit_history.specs.Exchange.{RecordData}
-use Rattle.edit_history.specs.Journal.{HistoryData, origin}
+use Rattle.edit_history.specs.Journal.{HistoryData, Links, origin}
 
 -- the database at the start, the edits done since then, in order, and the edits undone, the next to be
 -- redone first
@@ -129,3 +129,8 @@ pub record StepsOn (s t : Session) : Type 0 where
   pub base : t.base ≡ s.base
   pub done : t.done ≡ s.done ++ edit ∷ []
   pub undone : s.undone ≡ edit ∷ t.undone
+
+-- a step of a history and its database
+pub record Turned (Steps : Session → Session → Type 0) (d e : Slots) (h k : HistoryData) : Type 0 where
+  pub linked : Links e k
+  pub session : Steps (session_of d h) (session_of e k)

@@ -12,9 +12,8 @@ ghost use Rattle.edit_script.specs.declared.edit.Edit.TheVariants.{FailLink, Fai
 ghost use Rattle.edit_history.specs.declared.fault.EditFault.TheVariants.{OutOfMemory};
 ghost use Rattle.edit_history.specs.Rules.{section_name};
 ghost use Rattle.edit_history.specs.Effect.{are_linked, link_fate, net_fate, router_fate};
-ghost use Rattle.edit_history.specs.steps.Plans.{swap_for, slot_swap, section_swaps};
+ghost use Rattle.edit_history.specs.steps.Plans.{IsPlan, swap_for, slot_swap, section_swaps};
 ghost use Rattle.edit_history.specs.steps.Failing.{fate_by, in_order, pair_swaps, shortened};
-ghost use Rattle.edit_history.specs.Applied.{Planned, IsRefused};
 
 use crate::fault::EditFault;
 use crate::lookup::{Wanted, area_section, first, has_router, router_lsa_in};
@@ -280,9 +279,8 @@ pub(crate) fn plan_fail_link<A: Allocator + Copy>(
     router: RouterId,
     neighbor: RouterId,
 ) -> Result<Vec<Swap<A>, A>, EditFault>
-    ensures planned { IfOk result
-        (λ v. Planned database.now database.now (FailLink area router neighbor) v.items) }
-    ensures refused { IfErr result (λ f. IsRefused database.now (FailLink area router neighbor) f) }
+    ensures { IsPlan database.now database.now
+        (FailLink area router neighbor) (λ v. v.items) result }
 {
     // Its invariant is needed after each swap too.
     database.assert_valid();
@@ -311,9 +309,7 @@ pub(crate) fn plan_fail_net<A: Allocator + Copy>(
     area: AreaId,
     network: Addr,
 ) -> Result<Vec<Swap<A>, A>, EditFault>
-    ensures planned { IfOk result
-        (λ v. Planned database.now database.now (FailNet area network) v.items) }
-    ensures refused { IfErr result (λ f. IsRefused database.now (FailNet area network) f) }
+    ensures { IsPlan database.now database.now (FailNet area network) (λ v. v.items) result }
 {
     // Its invariant is needed after each swap too.
     database.assert_valid();
@@ -367,9 +363,7 @@ pub(crate) fn plan_fail_router<A: Allocator + Copy>(
     database: &Database<A>,
     router: RouterId,
 ) -> Result<Vec<Swap<A>, A>, EditFault>
-    ensures planned { IfOk result
-        (λ v. Planned database.now database.now (FailRouter router) v.items) }
-    ensures refused { IfErr result (λ f. IsRefused database.now (FailRouter router) f) }
+    ensures { IsPlan database.now database.now (FailRouter router) (λ v. v.items) result }
 {
     // Its invariant is needed after each swap too.
     database.assert_valid();

@@ -33,7 +33,7 @@ impl<A: Allocator> Model for History<A> {
 impl<A: Allocator + Copy> History<A> {
     ghost use Rattle.std.specs.Prelude.{◌≡◌, ◌+◌, ◌<◌, ◌≤◌, [], ◌∷◌, ◌++◌, length, reverse, OnOk, OnErr, IsOk, ◌↔◌};
     ghost use Rattle.edit_history.specs.Journal.{Links};
-    ghost use Rattle.edit_history.specs.Session.{edits_of, session_of, moved_back, moved_on, StepsBack, StepsOn};
+    ghost use Rattle.edit_history.specs.Session.{edits_of, session_of, moved_back, moved_on, StepsBack, StepsOn, Turned};
     ghost use Rattle.lsdb.specs.Slots.{Slots};
 
     /// No edits. It takes no memory.
@@ -89,10 +89,7 @@ impl<A: Allocator + Copy> History<A> {
     fn step_back(&mut self, database: &mut Database<A>)
         requires linked { Links database.old self.old.lists }
         requires some { 0 < length self.old.lists.past }
-        ensures linked { Links database.new self.new.lists }
-        ensures session { StepsBack (session_of database.old self.old.lists)
-            (session_of database.new self.new.lists) }
-        ensures count { length self.old.lists.past ≡ length self.new.lists.past + 1 }
+        ensures { Turned StepsBack database.old database.new self.old.lists self.new.lists }
     {
         self.cursor -= 1;
         let record = &mut self.records[self.cursor];
@@ -103,42 +100,11 @@ impl<A: Allocator + Copy> History<A> {
     fn step_on(&mut self, database: &mut Database<A>)
         requires linked { Links database.old self.old.lists }
         requires some { 0 < length self.old.lists.future }
-        ensures linked { Links database.new self.new.lists }
-        ensures session { StepsOn (session_of database.old self.old.lists)
-            (session_of database.new self.new.lists) }
-        ensures count { length self.old.lists.future ≡ length self.new.lists.future + 1 }
+        ensures { Turned StepsOn database.old database.new self.old.lists self.new.lists }
     {
         let record = &mut self.records[self.cursor];
         replay(database, record);
         self.cursor += 1;
-    }
-
-    /// Takes the last `count` done edits back.
-    #[tactic(auto, using(crate::proofs::Linked::back_more, crate::proofs::Linked::back_none))]
-    fn step_back_by(&mut self, database: &mut Database<A>, count: usize)
-        requires linked { Links database.old self.old.lists }
-        requires some { count ≤ length self.old.lists.past }
-        ensures linked { Links database.new self.new.lists }
-        ensures session { session_of database.new self.new.lists
-            ≡ moved_back count (session_of database.old self.old.lists) }
-    {
-        for _step in 0..count {
-            self.step_back(database);
-        }
-    }
-
-    /// Carries the first `count` undone edits out again.
-    #[tactic(auto, using(crate::proofs::Linked::on_more, crate::proofs::Linked::on_none))]
-    fn step_on_by(&mut self, database: &mut Database<A>, count: usize)
-        requires linked { Links database.old self.old.lists }
-        requires some { count ≤ length self.old.lists.future }
-        ensures linked { Links database.new self.new.lists }
-        ensures session { session_of database.new self.new.lists
-            ≡ moved_on count (session_of database.old self.old.lists) }
-    {
-        for _step in 0..count {
-            self.step_on(database);
-        }
     }
 
     /// Takes the last `count` done edits back. It takes no memory.
@@ -149,6 +115,7 @@ impl<A: Allocator + Copy> History<A> {
     /// # Errors
     ///
     /// Exactly where fewer edits are done. Then nothing changes.
+    #[tactic(auto, using(crate::proofs::Linked::back_more, crate::proofs::Linked::back_none))]
     pub fn undo(&mut self, database: &mut Database<A>, count: usize) -> Result<(), UndoFault>
         requires { Links database.old self.old.lists }
         ensures linked { Links database.new self.new.lists }
@@ -162,7 +129,9 @@ impl<A: Allocator + Copy> History<A> {
         if count > self.done() {
             return Err(UndoFault::NothingToUndo);
         }
-        self.step_back_by(database, count);
+        for _step in 0..count {
+            self.step_back(database);
+        }
         Ok(())
     }
 
@@ -174,6 +143,7 @@ impl<A: Allocator + Copy> History<A> {
     /// # Errors
     ///
     /// Exactly where fewer edits are undone. Then nothing changes.
+    #[tactic(auto, using(crate::proofs::Linked::on_more, crate::proofs::Linked::on_none))]
     pub fn redo(&mut self, database: &mut Database<A>, count: usize) -> Result<(), RedoFault>
         requires { Links database.old self.old.lists }
         ensures linked { Links database.new self.new.lists }
@@ -187,7 +157,9 @@ impl<A: Allocator + Copy> History<A> {
         if count > self.undone() {
             return Err(RedoFault::NothingToRedo);
         }
-        self.step_on_by(database, count);
+        for _step in 0..count {
+            self.step_on(database);
+        }
         Ok(())
     }
 

@@ -1,8 +1,7 @@
 //! Edits of the links of one router-LSA.
 
-ghost use Rattle.std.specs.Prelude.{IfOk, IfErr};
 ghost use Rattle.edit_script.specs.declared.edit.Edit.TheVariants.{Cost, DropLink, AddStub};
-ghost use Rattle.edit_history.specs.Applied.{Planned, IsRefused};
+ghost use Rattle.edit_history.specs.steps.Plans.{IsPlan};
 
 use crate::fault::EditFault;
 use crate::limits::is_dump_full;
@@ -24,9 +23,8 @@ pub(crate) fn plan_cost<A: Allocator + Copy>(
     link: u16,
     metric: u16,
 ) -> Result<Vec<Swap<A>, A>, EditFault>
-    ensures planned { IfOk result
-        (λ v. Planned database.now database.now (Cost area router link metric) v.items) }
-    ensures refused { IfErr result (λ f. IsRefused database.now (Cost area router link metric) f) }
+    ensures { IsPlan database.now database.now
+        (Cost area router link metric) (λ v. v.items) result }
 {
     // Its invariant is needed after each swap too.
     database.assert_valid();
@@ -43,9 +41,7 @@ pub(crate) fn plan_drop_link<A: Allocator + Copy>(
     router: RouterId,
     link: u16,
 ) -> Result<Vec<Swap<A>, A>, EditFault>
-    ensures planned { IfOk result
-        (λ v. Planned database.now database.now (DropLink area router link) v.items) }
-    ensures refused { IfErr result (λ f. IsRefused database.now (DropLink area router link) f) }
+    ensures { IsPlan database.now database.now (DropLink area router link) (λ v. v.items) result }
 {
     // Its invariant is needed after each swap too.
     database.assert_valid();
@@ -63,10 +59,8 @@ pub(crate) fn plan_add_stub<A: Allocator + Copy>(
     prefix: Prefix,
     metric: u16,
 ) -> Result<Vec<Swap<A>, A>, EditFault>
-    ensures planned { IfOk result
-        (λ v. Planned database.now database.now (AddStub area router prefix metric) v.items) }
-    ensures refused { IfErr result
-        (λ f. IsRefused database.now (AddStub area router prefix metric) f) }
+    ensures { IsPlan database.now database.now
+        (AddStub area router prefix metric) (λ v. v.items) result }
 {
     // Its invariant is needed after each swap too.
     database.assert_valid();

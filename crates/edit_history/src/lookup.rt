@@ -2,15 +2,17 @@
 
 ghost use Rattle.std.specs.Prelude.{◌≡◌, true, Some, None, Err, IsSome, MatchOption, IfSome, IfOk, IfErr};
 ghost use Rattle.std.specs.List.{find, list_any};
+ghost use Rattle.lsa_codec.specs.Fields.{kind_of};
 ghost use Rattle.lsa_codec.specs.Key.{router_key};
+ghost use Rattle.lsa_codec.specs.LsTypes as ls_types;
 ghost use Rattle.lsdb.specs.declared.section.Section.TheVariants.{Area};
 ghost use Rattle.lsdb.specs.KeyRanges.{HaveKeysBetween};
 ghost use Rattle.lsdb.specs.Lists.{is_section, has_key, lsas_of};
-ghost use Rattle.lsdb.specs.Slots.{item_at, slot_at, lists_of, lsas_in, IsFirstSlot, IsNamed};
+ghost use Rattle.lsdb.specs.Slots.{item_at, slot_at, lists_of, lsas_in, IsNamed};
 ghost use Rattle.lsdb.specs.PrefixSlots.{prefix_of};
 ghost use Rattle.edit_history.specs.declared.fault.EditFault.TheVariants.{NoArea, NoRouter};
 ghost use Rattle.edit_history.specs.Effect.{router_lsa_of, has_router, is_prefix, is_originated_for};
-ghost use Rattle.edit_history.specs.steps.Plans.{IsFirstLsa, is_wanted, passes};
+ghost use Rattle.edit_history.specs.steps.Plans.{IsFirstLsa, IsSlotOfFirst, is_wanted, passes};
 ghost use Rattle.edit_history.specs.steps.Searching.{AreOriginatedFor, is_wanted_by_key, last_addr_of, lesser, may_have};
 
 use crate::fault::EditFault;
@@ -160,6 +162,7 @@ pub(crate) fn router_lsa_in<A: Allocator + Copy>(
     ensures found { IfOk result
         (λ found. IsFirstLsa database.now (Area area) (has_key (router_key router))
         found.0 found.1.now) }
+    ensures kind { IfOk result (λ found. kind_of found.1.now ≡ ls_types.router_lsa) }
     ensures refused { IfErr result (λ fault. fault ≡ NoRouter) }
     ensures absent { IfErr result
         (λ _. find (has_key (router_key router)) (lsas_of (Area area) (lists_of database.now))
@@ -183,6 +186,7 @@ pub(crate) fn router_lsa<A: Allocator + Copy>(
     ensures found { IfOk result
         (λ found. IsFirstLsa database.now (Area area) (has_key (router_key router))
         found.0 found.1.now) }
+    ensures kind { IfOk result (λ found. kind_of found.1.now ≡ ls_types.router_lsa) }
     ensures refused { IfErr result
         (λ fault. router_lsa_of (lists_of database.now) area router ≡ Err fault) }
 {
@@ -259,8 +263,7 @@ fn first_by_keys<A: Allocator + Copy>(
     wanted: &Wanted,
 ) -> Option<SlotId>
     requires { IsSome (item_at database.now section) }
-    ensures { MatchOption result (find (is_wanted wanted.now) (lsas_in database.now section) ≡ None)
-        (IsFirstSlot database.now section (is_wanted wanted.now)) }
+    ensures { IsSlotOfFirst database.now section (is_wanted wanted.now) result }
 {
     let (least, greatest) = wanted.key_range();
     let mut first = None;
@@ -286,8 +289,7 @@ fn first_of_prefix<A: Allocator + Copy>(
 ) -> Option<SlotId>
     requires exists { IsSome (item_at database.now section) }
     requires own { AreOriginatedFor router prefix (is_wanted wanted.now) }
-    ensures { MatchOption result (find (is_wanted wanted.now) (lsas_in database.now section) ≡ None)
-        (IsFirstSlot database.now section (is_wanted wanted.now)) }
+    ensures { IsSlotOfFirst database.now section (is_wanted wanted.now) result }
 {
     for entry in database.slots_of_prefix(section, router, prefix) {
         let slot = SlotId {
@@ -328,8 +330,7 @@ fn first_in<A: Allocator + Copy>(
     wanted: &Wanted,
 ) -> Option<SlotId>
     requires { IsSome (item_at database.now section) }
-    ensures { MatchOption result (find (is_wanted wanted.now) (lsas_in database.now section) ≡ None)
-        (IsFirstSlot database.now section (is_wanted wanted.now)) }
+    ensures { IsSlotOfFirst database.now section (is_wanted wanted.now) result }
 {
     let Some((router, prefix)) = wanted.origin() else {
         return first_by_keys(database, section, wanted);

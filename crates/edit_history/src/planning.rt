@@ -1,8 +1,8 @@
 //! The swaps of an edit, planned before any is done. A plan takes all the memory that the edit
 //! needs and opens the slots that it fills, so that a refusal leaves everything as it was.
 
-ghost use Rattle.std.specs.Prelude.{◌≡◌, IfOk, IfErr, OnErr};
-ghost use Rattle.edit_history.specs.Applied.{Planned, IsRefused};
+ghost use Rattle.std.specs.Prelude.{◌≡◌, OnErr};
+ghost use Rattle.edit_history.specs.steps.Plans.{IsPlan};
 
 use crate::failures::{plan_fail_link, plan_fail_net, plan_fail_router};
 use crate::fault::EditFault;
@@ -19,8 +19,7 @@ pub(crate) fn plan<A: Allocator + Copy>(
     database: &mut Database<A>,
     edit: &Edit,
 ) -> Result<Vec<Swap<A>, A>, EditFault>
-    ensures planned { IfOk result (λ v. Planned database.old database.new edit.now v.items) }
-    ensures refused { IfErr result (λ f. IsRefused database.old edit.now f) }
+    ensures plan { IsPlan database.old database.new edit.now (λ v. v.items) result }
     ensures kept { OnErr result (database.new ≡ database.old) }
 {
     match *edit {

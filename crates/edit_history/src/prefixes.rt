@@ -6,8 +6,7 @@ ghost use Rattle.lsdb.specs.Slots.{item_at, head_or_none};
 ghost use Rattle.edit_script.specs.declared.edit.Edit.TheVariants.{Summary, AddSummary, AddExternal, DropExternal};
 ghost use Rattle.edit_history.specs.declared.fault.EditFault.TheVariants.{OutOfMemory};
 ghost use Rattle.edit_history.specs.Effect.{options_in, is_type2};
-ghost use Rattle.edit_history.specs.steps.Plans.{Opens};
-ghost use Rattle.edit_history.specs.Applied.{Planned, IsRefused};
+ghost use Rattle.edit_history.specs.steps.Plans.{IsPlan, Opens};
 
 use crate::fault::EditFault;
 use crate::limits::check_room;
@@ -32,10 +31,8 @@ pub(crate) fn plan_summary<A: Allocator + Copy>(
     prefix: Prefix,
     metric: Metric,
 ) -> Result<Vec<Swap<A>, A>, EditFault>
-    ensures planned { IfOk result
-        (λ v. Planned database.now database.now (Summary area router prefix metric) v.items) }
-    ensures refused { IfErr result
-        (λ f. IsRefused database.now (Summary area router prefix metric) f) }
+    ensures { IsPlan database.now database.now
+        (Summary area router prefix metric) (λ v. v.items) result }
 {
     // Its invariant is needed after each swap too.
     database.assert_valid();
@@ -55,9 +52,7 @@ pub(crate) fn plan_drop_external<A: Allocator + Copy>(
     router: RouterId,
     prefix: Prefix,
 ) -> Result<Vec<Swap<A>, A>, EditFault>
-    ensures planned { IfOk result
-        (λ v. Planned database.now database.now (DropExternal router prefix) v.items) }
-    ensures refused { IfErr result (λ f. IsRefused database.now (DropExternal router prefix) f) }
+    ensures { IsPlan database.now database.now (DropExternal router prefix) (λ v. v.items) result }
 {
     // Its invariant is needed after each swap too.
     database.assert_valid();
@@ -124,10 +119,8 @@ pub(crate) fn plan_add_summary<A: Allocator + Copy>(
     prefix: Prefix,
     metric: Metric,
 ) -> Result<Vec<Swap<A>, A>, EditFault>
-    ensures planned { IfOk result
-        (λ v. Planned database.old database.new (AddSummary area router prefix metric) v.items) }
-    ensures refused { IfErr result
-        (λ f. IsRefused database.old (AddSummary area router prefix metric) f) }
+    ensures plan { IsPlan database.old database.new
+        (AddSummary area router prefix metric) (λ v. v.items) result }
     ensures kept { OnErr result (database.new ≡ database.old) }
 {
     // Its invariant is needed after each swap too.
@@ -159,11 +152,8 @@ pub(crate) fn plan_add_external<A: Allocator + Copy>(
     forward: Addr,
     tag: u32,
 ) -> Result<Vec<Swap<A>, A>, EditFault>
-    ensures planned { IfOk result
-        (λ v. Planned database.old database.new
-        (AddExternal router prefix metric_type metric forward tag) v.items) }
-    ensures refused { IfErr result
-        (λ f. IsRefused database.old (AddExternal router prefix metric_type metric forward tag) f) }
+    ensures plan { IsPlan database.old database.new
+        (AddExternal router prefix metric_type metric forward tag) (λ v. v.items) result }
     ensures kept { OnErr result (database.new ≡ database.old) }
 {
     // Its invariant is needed after each swap too.

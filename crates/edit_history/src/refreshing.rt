@@ -12,9 +12,8 @@ ghost use Rattle.edit_history.specs.declared.fault.EditFault.TheVariants.{OutOfM
 ghost use Rattle.edit_history.specs.Rules.{section_name};
 ghost use Rattle.edit_history.specs.Refreshing.{metric_fate, pass_fates};
 ghost use Rattle.edit_history.specs.Exchange.{CanDo, done_slots};
-ghost use Rattle.edit_history.specs.steps.Plans.{slot_swap, section_swaps, swaps_from};
+ghost use Rattle.edit_history.specs.steps.Plans.{IsPlan, slot_swap, section_swaps, swaps_from};
 ghost use Rattle.edit_history.specs.steps.Passing.{chosen};
-ghost use Rattle.edit_history.specs.Applied.{Planned, IsRefused};
 
 use crate::fault::EditFault;
 use crate::swap::{Swap, do_swaps, undo_swaps};
@@ -179,9 +178,7 @@ fn other_swaps<A: Allocator + Copy>(
 pub(crate) fn plan_refresh<A: Allocator + Copy>(
     database: &mut Database<A>,
 ) -> Result<Vec<Swap<A>, A>, EditFault>
-    ensures planned { IfOk result
-        (λ v. Planned database.old database.new Refresh v.items) }
-    ensures refused { IfErr result (λ f. IsRefused database.old Refresh f) }
+    ensures plan { IsPlan database.old database.new Refresh (λ v. v.items) result }
     ensures kept { OnErr result (database.new ≡ database.old) }
 {
     // Its invariant is needed after each swap too.

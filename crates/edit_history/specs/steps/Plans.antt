@@ -1,22 +1,36 @@
 -- What a plan finds before anything is exchanged, and the swaps that carry fates out.
-use Rattle.std.specs.Prelude.{◌≡◌, ℕ, suc, Bool, false, List, [], ◌∷◌, ◌++◌, Option, Some, None}
+use Rattle.std.specs.Prelude.{◌≡◌, ℕ, suc, Bool, false, List, [], ◌∷◌, ◌++◌, Option, Some, None, MatchOption, Result, Ok, Err}
 use Rattle.std.specs.List.{find, cons_option}
 use Rattle.lsa_codec.specs.Fields.{kind_of}
 use Rattle.lsdb.specs.declared.section.Section.{Section}
 use Rattle.lsdb.specs.declared.slot.SlotId.{SlotId}
 use Rattle.lsdb.specs.Lists.{lsas_of, is_network}
-use Rattle.lsdb.specs.Slots.{Slot, Slots, slot_at, lists_of, IsNamed, OpensSlot}
+use Rattle.lsdb.specs.Slots.{Slot, Slots, slot_at, lists_of, lsas_in, IsFirstSlot, IsNamed, OpensSlot}
+use Rattle.edit_script.specs.declared.edit.Edit.{Edit}
+use Rattle.edit_history.specs.declared.fault.EditFault.{EditFault}
 use Rattle.edit_history.specs.declared.lookup.Wanted.{Wanted}
 use Rattle.edit_history.specs.declared.lookup.Wanted.TheVariants as wanted
 use Rattle.edit_history.specs.Rules.{Fate, stays, removed, rewritten, Fates, section_name}
 use Rattle.edit_history.specs.Effect.{is_originated_for}
 use Rattle.edit_history.specs.Exchange.{SwapData}
+use Rattle.edit_history.specs.Applied.{Planned, IsRefused}
+
+-- the swaps of an edit, or its refusal
+abbrev pub IsPlan : {V : Type 0} → Slots → Slots → Edit → (V → List SwapData) → Result V EditFault → Type 0
+IsPlan d e edit swaps_of (Ok swaps) = Planned d e edit (swaps_of swaps)
+IsPlan d e edit swaps_of (Err fault) = IsRefused d edit fault
+
+-- ---- LSAs that are looked up
 
 -- the first LSA of a section that passes a test, and its slot
 pub record IsFirstLsa (d : Slots) (name : Section) (test : List ℕ → Bool) (slot : SlotId) (lsa : List ℕ) : Type 0 where
   pub named : IsNamed d name slot.section
   pub first : find test (lsas_of name (lists_of d)) ≡ Some lsa
   pub held : slot_at d slot ≡ Some (Some lsa)
+
+-- the slot of the first LSA of a section that passes a test, by the section's number; none where no LSA passes
+abbrev pub IsSlotOfFirst : Slots → ℕ → (List ℕ → Bool) → Option SlotId → Type 0
+IsSlotOfFirst d section test found = MatchOption found (find test (lsas_in d section) ≡ None) (IsFirstSlot d section test)
 
 -- the test for an LSA that is looked up by more than its key
 abbrev pub is_wanted : Wanted → List ℕ → Bool

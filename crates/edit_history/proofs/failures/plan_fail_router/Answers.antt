@@ -12,8 +12,8 @@ use Rattle.edit_history.proofs.FailureFates.{router_carried_out, section_turn, s
 use Rattle.edit_history.proofs.FailureRules.{router_none, router_ruled}
 use Rattle.edit_history.proofs.failures.plan_fail_router.Goals as goal
 
-pub returns-then-not-has_router-clause-refused : goal.returns-then-not-has_router-clause-refused
-returns-then-not-has_router-clause-refused g c =
+pub returns-then-not-has_router : goal.returns-then-not-has_router
+returns-then-not-has_router g c =
     let none : c.has_router.result ≡ false = search rules in
     router_none c.args.database.now c.args.router (sym c.has_router.ensures ∙ none)
 
@@ -25,16 +25,16 @@ loop-number-preserved g c =
     section_turn (λ head. router_fate c.args.router) c.args.database.now c.loop-number.number (c.loop-number.number + 1) _ _ _ _
     (omega arith) (omega arith) refl c.in_ok-add_swaps_of_router.ensures.swaps c.loop-number.invariant
 
-pub returns-in_err-add_swaps_of_router-clause-refused : goal.returns-in_err-add_swaps_of_router-clause-refused
-returns-in_err-add_swaps_of_router-clause-refused g c =
+pub returns-in_err-add_swaps_of_router : goal.returns-in_err-add_swaps_of_router
+returns-in_err-add_swaps_of_router g c =
     let gave = err_from_is_err_and c.from_residual.result c.from_residual.ensures.1 in
     let there : c.has_router.result ≡ true = search rules in
     rw (gave.1, gave.2) (subst (λ (e : EditFault). IsRefused c.args.database.now (FailRouter c.args.router) e) (sym c.in_err-add_swaps_of_router.ensures.memory)
     (no_memory c.args.database.now (FailRouter c.args.router) _
     (router_ruled c.args.database.now c.args.router (sym c.has_router.ensures ∙ there))))
 
-pub returns-clause-planned : goal.returns-clause-planned
-returns-clause-planned g c =
+pub returns : goal.returns
+returns g c =
     let there : c.has_router.result ≡ true = search rules in
     planned_here c.args.database.now (FailRouter c.args.router) (by_fates (λ head. router_fate c.args.router))
     (swaps_from (λ head. router_fate c.args.router) 0 c.args.database.now) c.loop-number.swaps.items

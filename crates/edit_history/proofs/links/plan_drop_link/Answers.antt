@@ -1,41 +1,31 @@
 use Rattle.std.proofs.lemmas.Result.{err_from_is_err_and}
-use Rattle.lsa_codec.specs.Key.{router_key}
 use Rattle.lsa_codec.specs.Making.{without_link}
-use Rattle.lsdb.specs.declared.section.Section.TheVariants.{Area}
 use Rattle.edit_script.specs.declared.edit.Edit.TheVariants.{DropLink}
-use Rattle.edit_history.proofs.NamedLsas.{kind_is}
 use Rattle.edit_history.proofs.LinkEdits.{drop_link_remakes, no_router_lsa, not_made, no_swap, planned}
 use Rattle.edit_history.proofs.links.plan_drop_link.Goals as goal
 
-pub returns-in_err-slot-clause-refused : goal.returns-in_err-slot-clause-refused
-returns-in_err-slot-clause-refused g c =
+pub returns-in_err-slot : goal.returns-in_err-slot
+returns-in_err-slot g c =
     let gave = err_from_is_err_and c.from_residual.result c.from_residual.ensures.1 in
     rw (gave.1, gave.2) (no_router_lsa c.args.database.now (DropLink c.args.area c.args.router c.args.link) c.args.area c.args.router
     (without_link c.args.link) c.in_err-slot.field-0.0 (drop_link_remakes c.args.area c.args.router c.args.link) c.in_err-slot.ensures.refused)
 
-pub without_link-requires : goal.without_link-requires
-without_link-requires g c =
-    record {
-      router = kind_is c.args.database.now (Area c.args.area)
-          (router_key c.args.router) c.in_ok-slot.slot c.in_ok-slot.lsa.now c.in_ok-slot.ensures.found;
-    }
-
-pub returns-in_err-new-clause-refused : goal.returns-in_err-new-clause-refused
-returns-in_err-new-clause-refused g c =
+pub returns-in_err-new : goal.returns-in_err-new
+returns-in_err-new g c =
     let gave = err_from_is_err_and c.from_residual-in_err-new.result c.from_residual-in_err-new.ensures.1 in
     rw (gave.1, gave.2) (not_made c.args.database.now (DropLink c.args.area c.args.router c.args.link) c.args.area c.args.router
     (without_link c.args.link) c.in_ok-slot.slot c.in_ok-slot.lsa.now c.in_err-new.field-0.0
     (drop_link_remakes c.args.area c.args.router c.args.link) c.in_ok-slot.ensures.found c.in_err-new.ensures.fault)
 
-pub returns-in_err-one_swap-clause-refused : goal.returns-in_err-one_swap-clause-refused
-returns-in_err-one_swap-clause-refused g c =
+pub returns-in_err-one_swap : goal.returns-in_err-one_swap
+returns-in_err-one_swap g c =
     let gave = err_from_is_err_and c.from_residual-in_err-one_swap.result c.from_residual-in_err-one_swap.ensures.1 in
     rw (gave.1, gave.2) (no_swap c.args.database.now (DropLink c.args.area c.args.router c.args.link) c.args.area c.args.router
     (without_link c.args.link) c.in_ok-slot.slot c.in_ok-slot.lsa.now c.in_ok-new.new
     (drop_link_remakes c.args.area c.args.router c.args.link) c.in_ok-slot.ensures.found c.in_ok-new.ensures.made)
 
-pub returns-clause-planned : goal.returns-clause-planned
-returns-clause-planned g c =
+pub returns : goal.returns
+returns g c =
     planned c.args.database.now (DropLink c.args.area c.args.router c.args.link) c.args.area c.args.router
     (without_link c.args.link) c.in_ok-slot.slot c.in_ok-slot.lsa.now c.in_ok-new.new c.new-swap.result c.in_ok-one_swap.field-0.items
     c.assert_valid.ensures (drop_link_remakes c.args.area c.args.router c.args.link) c.in_ok-slot.ensures.found

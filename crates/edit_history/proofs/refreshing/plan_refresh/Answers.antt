@@ -10,8 +10,8 @@ use Rattle.edit_history.proofs.RefreshPasses.{first_leads}
 use Rattle.edit_history.proofs.Refreshes.{first_can, refresh_planned, refresh_memory, written_back}
 use Rattle.edit_history.proofs.refreshing.plan_refresh.Goals as goal
 
-pub returns-in_err-swaps-clause-refused : goal.returns-in_err-swaps-clause-refused
-returns-in_err-swaps-clause-refused g c =
+pub returns-in_err-swaps-clause-plan : goal.returns-in_err-swaps-clause-plan
+returns-in_err-swaps-clause-plan g c =
     let gave = err_from_is_err_and c.from_residual.result c.from_residual.ensures.1 in
     rw (gave.1, gave.2) (refresh_memory c.args.database.now c.in_err-swaps.field-0.0 c.in_err-swaps.ensures.memory)
 
@@ -28,18 +28,18 @@ pub other_swaps-requires-clause-can : goal.other_swaps-requires-clause-can
 other_swaps-requires-clause-can g c =
     first_can c.args.database.now c.deref_mut.result.now c.assert_valid.ensures (c.deref_mut.ensures.value ∙ c.in_ok-swaps.ensures.swaps)
 
-pub returns-in_err-others-clause-refused : goal.returns-in_err-others-clause-refused
-returns-in_err-others-clause-refused g c =
+pub returns-in_err-others-clause-plan : goal.returns-in_err-others-clause-plan
+returns-in_err-others-clause-plan g c =
     let gave = err_from_is_err_and c.from_residual-in_err-others.result c.from_residual-in_err-others.ensures.1 in
     rw (gave.1, gave.2) (refresh_memory c.args.database.now c.in_err-others.field-0.0 c.in_err-others.ensures.memory)
 
-pub returns-in_err-append-clause-refused : goal.returns-in_err-append-clause-refused
-returns-in_err-append-clause-refused g c =
+pub returns-in_err-append-clause-plan : goal.returns-in_err-append-clause-plan
+returns-in_err-append-clause-plan g c =
     let gave = err_from_is_err_and c.from_residual-in_err-append.result c.from_residual-in_err-append.ensures.1 in
     rw (gave.1, gave.2) (refresh_memory c.args.database.now _ refl)
 
-pub returns-clause-planned : goal.returns-clause-planned
-returns-clause-planned g c =
+pub returns-clause-plan : goal.returns-clause-plan
+returns-clause-plan g c =
     let one_is = c.deref_mut.ensures.value ∙ c.in_ok-swaps.ensures.swaps in
     subst (λ (e : Slots). Planned c.args.database.now e Refresh c.append.new.self.items) (sym c.other_swaps.ensures.database)
     (refresh_planned c.args.database.now (done_slots c.args.database.now c.deref_mut.result.now) c.deref_mut.result.now c.in_ok-others.others.items

@@ -1,7 +1,7 @@
 use Rattle.std.proofs.Common.{◌≡◌, ◌+◌, length}
 use Rattle.edit_history.specs.Journal.{Links}
 use Rattle.edit_history.specs.Session.{session_of, moved_back}
-use Rattle.edit_history.proofs.history.History.step_back_by.Given as goal
+use Rattle.edit_history.proofs.history.History.undo.Given as goal
 
 abbrev pub invariant-loop-step : goal.invariant-loop-step
 invariant-loop-step g l = record {
