@@ -57,7 +57,7 @@ module _ (request : Request) (moved : Moved) (s t : Session) (step : IsStep requ
     })
 
     pub carries_out : {T F : Type 0} (v : T) → routers_of new.trees ≡ less_touched (λ area. moved_touches moved area t) (routers_of old.trees)
-        → IsReached t → new.table ≡ None → CarriesOut {T} {F} request (Ok v) p (shown t runs new baseline asked)
+        → IsReached t → new.table ≡ None → CarriesOut {T = T} {F = F} request (Ok v) p (shown t runs new baseline asked)
     carries_out v kept reached none =
         record { ok = carried_out kept reached none; err = tt; runs = ap (λ (q : PlannerValue). q.runs) shows }
 

@@ -2,7 +2,7 @@
 
 ghost use Rattle.std.specs.Prelude.{◌≡◌, ◌+◌, ◌≤◌, length, IfOk, OnOk};
 ghost use Rattle.edit_history.specs.Session.{start};
-ghost use Rattle.saved_sessions.specs.Opening.{position_after, edit_at, history_at, line_at, line_fault, lines_from};
+ghost use Rattle.saved_sessions.specs.Opening.{position_after, edit_at, has_line_feed, history_at, line_at, line_fault, lines_from};
 ghost use Rattle.saved_sessions.specs.steps.Reading.{CarriesOn, Gives};
 
 use crate::laws::line_laws;
@@ -14,11 +14,18 @@ use lsdb::{DumpFault, DumpFaultKind};
 use recalculate::Planner;
 use std::alloc::{AllocError, Allocator};
 
+/// Whether a line feed is among bytes.
+fn has_line_feed(bytes: &[u8]) -> bool
+    ensures { result ≡ has_line_feed bytes.now }
+{
+    bytes.iter().any(|byte| *byte == b'\n')
+}
+
 /// What is wrong with a line that is no line of an edit.
 fn line_fault(line: u16, bytes: &[u8]) -> DumpFaultKind
     ensures { result ≡ line_fault line bytes.now }
 {
-    if bytes.iter().any(|byte| *byte == b'\n') {
+    if has_line_feed(bytes) {
         DumpFaultKind::BadHistory(line)
     } else {
         DumpFaultKind::Truncated

@@ -1,11 +1,18 @@
 //! One line of an edit.
 
-ghost use Rattle.std.specs.Prelude.{◌≡◌, ◌++◌, IfOk, OnOk};
+ghost use Rattle.std.specs.Prelude.{◌≡◌, ◌==◌, ◌++◌, position, IfOk, OnOk};
 ghost use Rattle.edit_script.specs.Spelling.{spelling, IsEditInRange};
-ghost use Rattle.saved_sessions.specs.Lines.{line_of, edit_spelled, edit_line};
+ghost use Rattle.saved_sessions.specs.Lines.{line_feed, line_of, edit_spelled, edit_line};
 
 use edit_script::{Command, Edit, edits_are_in_range, parse, print};
 use std::alloc::{AllocError, Allocator};
+
+/// The index of the first line feed.
+fn first_line_feed(bytes: &[u8]) -> Option<usize>
+    ensures { result ≡ position (λ b. b == line_feed) bytes.now }
+{
+    bytes.iter().position(|byte| *byte == b'\n')
+}
 
 /// The edit that a line spells, as it is printed and no other way.
 fn edit_spelled<A: Allocator + Copy>(alloc: A, line: &[u8]) -> Result<Option<Edit>, AllocError>
@@ -36,7 +43,7 @@ pub fn edit_line<A: Allocator + Copy>(
 ) -> Result<Option<(Edit, usize)>, AllocError>
     ensures { IfOk result (λ found. found ≡ edit_line bytes.now) }
 {
-    let Some(end) = bytes.iter().position(|byte| *byte == b'\n') else {
+    let Some(end) = first_line_feed(bytes) else {
         return Ok(None);
     };
     match edit_spelled(alloc, &bytes[..end])? {
