@@ -14,7 +14,7 @@ use Rattle.frr_text.specs.declared.router.LinkType.{LinkType}
 use Rattle.frr_text.specs.declared.router.LinkType.TheVariants as links
 use Rattle.frr_text.specs.declared.summary.Summary.{Summary}
 use Rattle.frr_text.specs.Words.{Word, words}
-use Rattle.frr_text.specs.Rules.{Rule, or_else, first_of_all, times}
+use Rattle.frr_text.specs.Rules.{Rule, first_of_all, times}
 use Rattle.text_words.specs.Numbers.{number_up_to}
 use Rattle.text_words.specs.Addresses.{address_of}
 use Rattle.frr_text.specs.Numbers.{mask_length}
@@ -28,6 +28,7 @@ use Rattle.std.proofs.lemmas.List.Elements.{All-head, All-tail}
 use Rattle.text_words.proofs.NumberLemmas.{number_again}
 use Rattle.text_words.proofs.AddressLemmas.{address_again}
 use Rattle.frr_text.proofs.PrintedNumbers.{mask_again}
+use Rattle.frr_text.proofs.Reading.{front_first, others_first}
 use Rattle.frr_text.proofs.PrintedLabels.{label_again, value_again}
 use Rattle.frr_text.proofs.PrintedFields.{after_four, after_five}
 
@@ -74,73 +75,32 @@ other_link : (link_type : LinkType) (text : List Word) → after_label (link_lab
 unfolding link_as
 other_link link_type text h = simp h
 
-transit_no_router : (text : List Word) → after_label label.ToRouter (label_words label.ToTransit ++ text) ≡ None
-unfolding after_label after_words words text_of
-transit_no_router text = refl
-
-stub_no_router : (text : List Word) → after_label label.ToRouter (label_words label.ToStub ++ text) ≡ None
-unfolding after_label after_words words text_of
-stub_no_router text = refl
-
-stub_no_transit : (text : List Word) → after_label label.ToTransit (label_words label.ToStub ++ text) ≡ None
-unfolding after_label after_words words text_of
-stub_no_transit text = refl
-
-virtual_no_router : (text : List Word) → after_label label.ToRouter (label_words label.ToVirtual ++ text) ≡ None
-unfolding after_label after_words words text_of
-virtual_no_router text = refl
-
-virtual_no_transit : (text : List Word) → after_label label.ToTransit (label_words label.ToVirtual ++ text) ≡ None
-unfolding after_label after_words words text_of
-virtual_no_transit text = refl
-
-virtual_no_stub : (text : List Word) → after_label label.ToStub (label_words label.ToVirtual ++ text) ≡ None
-unfolding after_label after_words words text_of
-virtual_no_stub text = refl
-
-passed : (link_type : LinkType) (others : List LinkType) (text : List Word) → link_as link_type text ≡ None
+passed : (link_type : LinkType) (others : List LinkType) (text : List Word) → after_label (link_label link_type) text ≡ None
     → first_of_all link_as (link_type ∷ others) text ≡ first_of_all link_as others text
-unfolding first_of_all
-passed link_type others text h = ap (λ (x : Option (Link × List Word)). or_else x (first_of_all link_as others text)) h
+passed link_type others text h = others_first link_as link_type others text (other_link link_type text h)
 
 found : (link : Link) (others : List LinkType) (rest : List Word) → LinkFits link
     → first_of_all link_as (link.link_type ∷ others) (link_before link rest) ≡ Some (link, rest)
-unfolding first_of_all
-found link others rest h =
-    ap (λ (x : Option (Link × List Word)). or_else x (first_of_all link_as others (link_before link rest))) (whole_link link rest h)
-
-abbrev after_type : Link → List Word → List Word
-after_type link rest =
-    said (link_id_label link.link_type) (address_text link.id)
-    ++ (said (data_label link.link_type) (address_text link.link_data) ++ (said label.LinkMetric (decimal link.metric) ++ rest))
+found link others rest h = front_first link_as link.link_type others (link_before link rest) (link, rest) (whole_link link rest h)
 
 abbrev made : LinkType → ℕ → ℕ → ℕ → Link
 made link_type id link_data metric = record { link_type = link_type; id = id; link_data = link_data; metric = metric }
 
 of_type : (link_type : LinkType) (id link_data metric : ℕ) (rest : List Word) → LinkFits (made link_type id link_data metric)
     → link_in (link_before (made link_type id link_data metric) rest) ≡ Some (made link_type id link_data metric, rest)
+unfolding after_label after_words words text_of
 of_type links.PointToPoint id link_data metric rest h = found (made links.PointToPoint id link_data metric) _ rest h
 of_type links.Transit id link_data metric rest h =
     let link = made links.Transit id link_data metric in
-    passed links.PointToPoint _ (link_before link rest)
-    (other_link links.PointToPoint (link_before link rest) (transit_no_router (after_type link rest)))
-    ∙ found link _ rest h
+    passed links.PointToPoint _ (link_before link rest) refl ∙ found link _ rest h
 of_type links.Stub id link_data metric rest h =
     let link = made links.Stub id link_data metric in
-    passed links.PointToPoint _ (link_before link rest)
-    (other_link links.PointToPoint (link_before link rest) (stub_no_router (after_type link rest)))
-    ∙ passed links.Transit _ (link_before link rest)
-    (other_link links.Transit (link_before link rest) (stub_no_transit (after_type link rest)))
-    ∙ found link _ rest h
+    let text = link_before link rest in
+    passed links.PointToPoint _ text refl ∙ passed links.Transit _ text refl ∙ found link _ rest h
 of_type links.Virtual id link_data metric rest h =
     let link = made links.Virtual id link_data metric in
-    passed links.PointToPoint _ (link_before link rest)
-    (other_link links.PointToPoint (link_before link rest) (virtual_no_router (after_type link rest)))
-    ∙ passed links.Transit _ (link_before link rest)
-    (other_link links.Transit (link_before link rest) (virtual_no_transit (after_type link rest)))
-    ∙ passed links.Stub _ (link_before link rest)
-    (other_link links.Stub (link_before link rest) (virtual_no_stub (after_type link rest)))
-    ∙ found link _ rest h
+    let text = link_before link rest in
+    passed links.PointToPoint _ text refl ∙ passed links.Transit _ text refl ∙ passed links.Stub _ text refl ∙ found link _ rest h
 
 link_again : (link : Link) → LinkFits link → IsReadFrom link_in link_words link
 link_again link h rest =

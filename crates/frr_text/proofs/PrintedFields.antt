@@ -11,7 +11,7 @@ use Rattle.frr_text.specs.declared.label.Label.TheVariants as label
 use Rattle.frr_text.specs.declared.ls_type.LsType.{LsType}
 use Rattle.frr_text.specs.declared.ls_type.LsType.TheVariants as types
 use Rattle.frr_text.specs.Words.{Word, words}
-use Rattle.frr_text.specs.Rules.{◌>>=◌, or_else, first_of_all}
+use Rattle.frr_text.specs.Rules.{◌>>=◌, first_of_all}
 use Rattle.text_words.specs.Numbers.{number_up_to, hex_up_to}
 use Rattle.text_words.specs.Addresses.{address_of}
 use Rattle.frr_text.specs.Numbers.{marked_up_to}
@@ -22,6 +22,7 @@ use Rattle.frr_text.specs.Printing.{printed_hex, printed_byte, label_words, said
 use Rattle.text_words.proofs.NumberLemmas.{number_again}
 use Rattle.text_words.proofs.AddressLemmas.{address_again}
 use Rattle.frr_text.proofs.PrintedNumbers.{hex_again, marked_again, byte_again}
+use Rattle.frr_text.proofs.Reading.{front_first, others_first}
 use Rattle.frr_text.proofs.PrintedLabels.{label_again, word_again, value_again}
 
 -- ---- texts one after another
@@ -158,31 +159,6 @@ other_type : (ls_type : LsType) (text : List Word) → after_label (type_label l
 unfolding name_as
 other_type ls_type text h = simp h
 
--- a label that is not the printed one
-network_no_router : (text : List Word) → after_label label.RouterLsa (label_words label.NetworkLsa ++ text) ≡ None
-unfolding after_label after_words words text_of
-network_no_router text = refl
-
-summary_no_router : (text : List Word) → after_label label.RouterLsa (label_words label.SummaryLsa ++ text) ≡ None
-unfolding after_label after_words words text_of
-summary_no_router text = refl
-
-summary_no_network : (text : List Word) → after_label label.NetworkLsa (label_words label.SummaryLsa ++ text) ≡ None
-unfolding after_label after_words words text_of
-summary_no_network text = refl
-
-external_no_router : (text : List Word) → after_label label.RouterLsa (label_words label.ExternalLsa ++ text) ≡ None
-unfolding after_label after_words words text_of
-external_no_router text = refl
-
-external_no_network : (text : List Word) → after_label label.NetworkLsa (label_words label.ExternalLsa ++ text) ≡ None
-unfolding after_label after_words words text_of
-external_no_network text = refl
-
-external_no_summary : (text : List Word) → after_label label.SummaryLsa (label_words label.ExternalLsa ++ text) ≡ None
-unfolding after_label after_words words text_of
-external_no_summary text = refl
-
 router_no_network_number : (text : List Word) → after_label label.SummaryNetwork (label_words label.BoundaryRouter ++ text) ≡ None
 unfolding after_label after_words words text_of
 router_no_network_number text = refl
@@ -193,48 +169,31 @@ asbr_no_summary id rest h =
     up_to_id types.Summary id (label_words label.BoundaryRouter ++ rest) h
     ∙ ap (λ (x : Option (List Word)). x >>= (λ rest. Some (name_of types.Summary id, rest))) (router_no_network_number rest)
 
--- the first of two rules
-passed : (ls_type : LsType) (others : List LsType) (text : List Word) → name_as ls_type text ≡ None
+passed : (ls_type : LsType) (others : List LsType) (text : List Word) → after_label (type_label ls_type) text ≡ None
     → first_of_all name_as (ls_type ∷ others) text ≡ first_of_all name_as others text
-unfolding first_of_all
-passed ls_type others text h = ap (λ (x : Option (Name × List Word)). or_else x (first_of_all name_as others text)) h
+passed ls_type others text h = others_first name_as ls_type others text (other_type ls_type text h)
 
 found : (ls_type : LsType) (others : List LsType) (id : ℕ) (rest : List Word) → id < 2 ^ 32
     → first_of_all name_as (ls_type ∷ others) (name_before ls_type id rest) ≡ Some (name_of ls_type id, rest)
-unfolding first_of_all
 found ls_type others id rest h =
-    ap (λ (x : Option (Name × List Word)). or_else x (first_of_all name_as others (name_before ls_type id rest))) (whole_name ls_type id rest h)
-
-abbrev after_types : LsType → ℕ → List Word → List Word
-after_types ls_type id rest = said label.Id (address_text id) ++ (label_words (id_label ls_type) ++ rest)
+    front_first name_as ls_type others (name_before ls_type id rest) (name_of ls_type id, rest) (whole_name ls_type id rest h)
 
 types_again : (ls_type : LsType) (id : ℕ) (rest : List Word) → id < 2 ^ 32 → name_in (name_before ls_type id rest) ≡ Some (name_of ls_type id, rest)
+unfolding after_label after_words words text_of
 types_again types.Router id rest h = found types.Router _ id rest h
 types_again types.Network id rest h =
-    passed types.Router _ (name_before types.Network id rest)
-    (other_type types.Router (name_before types.Network id rest) (network_no_router (after_types types.Network id rest)))
-    ∙ found types.Network _ id rest h
+    let text = name_before types.Network id rest in
+    passed types.Router _ text refl ∙ found types.Network _ id rest h
 types_again types.Summary id rest h =
-    passed types.Router _ (name_before types.Summary id rest)
-    (other_type types.Router (name_before types.Summary id rest) (summary_no_router (after_types types.Summary id rest)))
-    ∙ passed types.Network _ (name_before types.Summary id rest)
-    (other_type types.Network (name_before types.Summary id rest) (summary_no_network (after_types types.Summary id rest)))
-    ∙ found types.Summary _ id rest h
+    let text = name_before types.Summary id rest in
+    passed types.Router _ text refl ∙ passed types.Network _ text refl ∙ found types.Summary _ id rest h
 types_again types.AsbrSummary id rest h =
-    passed types.Router _ (name_before types.AsbrSummary id rest)
-    (other_type types.Router (name_before types.AsbrSummary id rest) (summary_no_router (after_types types.AsbrSummary id rest)))
-    ∙ passed types.Network _ (name_before types.AsbrSummary id rest)
-    (other_type types.Network (name_before types.AsbrSummary id rest) (summary_no_network (after_types types.AsbrSummary id rest)))
-    ∙ passed types.Summary _ (name_before types.AsbrSummary id rest) (asbr_no_summary id rest h) ∙ found types.AsbrSummary _ id rest h
+    let text = name_before types.AsbrSummary id rest in
+    passed types.Router _ text refl ∙ passed types.Network _ text refl
+    ∙ others_first name_as types.Summary _ text (asbr_no_summary id rest h) ∙ found types.AsbrSummary _ id rest h
 types_again types.External id rest h =
-    passed types.Router _ (name_before types.External id rest)
-    (other_type types.Router (name_before types.External id rest) (external_no_router (after_types types.External id rest)))
-    ∙ passed types.Network _ (name_before types.External id rest)
-    (other_type types.Network (name_before types.External id rest) (external_no_network (after_types types.External id rest)))
-    ∙ passed types.Summary _ (name_before types.External id rest)
-    (other_type types.Summary (name_before types.External id rest) (external_no_summary (after_types types.External id rest)))
-    ∙ passed types.AsbrSummary _ (name_before types.External id rest)
-    (other_type types.AsbrSummary (name_before types.External id rest) (external_no_summary (after_types types.External id rest)))
+    let text = name_before types.External id rest in
+    passed types.Router _ text refl ∙ passed types.Network _ text refl ∙ passed types.Summary _ text refl ∙ passed types.AsbrSummary _ text refl
     ∙ found types.External _ id rest h
 
 pub name_again : (name : Name) (rest : List Word) → name.id.0 < 2 ^ 32 → name_in (name_words name ++ rest) ≡ Some (name, rest)

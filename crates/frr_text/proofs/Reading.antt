@@ -29,6 +29,14 @@ module _ {X Y : Type 0} (rule : X → Rule Y) where
   first_found xs i x text found lt h =
       first_at xs i x text lt ∙ ap (λ (y : Option (Y × List Word)). or_else y (first_of_all rule (drop (i + 1) xs) text)) h
 
+  -- the first can be read, or it cannot, and it is one of the others
+  pub front_first : (x : X) (xs : List X) (text : List Word) (found : Y × List Word) → rule x text ≡ Some found
+      → first_of_all rule (x ∷ xs) text ≡ Some found
+  front_first x xs text found h = first_step x xs text ∙ ap (λ (y : Option (Y × List Word)). or_else y (first_of_all rule xs text)) h
+
+  pub others_first : (x : X) (xs : List X) (text : List Word) → rule x text ≡ None → first_of_all rule (x ∷ xs) text ≡ first_of_all rule xs text
+  others_first x xs text h = first_step x xs text ∙ ap (λ (y : Option (Y × List Word)). or_else y (first_of_all rule xs text)) h
+
   pub first_missed : (xs : List X) (i : ℕ) (text : List Word) → length xs ≤ i → first_of_all rule (drop i xs) text ≡ None
   unfolding first_of_all
   first_missed xs i text le = ap (λ (ys : List X). first_of_all rule ys text) (drop_all i xs le)
