@@ -1,10 +1,13 @@
 -- The branches of a run: studies that begin at the loaded database, each with a session of its own.
-use Rattle.std.specs.Prelude.{◌≡◌, ℕ, ◌==◌, if◌then◌else◌, IfSome, List, map, Option, None, Some}
+use Rattle.std.specs.Prelude.{◌≡◌, ℕ, ◌==◌, if◌then◌else◌, IfSome, List, map, Option, None, Some, Result, IfOk, OnOk, OnErr}
 use Rattle.std.specs.Map.{lookup}
 use Rattle.std.specs.Ordering.{nat_cmp, eq_by_cmp}
 use Rattle.lsdb.specs.Lists.{Lists}
+use Rattle.edit_script.specs.declared.command.Command.{Command}
 use Rattle.edit_history.specs.Session.{Session, start}
 use Rattle.recalculate.specs.Planning.{PlannerValue}
+use Rattle.branches.specs.declared.reply.Reply.{Reply}
+use Rattle.branches.specs.Replies.{after, reply_to, said_by}
 
 -- the session of each branch, by the branch's number
 abbrev pub Sessions : Type 0
@@ -21,6 +24,10 @@ resumed s = λ branch. if branch == 0 then s else start s.base
 -- one branch goes on, and the others stay
 abbrev pub with_session : ℕ → Session → Sessions → Sessions
 with_session branch s all = λ other. if branch == other then s else all other
+
+-- a command is carried out in one branch
+abbrev pub stepped : ℕ → Command → Sessions → Sessions
+stepped branch command all = with_session branch (after (all branch) command) all
 
 -- ---- the sessions of the branches that have a planner: branch 0, and others by their numbers
 
@@ -46,3 +53,11 @@ sessions_of named = λ branch. if branch == 0 then named.first else session_or_b
 -- all began at one database
 abbrev pub HaveOneBase : Named → Type 0
 HaveOneBase named = (branch : ℕ) → IfSome (lookup (eq_by_cmp nat_cmp branch) named.others) (λ s. s.base ≡ named.first.base)
+
+-- ---- one command
+
+-- a call carries a command out in a branch, and answers its reply; where memory runs out, no branch has changed
+pub record Steps {A F : Type 0} (branch : ℕ) (command : Command) (result : Result (Reply A) F) (old new : Named) : Type 0 where
+  pub reply : IfOk result (λ reply. said_by reply ≡ reply_to (sessions_of old branch) command)
+  pub sessions : OnOk result (sessions_of new ≡ stepped branch command (sessions_of old))
+  pub kept : OnErr result (new ≡ old)

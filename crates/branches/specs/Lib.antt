@@ -1,3 +1,3 @@
-pub mod Branches
 pub mod Replies
+pub mod Branches
 pub mod steps

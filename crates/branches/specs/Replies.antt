@@ -123,18 +123,16 @@ reported_text word texts = word ++ texts.0 ++ codes " " ++ texts.1 ++ codes "\n"
 abbrev pub mark_of : ℕ → List ℕ
 mark_of branch = codes "@" ++ decimal branch ++ codes " "
 
+-- a word, and after it a number
+abbrev pub with_count : List ℕ → ℕ → List ℕ
+with_count word count = word ++ decimal count
+
 -- the counts of a session: of its LSAs, of what virtual links leave in them, and of its edits
-abbrev pub lsa_counts : Info → List ℕ
-lsa_counts info = codes "info areas " ++ decimal info.areas ++ codes " lsas " ++ decimal info.lsas ++ codes " as " ++ decimal info.as_lsas
-
-abbrev pub link_counts : Info → List ℕ
-link_counts info = codes " vbits " ++ decimal info.vbits ++ codes " vlinks " ++ decimal info.vlinks
-
-abbrev pub edit_counts : Info → List ℕ
-edit_counts info = codes " done " ++ decimal info.done ++ codes " undone " ++ decimal info.undone ++ codes "\n"
-
 abbrev pub info_text : Info → List ℕ
-info_text info = lsa_counts info ++ link_counts info ++ edit_counts info
+info_text info =
+    with_count (codes "info areas ") info.areas ++ with_count (codes " lsas ") info.lsas ++ with_count (codes " as ") info.as_lsas
+    ++ with_count (codes " vbits ") info.vbits ++ with_count (codes " vlinks ") info.vlinks
+    ++ with_count (codes " done ") info.done ++ with_count (codes " undone ") info.undone ++ codes "\n"
 
 -- `ok`, `refused CODE NAME`, the text of a table, of tables or of a comparison, or counts
 abbrev pub said_text : Said → List ℕ

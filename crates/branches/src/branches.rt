@@ -8,9 +8,9 @@ ghost use Rattle.edit_history.specs.Session.{start, state};
 ghost use Rattle.routing_table.specs.Routers.{attached_routers};
 ghost use Rattle.saved_sessions.specs.Opening.{opened};
 ghost use Rattle.saved_sessions.specs.Saved.{saved_text};
-ghost use Rattle.branches.specs.Branches.{all_begin, resumed, with_session, sessions_of};
+ghost use Rattle.branches.specs.Branches.{Steps, all_begin, resumed, sessions_of, stepped, with_session};
 ghost use Rattle.branches.specs.steps.Planners.{has_planner};
-ghost use Rattle.branches.specs.Replies.{reply_text, reply_to, after, is_refusal, takes_memory, said_by, tables_head, router_text, router_texts};
+ghost use Rattle.branches.specs.Replies.{reply_text, reply_to, is_refusal, takes_memory, tables_head, router_text, router_texts};
 
 use crate::commands::{execute, push_table_now, routers_with_table};
 use crate::reply::{Answer, Refusal, Reply, reply_text};
@@ -82,12 +82,7 @@ impl<A: Allocator + Copy> Branches<A> {
     /// Memory ran out. Then no branch has changed.
     pub fn step(&mut self, branch: u8, command: &Command) -> Result<Reply<A>, AllocError>
         requires { branch < 8 }
-        ensures reply { IfOk result
-            (λ reply. said_by reply ≡ reply_to (sessions_of self.old branch) command.now) }
-        ensures sessions { OnOk result (sessions_of self.new
-            ≡ with_session branch (after (sessions_of self.old branch) command.now)
-            (sessions_of self.old)) }
-        ensures kept { OnErr result (self.new ≡ self.old) }
+        ensures step { Steps branch command.now result self.old self.new }
         ensures memory { takes_memory command.now ≡ false → IsOk result }
     {
         if branch == 0 {
@@ -104,12 +99,7 @@ impl<A: Allocator + Copy> Branches<A> {
     fn step_first(&mut self, branch: u8, command: &Command) -> Result<Reply<A>, AllocError>
         requires not_first { (branch == 0) ≡ false }
         requires new { has_planner self.old branch ≡ false }
-        ensures reply { IfOk result
-            (λ reply. said_by reply ≡ reply_to (sessions_of self.old branch) command.now) }
-        ensures sessions { OnOk result (sessions_of self.new
-            ≡ with_session branch (after (sessions_of self.old branch) command.now)
-            (sessions_of self.old)) }
-        ensures kept { OnErr result (self.new ≡ self.old) }
+        ensures step { Steps branch command.now result self.old self.new }
         ensures memory { takes_memory command.now ≡ false → IsOk result }
     {
         match *command {
@@ -125,12 +115,7 @@ impl<A: Allocator + Copy> Branches<A> {
     fn begin(&mut self, branch: u8, command: &Command) -> Result<Reply<A>, AllocError>
         requires not_first { (branch == 0) ≡ false }
         requires new { has_planner self.old branch ≡ false }
-        ensures reply { IfOk result
-            (λ reply. said_by reply ≡ reply_to (sessions_of self.old branch) command.now) }
-        ensures sessions { OnOk result (sessions_of self.new
-            ≡ with_session branch (after (sessions_of self.old branch) command.now)
-            (sessions_of self.old)) }
-        ensures kept { OnErr result (self.new ≡ self.old) }
+        ensures { Steps branch command.now result self.old self.new }
     {
         let mut planner = self.begun()?;
         let reply = execute(self.alloc, &mut planner, command)?;
@@ -153,13 +138,10 @@ impl<A: Allocator + Copy> Branches<A> {
             ≡ reply_text branch (reply_to (sessions_of self.old branch) command.now)) }
         ensures refused { IfOk result (λ answer. answer.refused
             ≡ is_refusal (reply_to (sessions_of self.old branch) command.now)) }
-        ensures sessions { OnOk result (sessions_of self.new
-            ≡ with_session branch (after (sessions_of self.old branch) command.now)
-            (sessions_of self.old)) }
+        ensures sessions { OnOk result
+            (sessions_of self.new ≡ stepped branch command.now (sessions_of self.old)) }
         ensures kept { OnErr result ((sessions_of self.new ≡ sessions_of self.old)
-            ⊎ (sessions_of self.new
-            ≡ with_session branch (after (sessions_of self.old branch) command.now)
-            (sessions_of self.old))) }
+            ⊎ (sessions_of self.new ≡ stepped branch command.now (sessions_of self.old))) }
     {
         let reply = self.step(branch, command)?;
         Ok(Answer {
@@ -190,7 +172,7 @@ impl<A: Allocator + Copy> Branches<A> {
         }
         match self.others.get(&branch) {
             Some(planner) => routers_with_table(planner.database()),
-            None => routers_with_table(&self.first.base()?),
+            None => routers_with_table(self.begun()?.database()),
         }
     }
 
@@ -278,7 +260,7 @@ impl<A: Allocator + Copy> Branches<A> {
         }
         match self.others.get(&branch) {
             Some(planner) => planner.dump(),
-            None => self.first.base()?.dump(),
+            None => self.begun()?.dump(),
         }
     }
 

@@ -1,6 +1,6 @@
 //! The commands of a script, executed on one planner.
 
-ghost use Rattle.std.specs.Prelude.{◌≡◌, ◌++◌, IfOk, OnOk, OnErr, IsOk, false, filter_map, length, option_map, option_to_list};
+ghost use Rattle.std.specs.Prelude.{◌≡◌, ◌++◌, IfOk, OnOk, OnErr, IsOk, false, filter_map, length, option_to_list};
 ghost use Rattle.std.specs.String.{string_bytes};
 ghost use Rattle.lsdb.specs.Slots.{lists_of};
 ghost use Rattle.edit_history.specs.Session.{accepted_or, state, edited};
@@ -16,7 +16,6 @@ use lsdb::Database;
 use recalculate::{Planner, Table, TableFault};
 use routing_table::{routers, routers_are_attached};
 use std::alloc::{AllocError, Allocator};
-use std::rc::Rc;
 use table_report::push_table;
 
 /// Executes one command on a planner. `undo`, `redo` and `info` take no memory.
@@ -83,23 +82,6 @@ fn table_now<A: Allocator + Copy>(
     ensures kept { planner.new.session ≡ planner.old.session }
 {
     match planner.table(router) {
-        Ok(table) => Ok(Some(table)),
-        Err(TableFault::NoRouter) => Ok(None),
-        Err(TableFault::OutOfMemory) => Err(AllocError),
-    }
-}
-
-/// The routing table of a router in the loaded database, if it is attached to an area there. The
-/// planner keeps it too.
-fn table_before<A: Allocator + Copy>(
-    planner: &mut Planner<A>,
-    router: RouterId,
-) -> Result<Option<Rc<Table<A>, A>>, AllocError>
-    ensures table { IfOk result (λ table. option_map (λ shared. shared.value) table
-        ≡ table_in planner.old.session.base router) }
-    ensures kept { planner.new.session ≡ planner.old.session }
-{
-    match planner.baseline_table(router) {
         Ok(table) => Ok(Some(table)),
         Err(TableFault::NoRouter) => Ok(None),
         Err(TableFault::OutOfMemory) => Err(AllocError),
@@ -214,8 +196,10 @@ fn compare<A: Allocator + Copy>(
         (table_in (state planner.old.session) router)) }
     ensures kept { planner.new.session ≡ planner.old.session }
 {
-    let Some(before) = table_before(planner, router)? else {
-        return Ok(Reply::Refused(NO_ROUTER));
+    let before = match planner.baseline_table(router) {
+        Ok(table) => table,
+        Err(TableFault::NoRouter) => return Ok(Reply::Refused(NO_ROUTER)),
+        Err(TableFault::OutOfMemory) => return Err(AllocError),
     };
     if planner.is_unchanged(router) {
         return Ok(Reply::Unchanged {

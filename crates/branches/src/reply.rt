@@ -3,7 +3,7 @@
 ghost use Rattle.std.specs.Prelude.{◌≡◌, ◌++◌, IfOk, OnOk, codes, decimal, flat_map, length};
 ghost use Rattle.std.specs.String.{string_bytes};
 ghost use Rattle.table_report.specs.Texts.{table_text};
-ghost use Rattle.branches.specs.Replies.{refusal_texts, reported_text, lsa_counts, link_counts, edit_counts, info_text, said_by, said_text, mark_of, tables_head, reply_text, script_text, is_refusal};
+ghost use Rattle.branches.specs.Replies.{refusal_texts, reported_text, with_count, info_text, said_by, said_text, mark_of, tables_head, reply_text, script_text, is_refusal};
 
 use edit_history::{EditFault, RedoFault, UndoFault};
 use edit_script::ScriptFault;
@@ -199,21 +199,9 @@ pub fn tables_head<A: Allocator + Copy>(
     ensures { IfOk result (λ text. string_bytes text ≡ tables_head branch count) }
 {
     let mut text = mark(alloc, branch)?;
-    push_tables_head(&mut text, count)?;
+    push_count(&mut text, "tables ", count)?;
+    text.push_str("\n")?;
     Ok(text)
-}
-
-/// Adds `tables COUNT`.
-fn push_tables_head<A: Allocator + Copy>(
-    text: &mut String<A>,
-    count: usize,
-) -> Result<(), AllocError>
-    ensures { OnOk result
-        (string_bytes text.new
-        ≡ string_bytes text.old ++ (codes "tables " ++ decimal count ++ codes "\n")) }
-{
-    let count = Decimal(count as u64);
-    write!(text, "tables {count}\n")
 }
 
 /// Adds `tables COUNT`, and the text of each table.
@@ -226,11 +214,26 @@ fn push_tables<A: Allocator + Copy>(
         ++ (codes "tables " ++ decimal (length tables.now.items) ++ codes "\n"
         ++ flat_map table_text tables.now.items)) }
 {
-    push_tables_head(text, tables.len())?;
+    push_count(text, "tables ", tables.len())?;
+    text.push_str("\n")?;
     for table in tables {
         push_table(text, table)?;
     }
     Ok(())
+}
+
+/// Adds a word, and after it a number.
+fn push_count<A: Allocator + Copy>(
+    text: &mut String<A>,
+    word: &str,
+    count: usize,
+) -> Result<(), AllocError>
+    ensures { OnOk result
+        (string_bytes text.new ≡ string_bytes text.old ++ with_count word.now count) }
+{
+    let count = Decimal(count as u64);
+    text.push_str(word)?;
+    write!(text, "{count}")
 }
 
 /// Adds the counts of a session.
@@ -238,46 +241,14 @@ fn push_info<A: Allocator + Copy>(text: &mut String<A>, info: &Info) -> Result<(
     ensures { OnOk result
         (string_bytes text.new ≡ string_bytes text.old ++ info_text info.now) }
 {
-    push_lsa_counts(text, info)?;
-    push_link_counts(text, info)?;
-    push_edit_counts(text, info)
-}
-
-/// Adds the counts of areas and LSAs.
-fn push_lsa_counts<A: Allocator + Copy>(text: &mut String<A>, info: &Info) -> Result<(), AllocError>
-    ensures { OnOk result
-        (string_bytes text.new ≡ string_bytes text.old ++ lsa_counts info.now) }
-{
-    let areas = Decimal(info.areas as u64);
-    let lsas = Decimal(info.lsas as u64);
-    let as_lsas = Decimal(info.as_lsas as u64);
-    write!(text, "info areas {areas} lsas {lsas} as {as_lsas}")
-}
-
-/// Adds the counts of what virtual links leave in LSAs.
-fn push_link_counts<A: Allocator + Copy>(
-    text: &mut String<A>,
-    info: &Info,
-) -> Result<(), AllocError>
-    ensures { OnOk result
-        (string_bytes text.new ≡ string_bytes text.old ++ link_counts info.now) }
-{
-    let vbits = Decimal(info.vbits as u64);
-    let vlinks = Decimal(info.vlinks as u64);
-    write!(text, " vbits {vbits} vlinks {vlinks}")
-}
-
-/// Adds the counts of edits.
-fn push_edit_counts<A: Allocator + Copy>(
-    text: &mut String<A>,
-    info: &Info,
-) -> Result<(), AllocError>
-    ensures { OnOk result
-        (string_bytes text.new ≡ string_bytes text.old ++ edit_counts info.now) }
-{
-    let done = Decimal(info.done as u64);
-    let undone = Decimal(info.undone as u64);
-    write!(text, " done {done} undone {undone}\n")
+    push_count(text, "info areas ", info.areas)?;
+    push_count(text, " lsas ", info.lsas)?;
+    push_count(text, " as ", info.as_lsas)?;
+    push_count(text, " vbits ", info.vbits)?;
+    push_count(text, " vlinks ", info.vlinks)?;
+    push_count(text, " done ", info.done)?;
+    push_count(text, " undone ", info.undone)?;
+    text.push_str("\n")
 }
 
 /// The text for a line that is not a command: `script S2 UnknownWord`, and a line feed.

@@ -1,5 +1,5 @@
 -- Sets of areas: what is in both, and what is not in one.
-use Rattle.std.proofs.Common.{◌≡◌, Bool, true, false, List, sym, ap, subst, ◌∙◌, refl}
+use Rattle.std.proofs.Common.{◌≡◌, true, false, List, sym, ap, subst, ◌∙◌}
 use Rattle.std.specs.Prelude.{filter, not, ◌&&◌}
 use Rattle.std.specs.BTreeSet.{BTreeSet, IsFromIterResult, contains}
 use Rattle.std.specs.List.{filter_map}
@@ -13,7 +13,7 @@ use Rattle.lsa_codec.specs.Areas.{is_backbone}
 use Rattle.lsa_codec.specs.Order.{area_cmp}
 use Rattle.lsa_codec.proofs.OrderLemmas.{area_exact}
 use Rattle.capture_report.specs.Sets.{has}
-use Rattle.capture_report.proofs.Sets.{eq_true}
+use Rattle.capture_report.proofs.Members.{eq_true}
 use Rattle.capture_report.specs.Contradictions.{AreContradictions, reported_id}
 use Rattle.capture_report.specs.NoKind.{ids_of, without_kind}
 use Rattle.lsa_instances.specs.declared.area.AreaReport.{AreaReport}

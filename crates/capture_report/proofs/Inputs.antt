@@ -1,10 +1,9 @@
 -- Files that are read one after another.
 use Rattle.std.proofs.Common.{◌≡◌, ◌≢◌, ◌∙◌, sym, ap, subst, refl, ℕ, suc, ◌+◌, ◌<◌, add-zero, Bool, true, false, arith}
 use Rattle.std.proofs.Common.{drop-cons, take-append-drop, List, [], ◌∷◌, ◌++◌, length, get_or, set, take, drop, map, Option, Result, Ok, Err}
-use Rattle.std.specs.Prelude.{All, IfSome, IfErr}
+use Rattle.std.specs.Prelude.{IfSome, IfErr}
 use Rattle.std.specs.List.{AllZip}
 use Rattle.std.proofs.lemmas.List.{drop-drop, drop-set-lt, get_or-drop, map-append, take_more}
-use Rattle.std.proofs.lemmas.List.Elements.{All-set}
 use Rattle.capture_report.specs.declared.fault.RunFault.{RunFault}
 use Rattle.capture_report.specs.declared.fault.RunFault.TheVariants.{Read, TooLarge, Refused, Join, Write, OutOfMemory}
 use Rattle.capture_report.specs.Runs.{AreParsed, IsFileEnd, IsInputEnd, known}
@@ -13,7 +12,7 @@ use Rattle.capture_report.proofs.Parts.{zip_push}
 use Rattle.network_files.specs.declared.parsed_file.ParsedFile.{ParsedFile}
 use Rattle.network_files.specs.ParsedFiles.{IsFileOf}
 use Rattle.host_io.specs.declared.watch.Watched.{Watched}
-use Rattle.host_io.specs.Watched.{has_failed, inner_of}
+use Rattle.host_io.specs.Watched.{inner_of}
 
 -- ---- pairs
 

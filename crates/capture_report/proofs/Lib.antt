@@ -2,6 +2,6 @@ mod AreaSets
 pub mod Inputs
 pub mod Parts
 mod PlaceOrder
-mod Sets
+mod Members
 mod OneMore
 mod NewerHeaders

@@ -16,7 +16,7 @@ use Rattle.capture_report.specs.Newer.{Instance, is_other_or_older, is_same_lsa}
 use Rattle.capture_report.specs.steps.Newest.{AreNewest, is_over, newest_with}
 use Rattle.capture_report.specs.steps.PlaceOrder.{derived_cmp}
 use Rattle.capture_report.proofs.PlaceOrder.{same_cmp}
-use Rattle.capture_report.proofs.Sets.{eq_true}
+use Rattle.capture_report.proofs.Members.{eq_true}
 
 pub or_true : (a : Bool) → (a || true) ≡ true
 or_true true = refl

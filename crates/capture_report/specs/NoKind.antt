@@ -1,5 +1,5 @@
 -- Areas of a database of which no file reports the kind (RFC 2328, 3.6).
-use Rattle.std.specs.Prelude.{◌&&◌, Bool, filter, not, List, map}
+use Rattle.std.specs.Prelude.{◌&&◌, filter, not, List, map}
 use Rattle.lsa_codec.specs.declared.address.AreaId.{AreaId}
 use Rattle.lsa_codec.specs.Areas.{is_backbone}
 use Rattle.lsa_codec.specs.Order.{area_cmp}

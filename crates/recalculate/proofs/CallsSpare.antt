@@ -15,12 +15,12 @@ use Rattle.edit_history.specs.declared.fault.EditFault.{EditFault}
 use Rattle.edit_history.specs.Effect.{edit_touches, graph_lsas}
 use Rattle.edit_history.specs.Session.{Session, Request, edit, undo, redo, accepted_or, after_request, edited, state}
 use Rattle.lsdb.specs.Lists.{Lists}
-use Rattle.recalculate.specs.Calls.{AreMade, Call, CarriedOut, IsTaken, Leads, after_calls, call_touches, calls_touch, request_touches}
+use Rattle.recalculate.specs.Calls.{AreMade, Call, CarriedOut, CarriesOut, IsTaken, Leads, after_calls, call_touches, calls_touch, request_touches}
 use Rattle.routing_table.specs.AreasTrees.{routers_of}
 use Rattle.routing_table.specs.KeptTrees.{KeptRouters, is_kept, less_touched}
 use Rattle.routing_table.specs.Tables.{TableValue}
 use Rattle.edit_history.specs.declared.moved.Moved.{Moved}
-use Rattle.recalculate.specs.Planning.{AreCachesOf, CacheValue, IsCacheOf, PlannerValue, router_of, without_last}
+use Rattle.recalculate.specs.Planning.{AreCachesOf, CacheValue, IsCacheOf, PlannerValue, router_of}
 use Rattle.edit_history.specs.Moving.{before, moved_touches}
 use Rattle.recalculate.specs.Reached.{IsReached}
 use Rattle.recalculate.proofs.Touches.{IsStep, edited_spares, redo_taken, redone_spares, undo_taken, undone_spares}
@@ -45,22 +45,21 @@ module _ (request : Request) (moved : Moved) (s t : Session) (step : IsStep requ
 
   -- what the planner showed before
   module _ (runs : ℕ) (asked : Option RouterId) (p : PlannerValue) (shows : shown s runs old baseline asked ≡ p) where
-    pub carries_out : routers_of new.trees ≡ less_touched (λ area. moved_touches moved area t) (routers_of old.trees) → IsReached t
-        → CarriedOut request p (shown t runs new baseline asked)
-    carries_out kept reached = subst (λ (q : PlannerValue). CarriedOut request q (shown t runs new baseline asked)) shows (record {
+    carried_out : routers_of new.trees ≡ less_touched (λ area. moved_touches moved area t) (routers_of old.trees) → IsReached t
+        → new.table ≡ None → CarriedOut request p (shown t runs new baseline asked)
+    carried_out kept reached none = subst (λ (q : PlannerValue). CarriedOut request q (shown t runs new baseline asked)) shows (record {
       taken = step.taken;
       session = sym step.after;
       reached = reached;
       runs = refl;
       kept = kept ∙ ap (λ (f : AreaId → Bool). less_touched f (routers_of old.trees)) (λ i area. step.touched area i);
+      others = ap (λ (o : Option TableValue). shown t runs (record { trees = new.trees; externals = new.externals; table = o }) baseline asked) none;
     })
 
-    -- the last table went, and nothing else of what is not named
-    pub others_stay : new.table ≡ None
-        → shown t runs new baseline asked ≡ record p { session = t; kept = routers_of new.trees; tables = without_last p.tables }
-    others_stay none =
-        ap (λ (o : Option TableValue). shown t runs (record { trees = new.trees; externals = new.externals; table = o }) baseline asked) none
-        ∙ ap (λ (q : PlannerValue). record q { session = t; kept = routers_of new.trees; tables = without_last q.tables }) shows
+    pub carries_out : {T F : Type 0} (v : T) → routers_of new.trees ≡ less_touched (λ area. moved_touches moved area t) (routers_of old.trees)
+        → IsReached t → new.table ≡ None → CarriesOut {T = T} {F = F} request (Ok v) p (shown t runs new baseline asked)
+    carries_out v kept reached none =
+        record { ok = carried_out kept reached none; err = tt; runs = ap (λ (q : PlannerValue). q.runs) shows }
 
 -- ---- the graph of an area stays
 

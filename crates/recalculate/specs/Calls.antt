@@ -1,5 +1,5 @@
 -- What calls do to what a planner shows, one after another, and which areas they touch on the way.
-use Rattle.std.specs.Prelude.{◌≡◌, ◌≤◌, Bool, true, false, ◌||◌, filter, List, [], ◌∷◌, length, Option, Some, None, IsOk}
+use Rattle.std.specs.Prelude.{◌≡◌, ◌≤◌, Bool, true, false, ◌||◌, filter, List, [], ◌∷◌, length, Option, Some, None, Result, IsOk, OnOk, OnErr}
 use Rattle.lsa_codec.specs.declared.address.AreaId.{AreaId}
 use Rattle.lsa_codec.specs.declared.address.RouterId.{RouterId}
 use Rattle.lsdb.specs.Lists.{AreaHead}
@@ -10,7 +10,7 @@ use Rattle.edit_script.specs.declared.edit.Edit.TheVariants.{AddExternal, DropEx
 use Rattle.edit_history.specs.Effect.{edit_touches}
 use Rattle.edit_history.specs.Session.{Session, Request, edit, undo, redo, after_request, edited, redo_touches, state, undo_touches}
 use Rattle.routing_table.specs.KeptTrees.{IsWithin, areas_without_tree, is_kept, less_touched}
-use Rattle.recalculate.specs.Planning.{PlannerValue}
+use Rattle.recalculate.specs.Planning.{PlannerValue, without_last}
 use Rattle.recalculate.specs.Reached.{IsReached}
 
 -- ---- one call
@@ -27,13 +27,21 @@ request_touches (edit e) s area = edit_touches area (state s) e
 request_touches (undo k) s area = undo_touches k area s
 request_touches (redo k) s area = redo_touches k area s
 
--- a call carried a request out: the trees of the areas that it touches went, and no others, and none was calculated
+-- a call carried a request out: the last table went, and the trees of the areas that it touches, and no others; none was
+-- calculated, and nothing else changed
 pub record CarriedOut (request : Request) (old new : PlannerValue) : Type 0 where
   pub taken : IsTaken request old.session
   pub session : new.session ≡ after_request old.session request
   pub reached : IsReached new.session
   pub runs : new.runs ≡ old.runs
   pub kept : new.kept ≡ less_touched (request_touches request old.session) old.kept
+  pub others : new ≡ record old { session = new.session; kept = new.kept; tables = without_last old.tables }
+
+-- a call carries a request out where it succeeds, and else leaves the planner as it was
+pub record CarriesOut {T F : Type 0} (request : Request) (result : Result T F) (old new : PlannerValue) : Type 0 where
+  pub ok : OnOk result (CarriedOut request old new)
+  pub err : OnErr result (new ≡ old)
+  pub runs : new.runs ≡ old.runs
 
 -- a call left the session as it was, and no tree went: it asked for a table, or an error was its answer
 pub record Stayed (old new : PlannerValue) : Type 0 where

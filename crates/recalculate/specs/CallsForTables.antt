@@ -1,17 +1,25 @@
--- What calls that ask for the table of a router calculate and keep for it. `early` and `late` are the trees that are kept and the
+-- What calls that ask for the table of a router answer, calculate and keep for it. `early` and `late` are the trees that are kept and the
 -- count of trees, as a call begins and ends.
-use Rattle.std.specs.Prelude.{◌≡◌, ◌≢◌, ◌+◌, ℕ, Option, Some, None, Result, MatchResult, OnOk}
+use Rattle.std.specs.Prelude.{◌≡◌, ◌≢◌, ◌+◌, ℕ, Option, Some, None, Result, MatchResult, IfOk, IfErr, OnOk}
 use Rattle.lsa_codec.specs.declared.address.RouterId.{RouterId}
 use Rattle.lsdb.specs.Lists.{Lists}
 use Rattle.edit_history.specs.Session.{state}
 use Rattle.routing_table.specs.Counting.{counted_by, CountsAtMost}
 use Rattle.routing_table.specs.KeptTrees.{KeptRouters}
-use Rattle.routing_table.specs.Tables.{TableValue}
+use Rattle.routing_table.specs.Tables.{FaultMeans, TableValue, table_in}
 use Rattle.routing_table.specs.declared.table.TableFault.{TableFault}
 use Rattle.routing_table.specs.declared.table.TableFault.TheVariants.{NoRouter}
 use Rattle.recalculate.specs.Asking.{GainsTrees, HasTrees, HasTreesOfTable, IsAskedAgain, gained, lacking}
 use Rattle.recalculate.specs.Calls.{Stayed}
 use Rattle.recalculate.specs.Planning.{PlannerValue, router_of}
+
+-- ---- the table
+
+-- a call answers the table of a router in a database, which `table_of` finds in the answer; a fault is that there is none, or want
+-- of memory
+pub record ShowsTable {T : Type 0} (result : Result T TableFault) (table_of : T → TableValue) (db : Lists) (router : RouterId) : Type 0 where
+  pub found : IfOk result (λ answer. table_in db router ≡ Some (table_of answer))
+  pub fault : IfErr result (FaultMeans (table_in db router))
 
 -- ---- a number of trees
 

@@ -55,25 +55,23 @@ impl<A: Allocator> Model for Planner<A> {
 }
 
 impl<A: Allocator + Copy> Planner<A> {
-    ghost use Rattle.std.specs.Prelude.{◌≡◌, ◌≢◌, ◌≤◌, ◌↔◌, ◌+◌, ◌++◌, [], Ok, Err, Some, None, length, true, IsOk, OnOk, OnErr, IfOk, IfErr, IfSome, IsErrOf};
+    ghost use Rattle.std.specs.Prelude.{◌≡◌, ◌≢◌, ◌≤◌, ◌↔◌, ◌+◌, ◌++◌, [], Ok, Err, Some, None, length, true, IsOk, OnOk, IfOk, IfErr, IfSome, IsErrOf};
     ghost use Rattle.lsdb.specs.BaseText.{base_text};
     ghost use Rattle.lsdb.specs.Lists.{IsDatabase};
     ghost use Rattle.lsdb.specs.Slots.{lists_of};
     ghost use Rattle.lsdb.specs.Text.{text};
     ghost use Rattle.area_routes.specs.Attached.{attached_areas};
     ghost use Rattle.edit_history.specs.declared.fault.EditFault.TheVariants.{HistoryFull, OutOfMemory};
-    ghost use Rattle.edit_history.specs.Effect.{edit_touches};
     ghost use Rattle.edit_history.specs.Session.{edit as edit_request, undo as undo_request, redo as redo_request};
-    ghost use Rattle.edit_history.specs.Session.{edits_of, start, state, effects, most_edits, edited, moved_back, moved_on, redo_touches, undo_touches};
+    ghost use Rattle.edit_history.specs.Session.{edits_of, start, state, effects, most_edits, edited, moved_back, moved_on};
     ghost use Rattle.recalculate.specs.Asking.{HasTreesOfTable, IsAskedAgain};
-    ghost use Rattle.recalculate.specs.Calls.{CarriedOut, Stayed};
-    ghost use Rattle.recalculate.specs.CallsForTables.{CalculatesEither, CalculatesTrees, CountsTrees, KeepsBaseline, NotesAsked};
+    ghost use Rattle.recalculate.specs.Calls.{CarriesOut, Stayed};
+    ghost use Rattle.recalculate.specs.CallsForTables.{CalculatesEither, CalculatesTrees, CountsTrees, KeepsBaseline, NotesAsked, ShowsTable};
     ghost use Rattle.recalculate.specs.Counts.{info_of};
-    ghost use Rattle.recalculate.specs.Planning.{IsTableOver, without_last};
+    ghost use Rattle.recalculate.specs.Planning.{IsTableOver};
     ghost use Rattle.recalculate.specs.Reached.{IsReached};
-    ghost use Rattle.routing_table.specs.KeptTrees.{less_touched};
     ghost use Rattle.routing_table.specs.Routers.{attached_routers};
-    ghost use Rattle.routing_table.specs.Tables.{table_in, FaultMeans};
+    ghost use Rattle.routing_table.specs.Tables.{table_in};
 
     /// The session that begins at a database: no edit is done, none is undone, and no tree is
     /// calculated. It takes no memory.
@@ -124,16 +122,7 @@ impl<A: Allocator + Copy> Planner<A> {
         ensures full { most_edits ≤ length self.old.session.done → IsErrOf result HistoryFull }
         ensures refused { IfErr result
             (λ f. f ≢ OutOfMemory → edited self.old.session edit.now ≡ Err f) }
-        ensures err { OnErr result (self.new ≡ self.old) }
-        ensures runs { self.new.runs ≡ self.old.runs }
-        ensures kept { OnOk result (self.new.kept ≡ less_touched
-            (λ area. edit_touches area (state self.old.session) edit.now) self.old.kept) }
-        ensures others { OnOk result (self.new ≡ record self.old {
-          session = self.new.session;
-          kept = self.new.kept;
-          tables = without_last self.old.tables;
-        }) }
-        ensures step { OnOk result (CarriedOut (edit_request edit.now) self.old self.new) }
+        ensures step { CarriesOut (edit_request edit.now) result self.old self.new }
     {
         self.study.edit(edit)?;
         self.present.follow(&self.study, Moved::On(1));
@@ -150,16 +139,7 @@ impl<A: Allocator + Copy> Planner<A> {
     pub fn undo(&mut self, count: u32) -> Result<(), UndoFault>
         ensures ok { IsOk result ↔ (count ≤ length self.old.session.done) }
         ensures session { OnOk result (self.new.session ≡ moved_back count self.old.session) }
-        ensures err { OnErr result (self.new ≡ self.old) }
-        ensures runs { self.new.runs ≡ self.old.runs }
-        ensures kept { OnOk result (self.new.kept ≡ less_touched
-            (λ area. undo_touches count area self.old.session) self.old.kept) }
-        ensures others { OnOk result (self.new ≡ record self.old {
-          session = self.new.session;
-          kept = self.new.kept;
-          tables = without_last self.old.tables;
-        }) }
-        ensures step { OnOk result (CarriedOut (undo_request count) self.old self.new) }
+        ensures step { CarriesOut (undo_request count) result self.old self.new }
     {
         self.study.undo(count as usize)?;
         self.present
@@ -177,16 +157,7 @@ impl<A: Allocator + Copy> Planner<A> {
     pub fn redo(&mut self, count: u32) -> Result<(), RedoFault>
         ensures ok { IsOk result ↔ (count ≤ length self.old.session.undone) }
         ensures session { OnOk result (self.new.session ≡ moved_on count self.old.session) }
-        ensures err { OnErr result (self.new ≡ self.old) }
-        ensures runs { self.new.runs ≡ self.old.runs }
-        ensures kept { OnOk result (self.new.kept ≡ less_touched
-            (λ area. redo_touches count area self.old.session) self.old.kept) }
-        ensures others { OnOk result (self.new ≡ record self.old {
-          session = self.new.session;
-          kept = self.new.kept;
-          tables = without_last self.old.tables;
-        }) }
-        ensures step { OnOk result (CarriedOut (redo_request count) self.old self.new) }
+        ensures step { CarriesOut (redo_request count) result self.old self.new }
     {
         self.study.redo(count as usize)?;
         self.present.follow(&self.study, Moved::On(count as usize));
@@ -248,10 +219,7 @@ impl<A: Allocator + Copy> Planner<A> {
     /// [`OutOfMemory`](TableFault::OutOfMemory); the trees begun before it count, and those that
     /// were finished are kept.
     pub fn table(&mut self, router: RouterId) -> Result<Table<A>, TableFault>
-        ensures table { IfOk result
-            (λ table. table_in (state self.old.session) router ≡ Some table) }
-        ensures fault { IfErr result (FaultMeans (table_in (state self.old.session) router)) }
-        ensures session { self.new.session ≡ self.old.session }
+        ensures table { ShowsTable result (λ table. table) (state self.old.session) router }
         ensures trees { CalculatesTrees (state self.old.session) router result
             (self.old.kept, self.old.runs) (self.new.kept, self.new.runs) }
         ensures others { self.new ≡ record self.old { runs = self.new.runs; kept = self.new.kept } }
@@ -268,9 +236,7 @@ impl<A: Allocator + Copy> Planner<A> {
     ///
     /// As those of [`table`](Planner::table), for that database.
     pub fn base_table(&mut self, router: RouterId) -> Result<Table<A>, TableFault>
-        ensures table { IfOk result (λ table. table_in self.old.session.base router ≡ Some table) }
-        ensures fault { IfErr result (FaultMeans (table_in self.old.session.base router)) }
-        ensures session { self.new.session ≡ self.old.session }
+        ensures table { ShowsTable result (λ table. table) self.old.session.base router }
         ensures trees { CountsTrees (length (attached_areas self.old.session.base router)) result
             self.old.runs self.new.runs }
         ensures others { self.new ≡ record self.old { runs = self.new.runs } }
@@ -290,10 +256,7 @@ impl<A: Allocator + Copy> Planner<A> {
     /// As those of [`table`](Planner::table), for that database. The table that was kept may be
     /// gone then.
     pub fn baseline_table(&mut self, router: RouterId) -> Result<Rc<Table<A>, A>, TableFault>
-        ensures table { IfOk result
-            (λ table. table_in self.old.session.base router ≡ Some table.value) }
-        ensures fault { IfErr result (FaultMeans (table_in self.old.session.base router)) }
-        ensures session { self.new.session ≡ self.old.session }
+        ensures table { ShowsTable result (λ table. table.value) self.old.session.base router }
         ensures trees { CalculatesTrees self.old.session.base router result
             (self.old.first_kept, self.old.runs) (self.new.first_kept, self.new.runs) }
         ensures first { KeepsBaseline router result self.old self.new }
@@ -340,10 +303,7 @@ impl<A: Allocator + Copy> Planner<A> {
     ///
     /// As those of [`table`](Planner::table).
     pub fn cached_table(&mut self, router: RouterId) -> Result<Rc<Table<A>, A>, TableFault>
-        ensures table { IfOk result
-            (λ table. table_in (state self.old.session) router ≡ Some table.value) }
-        ensures fault { IfErr result (FaultMeans (table_in (state self.old.session) router)) }
-        ensures session { self.new.session ≡ self.old.session }
+        ensures table { ShowsTable result (λ table. table.value) (state self.old.session) router }
         ensures same { self.old.tables.last ≡ Some router → self.new ≡ self.old }
         ensures trees { CalculatesEither router result self.old self.new }
         ensures step { Stayed self.old self.new }
@@ -355,22 +315,6 @@ impl<A: Allocator + Copy> Planner<A> {
         if let Some(table) = self.unchanged_table(router) {
             return Ok(table.clone()?);
         }
-        self.new_table(router)
-    }
-
-    /// The routing table of a router in the session's database, rebuilt. It is kept, in place of
-    /// the one that was.
-    fn new_table(&mut self, router: RouterId) -> Result<Rc<Table<A>, A>, TableFault>
-        ensures table { IfOk result
-            (λ table. table_in (state self.old.session) router ≡ Some table.value) }
-        ensures fault { IfErr result (FaultMeans (table_in (state self.old.session) router)) }
-        ensures session { self.new.session ≡ self.old.session }
-        ensures trees { CalculatesTrees (state self.old.session) router result
-            (self.old.kept, self.old.runs) (self.new.kept, self.new.runs) }
-        ensures first_kept { self.new.first_kept ≡ self.old.first_kept }
-        ensures first { self.new.tables.first ≡ self.old.tables.first }
-        ensures step { Stayed self.old self.new }
-    {
         self.present
             .new_table(self.study.database(), router, &mut self.meter)
     }

@@ -53,8 +53,8 @@ impl<A: Allocator + Copy> Study<A> {
     ghost use Rattle.edit_history.specs.declared.fault.EditFault.TheVariants.{HistoryFull, OutOfMemory};
     ghost use Rattle.edit_history.specs.Session.{edits_of, start, state, effects, most_edits, edited, moved_back, moved_on};
     ghost use Rattle.routing_table.specs.AreasTrees.{AreOfDatabase, routers_of};
-    ghost use Rattle.routing_table.specs.Tables.{table_in, FaultMeans};
-    ghost use Rattle.recalculate.specs.CallsForTables.{CalculatesTrees, CountsTrees, KeepsTable};
+    ghost use Rattle.routing_table.specs.Tables.{table_in};
+    ghost use Rattle.recalculate.specs.CallsForTables.{CalculatesTrees, CountsTrees, KeepsTable, ShowsTable};
     ghost use Rattle.recalculate.specs.Counts.{info_of};
     ghost use Rattle.recalculate.specs.Planning.{IsCacheOf};
     ghost use Rattle.recalculate.specs.Reached.{IsReached};
@@ -110,7 +110,6 @@ impl<A: Allocator + Copy> Study<A> {
         ensures ok { IsOk result ↔ (count ≤ length self.old.done) }
         ensures session { OnOk result (self.new ≡ moved_back count self.old) }
         ensures err { OnErr result (self.new ≡ self.old) }
-        ensures reached { IsReached self.old }
         ensures leads { IsReached self.new }
     {
         self.history.undo(&mut self.database, count)
@@ -122,7 +121,6 @@ impl<A: Allocator + Copy> Study<A> {
         ensures ok { IsOk result ↔ (count ≤ length self.old.undone) }
         ensures session { OnOk result (self.new ≡ moved_on count self.old) }
         ensures err { OnErr result (self.new ≡ self.old) }
-        ensures reached { IsReached self.old }
         ensures leads { IsReached self.new }
     {
         self.history.redo(&mut self.database, count)
@@ -224,8 +222,7 @@ impl<A: Allocator + Copy> Study<A> {
         meter: &mut Meter,
     ) -> Result<Rc<Table<A>, A>, TableFault>
         requires { IsCacheOf self.old.base kept.old }
-        ensures table { IfOk result (λ table. table_in self.old.base router ≡ Some table.value) }
-        ensures fault { IfErr result (FaultMeans (table_in self.old.base router)) }
+        ensures table { ShowsTable result (λ table. table.value) self.old.base router }
         ensures session { self.new ≡ self.old }
         ensures trees { CalculatesTrees self.old.base router result
             (routers_of kept.old.trees, meter.old) (routers_of kept.new.trees, meter.new) }
@@ -249,8 +246,7 @@ impl<A: Allocator + Copy> Study<A> {
         router: RouterId,
         meter: &mut Meter,
     ) -> Result<Table<A>, TableFault>
-        ensures table { IfOk result (λ table. table_in self.old.base router ≡ Some table) }
-        ensures fault { IfErr result (FaultMeans (table_in self.old.base router)) }
+        ensures table { ShowsTable result (λ table. table) self.old.base router }
         ensures session { self.new ≡ self.old }
         ensures trees { CountsTrees (length (attached_areas self.old.base router)) result
             meter.old meter.new }

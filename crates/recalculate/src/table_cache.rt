@@ -1,11 +1,10 @@
 //! What is kept of a database for the tables of its routers.
 
-ghost use Rattle.std.specs.Prelude.{◌≡◌, ◌≢◌, [], Some, None, IfOk, IfErr, IfSome};
+ghost use Rattle.std.specs.Prelude.{◌≡◌, ◌≢◌, [], Some, None, IfOk, IfSome};
 ghost use Rattle.lsdb.specs.Lists.{Lists};
 ghost use Rattle.lsdb.specs.Slots.{lists_of};
 ghost use Rattle.routing_table.specs.AreasTrees.{routers_of};
-ghost use Rattle.routing_table.specs.Tables.{table_in, FaultMeans};
-ghost use Rattle.recalculate.specs.CallsForTables.{CalculatesTrees, KeepsTable};
+ghost use Rattle.recalculate.specs.CallsForTables.{CalculatesTrees, KeepsTable, ShowsTable};
 ghost use Rattle.recalculate.specs.Planning.{IsCacheOf, IsTableOver, router_of};
 
 use external_routes::ExternalLsas;
@@ -84,9 +83,7 @@ impl<A: Allocator + Copy> TableCache<A> {
         meter: &mut Meter,
     ) -> Result<Table<A>, TableFault>
         requires { IsCacheOf (lists_of database.now) self.old }
-        ensures table { IfOk result
-            (λ table. table_in (lists_of database.now) router ≡ Some table) }
-        ensures fault { IfErr result (FaultMeans (table_in (lists_of database.now) router)) }
+        ensures table { ShowsTable result (λ table. table) (lists_of database.now) router }
         ensures trees { CalculatesTrees (lists_of database.now) router result
             (routers_of self.old.trees, meter.old) (routers_of self.new.trees, meter.new) }
         ensures cache { IsCacheOf (lists_of database.now) self.new }
@@ -106,9 +103,7 @@ impl<A: Allocator + Copy> TableCache<A> {
         meter: &mut Meter,
     ) -> Result<Rc<Table<A>, A>, TableFault>
         requires { IsCacheOf (lists_of database.now) self.old }
-        ensures table { IfOk result
-            (λ table. table_in (lists_of database.now) router ≡ Some table.value) }
-        ensures fault { IfErr result (FaultMeans (table_in (lists_of database.now) router)) }
+        ensures table { ShowsTable result (λ table. table.value) (lists_of database.now) router }
         ensures trees { CalculatesTrees (lists_of database.now) router result
             (routers_of self.old.trees, meter.old) (routers_of self.new.trees, meter.new) }
         ensures cache { IsCacheOf (lists_of database.now) self.new }

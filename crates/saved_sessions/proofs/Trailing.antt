@@ -5,12 +5,10 @@ use Rattle.std.proofs.Math.Dec.{eqb-suc-zero}
 use Rattle.lsdb.specs.declared.fault.DumpFault.{DumpFault}
 use Rattle.lsdb.specs.declared.fault.DumpFaultKind.TheVariants.{TrailingBytes}
 use Rattle.lsdb.specs.Lists.{Lists}
-use Rattle.lsdb.specs.Loading.{◌>>=◌, At, ended, fault}
+use Rattle.lsdb.specs.Loading.{◌>>=◌, At, IsFirstFault, ended, fault}
 use Rattle.lsdb.specs.BaseLoading.{base_loaded}
 use Rattle.edit_history.specs.Session.{Session}
-use Rattle.saved_sessions.specs.declared.fault.ReadError.{ReadError}
 use Rattle.saved_sessions.specs.Opening.{position_after, history_at, session_loaded}
-use Rattle.saved_sessions.specs.steps.Reading.{Fails}
 use Rattle.saved_sessions.proofs.Failing.{fails_on}
 
 rest_left : (n : ℕ) (bytes : List ℕ) → n < length bytes → (length (drop n bytes) == 0) ≡ false
@@ -29,9 +27,9 @@ trailing bytes base session end loaded history more =
     ∙ ap (λ b. cond b (Ok session) (fault (position_after end bytes) TrailingBytes)) (rest_left end bytes more)
 
 -- what fails of the edits fails of the session
-pub history_ends : (e : ReadError) (bytes : List ℕ) (base : Lists × ℕ) → base_loaded bytes ≡ Ok base
-    → Fails e (history_at base.0 (position_after base.1 bytes)) → Fails e (session_loaded bytes)
+pub history_ends : (f : DumpFault) (bytes : List ℕ) (base : Lists × ℕ) → base_loaded bytes ≡ Ok base
+    → IsFirstFault f (history_at base.0 (position_after base.1 bytes)) → IsFirstFault f (session_loaded bytes)
 unfolding session_loaded
-history_ends e bytes base loaded fails =
-    subst (λ (r : Result (Lists × ℕ) DumpFault). Fails e (r >>= (λ base. history_at base.0 (position_after base.1 bytes) >>= ended))) (sym loaded)
-    (fails_on e (history_at base.0 (position_after base.1 bytes)) ended fails)
+history_ends f bytes base loaded fails =
+    subst (λ (r : Result (Lists × ℕ) DumpFault). IsFirstFault f (r >>= (λ base. history_at base.0 (position_after base.1 bytes) >>= ended))) (sym loaded)
+    (fails_on f (history_at base.0 (position_after base.1 bytes)) ended fails)

@@ -1,5 +1,5 @@
 pub mod Lines
 pub mod Text
-pub mod Opening
 pub mod Saved
+pub mod Opening
 pub mod steps

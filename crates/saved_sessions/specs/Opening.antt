@@ -1,17 +1,20 @@
 -- What opening the bytes of a saved session answers: the session, or the first fault from front to back.
-use Rattle.std.specs.Prelude.{ℕ, zero, suc, ◌+◌, ◌==◌, nat_lt, Bool, List, drop, Option, Some, None, Result, Ok, Err, if◌then◌else◌}
+use Rattle.std.specs.Prelude.{◌≡◌, ℕ, zero, suc, ◌+◌, ◌==◌, nat_lt, Bool, true, false, List, [], drop, Option, Some, None, Result, Ok, Err, IfOk, IfErr, if◌then◌else◌}
 use Rattle.std.specs.List.{list_any}
 use Rattle.std.specs.Int.{w16}
 use Rattle.lsdb.specs.declared.fault.DumpFault.{DumpFault}
 use Rattle.lsdb.specs.declared.fault.DumpFaultKind.{DumpFaultKind}
 use Rattle.lsdb.specs.declared.fault.DumpFaultKind.TheVariants.{Truncated, BadHistory}
 use Rattle.lsdb.specs.Lists.{Lists}
-use Rattle.lsdb.specs.Loading.{◌>>=◌, At, fault, advanced, number_at, ended, loaded, front_loaded}
+use Rattle.lsdb.specs.Loading.{◌>>=◌, At, IsFirstFault, fault, advanced, number_at, ended, loaded, front_loaded}
 use Rattle.lsdb.specs.BaseLoading.{begins_session, base_loaded, base_front_loaded}
+use Rattle.lsdb.specs.Text.{text}
 use Rattle.edit_script.specs.declared.edit.Edit.{Edit}
 use Rattle.edit_history.specs.declared.fault.EditFault.{EditFault}
 use Rattle.edit_history.specs.Session.{Session, start, edited, moved_back, most_edits}
+use Rattle.recalculate.specs.Planning.{PlannerValue}
 use Rattle.saved_sessions.specs.Lines.{line_feed, edit_line}
+use Rattle.saved_sessions.specs.Saved.{saved_text}
 
 -- ---- positions
 
@@ -95,3 +98,21 @@ opened bytes = if begins_session bytes then session_loaded bytes else dump_loade
 -- the first LSA of the front, or none, or the first fault of the front
 unfoldable pub front_opened : List ℕ → Result (List ℕ) DumpFault
 front_opened bytes = if begins_session bytes then base_front_loaded bytes else front_loaded bytes
+
+-- ---- calls that open a session
+
+-- the session that bytes show is answered, of which no tree was calculated; or the first fault, or want of memory. A fault of the
+-- front is reported whatever memory there is: none is asked for before
+pub record Loads (shown : Result Session DumpFault) (at_front : Result (List ℕ) DumpFault) (result : Result PlannerValue DumpFault) : Type 0 where
+  pub found : IfOk result (λ planner. shown ≡ Ok planner.session)
+  pub fault : IfErr result (λ fault. IsFirstFault fault shown)
+  pub front : (fault : DumpFault) → at_front ≡ Err fault → result ≡ Err fault
+  pub runs : IfOk result (λ planner. planner.runs ≡ 0)
+  pub kept : IfOk result (λ planner. planner.kept ≡ [])
+
+-- the bytes are the text of what is opened, and each such text is opened, unless memory runs out
+pub record Opens (bytes : List ℕ) (result : Result PlannerValue DumpFault) : Type 0 where
+  pub session : begins_session bytes ≡ true → IfOk result (λ planner. bytes ≡ saved_text planner.session)
+  pub dump : begins_session bytes ≡ false
+      → IfOk result (λ planner. (bytes ≡ text planner.session.base) × (planner.session ≡ start planner.session.base))
+  pub loads : Loads (opened bytes) (front_opened bytes) result

@@ -1,19 +1,18 @@
 //! The edits of a session, read and carried out in turn.
 
-ghost use Rattle.std.specs.Prelude.{◌≡◌, ◌+◌, ◌≤◌, [], length, IfOk, OnOk};
+ghost use Rattle.std.specs.Prelude.{◌≡◌, ◌+◌, ◌≤◌, length, IfOk, OnOk};
 ghost use Rattle.edit_history.specs.Session.{start};
 ghost use Rattle.saved_sessions.specs.Opening.{position_after, edit_at, has_line_feed, history_at, line_at, line_fault, lines_from};
-ghost use Rattle.saved_sessions.specs.steps.Reading.{Gives};
+ghost use Rattle.saved_sessions.specs.steps.Reading.{CarriesOn, Gives};
 
-use crate::fault::{ReadError, fault};
 use crate::laws::line_laws;
 use crate::line::edit_line;
-use crate::read::read_counts;
+use crate::read::{OUT_OF_MEMORY, fault, read_counts};
 use edit_history::EditFault;
 use edit_script::Edit;
-use lsdb::DumpFaultKind;
+use lsdb::{DumpFault, DumpFaultKind};
 use recalculate::Planner;
-use std::alloc::Allocator;
+use std::alloc::{AllocError, Allocator};
 
 /// Whether a line feed is among bytes.
 fn has_line_feed(bytes: &[u8]) -> bool
@@ -39,7 +38,7 @@ fn read_edit<A: Allocator + Copy>(
     line: u16,
     bytes: &[u8],
     offset: usize,
-) -> Result<(Edit, usize), ReadError>
+) -> Result<(Edit, usize), DumpFault>
     requires { offset ≤ length bytes.now }
     ensures edit { Gives (λ x. (x.0, position_after x.1 bytes.now))
         result (edit_at line (position_after offset bytes.now)) }
@@ -48,9 +47,10 @@ fn read_edit<A: Allocator + Copy>(
     // A line that is found lies within the bytes.
     line_laws();
     let rest = &bytes[offset..];
-    match edit_line(alloc, rest)? {
-        Some((edit, byte_count)) => Ok((edit, offset + byte_count)),
-        None => Err(fault(offset, line_fault(line, rest))),
+    match edit_line(alloc, rest) {
+        Ok(Some((edit, byte_count))) => Ok((edit, offset + byte_count)),
+        Ok(None) => Err(fault(offset, line_fault(line, rest))),
+        Err(AllocError) => Err(OUT_OF_MEMORY),
     }
 }
 
@@ -62,20 +62,17 @@ fn carry_out_line<A: Allocator + Copy>(
     line: u16,
     bytes: &[u8],
     offset: usize,
-) -> Result<usize, ReadError>
+) -> Result<usize, DumpFault>
     requires { offset ≤ length bytes.now }
-    ensures session { Gives (λ end. (planner.new.session, position_after end bytes.now))
-        result (line_at line planner.old.session (position_after offset bytes.now)) }
-    ensures within { IfOk result (λ end. end ≤ length bytes.now) }
+    ensures read { CarriesOn (line_at line planner.old.session (position_after offset bytes.now))
+        bytes.now result planner.old planner.new }
     ensures done { OnOk result
         (length planner.new.session.done ≡ length planner.old.session.done + 1) }
-    ensures runs { planner.new.runs ≡ planner.old.runs }
-    ensures kept { planner.old.kept ≡ [] → planner.new.kept ≡ [] }
 {
     let (edit, end) = read_edit(alloc, line, bytes, offset)?;
     match planner.edit(&edit) {
         Ok(()) => Ok(end),
-        Err(EditFault::OutOfMemory) => Err(ReadError::Memory),
+        Err(EditFault::OutOfMemory) => Err(OUT_OF_MEMORY),
         Err(_) => Err(fault(offset, DumpFaultKind::BadHistory(line))),
     }
 }
@@ -87,15 +84,13 @@ fn carry_out_lines<A: Allocator + Copy>(
     count: u16,
     bytes: &[u8],
     offset: usize,
-) -> Result<usize, ReadError>
+) -> Result<usize, DumpFault>
     requires { offset ≤ length bytes.now }
-    ensures session { Gives (λ end. (planner.new.session, position_after end bytes.now))
-        result (lines_from count 0 planner.old.session (position_after offset bytes.now)) }
-    ensures within { IfOk result (λ end. end ≤ length bytes.now) }
+    ensures read { CarriesOn
+        (lines_from count 0 planner.old.session (position_after offset bytes.now))
+        bytes.now result planner.old planner.new }
     ensures done { OnOk result
         (length planner.new.session.done ≡ length planner.old.session.done + count) }
-    ensures runs { planner.new.runs ≡ planner.old.runs }
-    ensures kept { planner.old.kept ≡ [] → planner.new.kept ≡ [] }
 {
     let mut end = offset;
     for line in 0..count {
@@ -112,14 +107,11 @@ pub(crate) fn read_history<A: Allocator + Copy>(
     planner: &mut Planner<A>,
     bytes: &[u8],
     offset: usize,
-) -> Result<usize, ReadError>
+) -> Result<usize, DumpFault>
     requires within { offset ≤ length bytes.now }
     requires start { planner.old.session ≡ start planner.old.session.base }
-    ensures session { Gives (λ end. (planner.new.session, position_after end bytes.now))
-        result (history_at planner.old.session.base (position_after offset bytes.now)) }
-    ensures within { IfOk result (λ end. end ≤ length bytes.now) }
-    ensures runs { planner.new.runs ≡ planner.old.runs }
-    ensures kept { planner.old.kept ≡ [] → planner.new.kept ≡ [] }
+    ensures { CarriesOn (history_at planner.old.session.base (position_after offset bytes.now))
+        bytes.now result planner.old planner.new }
 {
     let (done, undone, lines) = read_counts(bytes, offset)?;
     let end = carry_out_lines(alloc, planner, done + undone, bytes, lines)?;

@@ -13,7 +13,6 @@
 //! and [`put_line`] writes one.
 #![tactic(auto)]
 
-mod fault;
 mod history;
 mod laws;
 mod line;

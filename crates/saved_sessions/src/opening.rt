@@ -1,15 +1,16 @@
 //! Opening a saved session.
 
-ghost use Rattle.std.specs.Prelude.{◌≡◌, true, false, [], Ok, Err, IfOk, IfErr};
+ghost use Rattle.std.specs.Prelude.{◌≡◌, IfOk};
 ghost use Rattle.lsdb.specs.BaseLoading.{base_front_loaded, begins_session};
-ghost use Rattle.lsdb.specs.Loading.{IsFirstFault, front_loaded};
+ghost use Rattle.lsdb.specs.Loading.{front_loaded};
 ghost use Rattle.lsdb.specs.Text.{text};
 ghost use Rattle.edit_history.specs.Session.{start};
-ghost use Rattle.saved_sessions.specs.Opening.{dump_loaded, front_opened, opened, session_loaded};
+ghost use Rattle.saved_sessions.specs.Opening.{Loads, Opens, dump_loaded, session_loaded};
 ghost use Rattle.saved_sessions.specs.Saved.{saved_text};
 
 use crate::history::read_history;
 use crate::laws::line_laws;
+use crate::read::fault;
 use lsdb::{Database, DumpFault, DumpFaultKind};
 use recalculate::Planner;
 use std::alloc::Allocator;
@@ -27,13 +28,8 @@ pub fn begins_session(bytes: &[u8]) -> bool
 /// The session of a dump, version 2.
 #[tactic(auto, unfolding(crate::specs::Opening::session_loaded))]
 fn read_session<A: Allocator + Copy>(alloc: A, bytes: &[u8]) -> Result<Planner<A>, DumpFault>
-    ensures found { IfOk result (λ planner. session_loaded bytes.now ≡ Ok planner.session) }
-    ensures fault { IfErr result (λ fault. IsFirstFault fault (session_loaded bytes.now)) }
-    ensures front { (fault : DumpFault)
-        → base_front_loaded bytes.now ≡ Err fault → result ≡ Err fault }
+    ensures loads { Loads (session_loaded bytes.now) (base_front_loaded bytes.now) result }
     ensures spelled { IfOk result (λ planner. bytes.now ≡ saved_text planner.session) }
-    ensures runs { IfOk result (λ planner. planner.runs ≡ 0) }
-    ensures kept { IfOk result (λ planner. planner.kept ≡ []) }
 {
     // The lines that are read are those of the edits.
     line_laws();
@@ -41,8 +37,7 @@ fn read_session<A: Allocator + Copy>(alloc: A, bytes: &[u8]) -> Result<Planner<A
     let mut planner = Planner::new(alloc, base);
     let end = read_history(alloc, &mut planner, bytes, byte_count)?;
     if end < bytes.len() {
-        let kind = DumpFaultKind::TrailingBytes;
-        return Err(DumpFault { offset: end, kind });
+        return Err(fault(end, DumpFaultKind::TrailingBytes));
     }
     Ok(planner)
 }
@@ -50,14 +45,9 @@ fn read_session<A: Allocator + Copy>(alloc: A, bytes: &[u8]) -> Result<Planner<A
 /// The session of a dump, version 1, which has no edits.
 #[tactic(auto, unfolding(crate::specs::Opening::dump_loaded))]
 fn read_dump<A: Allocator + Copy>(alloc: A, bytes: &[u8]) -> Result<Planner<A>, DumpFault>
-    ensures found { IfOk result (λ planner. dump_loaded bytes.now ≡ Ok planner.session) }
-    ensures fault { IfErr result (λ fault. IsFirstFault fault (dump_loaded bytes.now)) }
-    ensures front { (fault : DumpFault)
-        → front_loaded bytes.now ≡ Err fault → result ≡ Err fault }
+    ensures loads { Loads (dump_loaded bytes.now) (front_loaded bytes.now) result }
     ensures spelled { IfOk result (λ planner. bytes.now ≡ text planner.session.base) }
     ensures start { IfOk result (λ planner. planner.session ≡ start planner.session.base) }
-    ensures runs { IfOk result (λ planner. planner.runs ≡ 0) }
-    ensures kept { IfOk result (λ planner. planner.kept ≡ []) }
 {
     let database = Database::load(alloc, bytes)?;
     Ok(Planner::new(alloc, database))
@@ -80,24 +70,7 @@ fn read_dump<A: Allocator + Copy>(alloc: A, bytes: &[u8]) -> Result<Planner<A>, 
 /// count and its first LSA.
 #[tactic(auto, unfolding(crate::specs::Opening::opened, crate::specs::Opening::front_opened))]
 pub fn open<A: Allocator + Copy>(alloc: A, bytes: &[u8]) -> Result<Planner<A>, DumpFault>
-    // The bytes are the text of what is opened.
-    ensures session { begins_session bytes.now ≡ true
-        → IfOk result (λ planner. bytes.now ≡ saved_text planner.session) }
-    ensures dump { begins_session bytes.now ≡ false
-        → IfOk result (λ planner. (bytes.now ≡ text planner.session.base)
-        × (planner.session ≡ start planner.session.base)) }
-
-    // Each such text is opened, unless memory runs out; else the first fault is reported.
-    ensures found { IfOk result (λ planner. opened bytes.now ≡ Ok planner.session) }
-    ensures fault { IfErr result (λ fault. IsFirstFault fault (opened bytes.now)) }
-
-    // A fault of the front is reported whatever memory there is: none is asked for before.
-    ensures front { (fault : DumpFault)
-        → front_opened bytes.now ≡ Err fault → result ≡ Err fault }
-
-    // No tree was calculated.
-    ensures runs { IfOk result (λ planner. planner.runs ≡ 0) }
-    ensures kept { IfOk result (λ planner. planner.kept ≡ []) }
+    ensures { Opens bytes.now result }
 {
     if begins_session(bytes) {
         read_session(alloc, bytes)

@@ -7,14 +7,26 @@ ghost use Rattle.edit_history.specs.Session.{most_edits};
 ghost use Rattle.saved_sessions.specs.Opening.{position_after, counts_at};
 ghost use Rattle.saved_sessions.specs.steps.Reading.{Gives};
 
-use crate::fault::{ReadError, fault};
-use lsdb::DumpFaultKind;
+use lsdb::{DumpFault, DumpFaultKind};
 
 /// The edits that may be done at a time.
 const MOST_EDITS: u16 = 10_000;
 
+/// Want of memory, which is reported at 0.
+pub(crate) const OUT_OF_MEMORY: DumpFault = DumpFault {
+    offset: 0,
+    kind: DumpFaultKind::OutOfMemory,
+};
+
+/// The fault at an offset.
+pub(crate) fn fault(offset: usize, kind: DumpFaultKind) -> DumpFault
+    ensures { result ≡ record { offset = offset; kind = kind } }
+{
+    DumpFault { offset, kind }
+}
+
 /// The number of two bytes after this number of bytes.
-fn read_number(bytes: &[u8], offset: usize) -> Result<u16, ReadError>
+fn read_number(bytes: &[u8], offset: usize) -> Result<u16, DumpFault>
     requires { offset ≤ length bytes.now }
     ensures number { Gives (λ number. (number, position_after (offset + 2) bytes.now))
         result (number_at w16 (position_after offset bytes.now)) }
@@ -29,7 +41,7 @@ fn read_number(bytes: &[u8], offset: usize) -> Result<u16, ReadError>
 
 /// How many edits are done and how many are undone, and the offset after these numbers.
 #[tactic(auto, unfolding(crate::specs::Opening::counts_at))]
-pub(crate) fn read_counts(bytes: &[u8], offset: usize) -> Result<(u16, u16, usize), ReadError>
+pub(crate) fn read_counts(bytes: &[u8], offset: usize) -> Result<(u16, u16, usize), DumpFault>
     requires { offset ≤ length bytes.now }
     ensures counts { Gives (λ x. (x.0, x.1, position_after x.2 bytes.now))
         result (counts_at (position_after offset bytes.now)) }

@@ -1,11 +1,7 @@
 //! Opening and saving as methods of a planner.
 
-ghost use Rattle.std.specs.Prelude.{◌≡◌, true, false, [], Ok, Err, OnOk, IfOk, IfErr};
-ghost use Rattle.lsdb.specs.BaseLoading.{begins_session};
-ghost use Rattle.lsdb.specs.Loading.{IsFirstFault};
-ghost use Rattle.lsdb.specs.Text.{text};
-ghost use Rattle.edit_history.specs.Session.{start};
-ghost use Rattle.saved_sessions.specs.Opening.{front_opened, opened};
+ghost use Rattle.std.specs.Prelude.{◌≡◌, Ok, OnOk, IfOk};
+ghost use Rattle.saved_sessions.specs.Opening.{Opens, opened};
 ghost use Rattle.saved_sessions.specs.Saved.{CanBeSaved, saved_text};
 
 use crate::opening::open;
@@ -31,17 +27,7 @@ pub trait SavedSession<A: Allocator>: Sized {
 
 impl<A: Allocator + Copy> SavedSession<A> for Planner<A> {
     fn open(alloc: A, bytes: &[u8]) -> Result<Planner<A>, DumpFault>
-        ensures session { begins_session bytes.now ≡ true
-            → IfOk result (λ planner. bytes.now ≡ saved_text planner.session) }
-        ensures dump { begins_session bytes.now ≡ false
-            → IfOk result (λ planner. (bytes.now ≡ text planner.session.base)
-            × (planner.session ≡ start planner.session.base)) }
-        ensures found { IfOk result (λ planner. opened bytes.now ≡ Ok planner.session) }
-        ensures fault { IfErr result (λ fault. IsFirstFault fault (opened bytes.now)) }
-        ensures front { (fault : DumpFault)
-            → front_opened bytes.now ≡ Err fault → result ≡ Err fault }
-        ensures runs { IfOk result (λ planner. planner.runs ≡ 0) }
-        ensures kept { IfOk result (λ planner. planner.kept ≡ []) }
+        ensures { Opens bytes.now result }
     {
         open(alloc, bytes)
     }

@@ -5,7 +5,13 @@ use Rattle.std.proofs.lemmas.Bool.{false≢true}
 use Rattle.std.proofs.lemmas.List.{length-take, length-drop, take-take, drop-take, drop-drop, take-append-drop, take_all, drop_all}
 use Rattle.lsdb.specs.Lists.{Lists}
 use Rattle.edit_script.specs.declared.edit.Edit.{Edit}
-use Rattle.edit_history.specs.Session.{Session, moved_back, moved_on}
+use Rattle.edit_history.specs.Journal.{HistoryData}
+use Rattle.edit_history.specs.Session.{Session, session_of, moved_back, moved_on}
+use Rattle.edit_history.proofs.HistoryLemmas.{done_len, undone_len}
+use Rattle.lsdb.specs.Slots.{Slots}
+use Rattle.test_databases.specs.declared.edited.Way.{Way}
+use Rattle.test_databases.specs.declared.edited.Way.TheVariants.{Back, On}
+use Rattle.test_databases.specs.Edited.{movable, moved}
 
 -- sessions with the same parts
 pub same_session : (s t : Session) → s.base ≡ t.base → s.done ≡ t.done → s.undone ≡ t.undone → s ≡ t
@@ -31,7 +37,7 @@ one_in_front done undone m k n next same =
     ∙ sym (append_assoc (take 1 (drop m done)) (drop 1 (drop m done)) undone)
     ∙ ap (λ (es : List Edit). es ++ undone) (take-append-drop 1 (drop m done))
 
-pub back_one : (s now next : Session) (i : ℕ) → i + 1 ≤ length s.done → now ≡ moved_back i s → next ≡ moved_back 1 now → next ≡ moved_back (i + 1) s
+back_one : (s now next : Session) (i : ℕ) → i + 1 ≤ length s.done → now ≡ moved_back i s → next ≡ moved_back 1 now → next ≡ moved_back (i + 1) s
 back_one s now next i le at step =
     let m = length s.done - (i + 1) in
     let k = length s.done - i in
@@ -47,18 +53,18 @@ abbrev back_from : Session → ℕ → Session
 back_from s m = record { base = s.base; done = take m s.done; undone = drop m s.done ++ s.undone }
 
 -- where all are taken back, no more can be
-pub back_all : (s now : Session) (i j : ℕ) → length s.done ≤ i → length s.done ≤ j → now ≡ moved_back i s → now ≡ moved_back j s
+back_all : (s now : Session) (i j : ℕ) → length s.done ≤ i → length s.done ≤ j → now ≡ moved_back i s → now ≡ moved_back j s
 back_all s now i j all more at =
     let same : length s.done - i ≡ length s.done - j = omega arith in
     at ∙ ap (back_from s) same
 
-pub back_count : (s next : Session) → next ≡ moved_back 1 s → 1 ≤ length s.done → length s.done ≡ length next.done + 1
+back_count : (s next : Session) → next ≡ moved_back 1 s → 1 ≤ length s.done → length s.done ≡ length next.done + 1
 back_count s next is some =
     omega (arith, length-take (length s.done - 1) s.done, ap (λ (t : Session). length t.done) is)
 
 -- ---- on
 
-pub on_one : (s now next : Session) (i : ℕ) → now ≡ moved_on i s → next ≡ moved_on 1 now → next ≡ moved_on (i + 1) s
+on_one : (s now next : Session) (i : ℕ) → now ≡ moved_on i s → next ≡ moved_on 1 now → next ≡ moved_on (i + 1) s
 on_one s now next i at step =
     step ∙ ap (moved_on 1) at
     ∙ same_session (moved_on 1 (moved_on i s)) (moved_on (i + 1) s) refl
@@ -66,11 +72,35 @@ on_one s now next i at step =
     (drop-drop 1 i s.undone)
 
 -- where all are carried out again, no more can be
-pub on_all : (s now : Session) (i j : ℕ) → length s.undone ≤ i → length s.undone ≤ j → now ≡ moved_on i s → now ≡ moved_on j s
+on_all : (s now : Session) (i j : ℕ) → length s.undone ≤ i → length s.undone ≤ j → now ≡ moved_on i s → now ≡ moved_on j s
 on_all s now i j all more at =
     at ∙ same_session (moved_on i s) (moved_on j s) refl
     (ap (λ (es : List Edit). s.done ++ es) (take_all i s.undone all ∙ sym (take_all j s.undone more)))
     (drop_all i s.undone all ∙ sym (drop_all j s.undone more))
 
-pub on_count : (s next : Session) → next ≡ moved_on 1 s → 1 ≤ length s.undone → length s.undone ≡ length next.undone + 1
+on_count : (s next : Session) → next ≡ moved_on 1 s → 1 ≤ length s.undone → length s.undone ≡ length next.undone + 1
 on_count s next is some = omega (arith, length-drop 1 s.undone, ap (λ (t : Session). length t.undone) is)
+
+-- ---- either way
+
+-- how many edits can move
+abbrev pub count : Way → Session → ℕ
+count Back s = length s.done
+count On s = length s.undone
+
+pub movable_len : (way : Way) (d : Slots) (h : HistoryData) → count way (session_of d h) ≡ length (movable way h)
+movable_len Back d h = done_len d h
+movable_len On d h = undone_len d h
+
+pub one_more : (way : Way) (s now next : Session) (i : ℕ) → i + 1 ≤ count way s → now ≡ moved way i s → next ≡ moved way 1 now
+    → next ≡ moved way (i + 1) s
+one_more Back s now next i le at step = back_one s now next i le at step
+one_more On s now next i le at step = on_one s now next i at step
+
+pub all_moved : (way : Way) (s now : Session) (i j : ℕ) → count way s ≤ i → count way s ≤ j → now ≡ moved way i s → now ≡ moved way j s
+all_moved Back s now i j all more at = back_all s now i j all more at
+all_moved On s now i j all more at = on_all s now i j all more at
+
+pub one_fewer : (way : Way) (s next : Session) → next ≡ moved way 1 s → 1 ≤ count way s → count way s ≡ count way next + 1
+one_fewer Back s next is some = back_count s next is some
+one_fewer On s next is some = on_count s next is some

@@ -4,12 +4,12 @@ ghost use Rattle.std.specs.Prelude.{◌≡◌, ◌≢◌, ◌≤◌, ◌↔◌, 
 ghost use Rattle.lsdb.specs.Slots.{lists_of};
 ghost use Rattle.edit_history.specs.Effect.{effect};
 ghost use Rattle.edit_history.specs.Journal.{Links};
-ghost use Rattle.edit_history.specs.Session.{Session, session_of, state, moved_back, moved_on};
-ghost use Rattle.test_databases.specs.Edited.{with_edit, IsSessionOf, HasSame};
+ghost use Rattle.edit_history.specs.Session.{Session, session_of, state};
+ghost use Rattle.test_databases.specs.Edited.{with_edit, movable, moved, IsSessionOf, HasSame};
 
 use crate::lines::edit_of;
 use crate::sections::have_same;
-use edit_history::{EditFault, History, RedoFault, UndoFault, apply};
+use edit_history::{EditFault, History, apply};
 use edit_script::Edit;
 use lsdb::{Database, Section};
 use std::alloc::{Allocator, Global};
@@ -70,46 +70,54 @@ pub fn edited<A: Allocator + Copy>(
     Ok((database, history))
 }
 
-/// Takes the last `count` done edits back, one at a time.
-///
-/// # Errors
-///
-/// Fewer edits are done. Then all of them are taken back.
-pub fn back<A: Allocator + Copy>(
-    database: &mut Database<A>,
-    history: &mut History<A>,
-    count: usize,
-) -> Result<(), UndoFault>
-    requires { Links database.old history.old.lists }
-    ensures linked { Links database.new history.new.lists }
-    ensures ok { IsOk result ↔ (count ≤ length history.old.lists.past) }
-    ensures session { session_of database.new history.new.lists
-        ≡ moved_back count (session_of database.old history.old.lists) }
-{
-    for _step in 0..count {
-        history.undo(database, 1)?;
-    }
-    Ok(())
+/// Which way edits move.
+#[derive(Clone, Copy)]
+pub enum Way {
+    /// Done edits are taken back, the last one first.
+    Back,
+    /// Undone edits are carried out again, the next one first.
+    On,
 }
 
-/// Carries the first `count` undone edits out again, one at a time.
+/// Moves one edit.
+fn move_one<A: Allocator + Copy>(
+    database: &mut Database<A>,
+    history: &mut History<A>,
+    way: Way,
+) -> Result<(), Fail>
+    requires { Links database.old history.old.lists }
+    ensures linked { Links database.new history.new.lists }
+    ensures ok { IsOk result ↔ (1 ≤ length (movable way history.old.lists)) }
+    ensures session { OnOk result (session_of database.new history.new.lists
+        ≡ moved way 1 (session_of database.old history.old.lists)) }
+    ensures err { OnErr result
+        ((history.new.lists ≡ history.old.lists) × (database.new ≡ database.old)) }
+{
+    match way {
+        Way::Back => Ok(history.undo(database, 1)?),
+        Way::On => Ok(history.redo(database, 1)?),
+    }
+}
+
+/// Moves `count` edits, one at a time.
 ///
 /// # Errors
 ///
-/// Fewer edits are undone. Then all of them are carried out again.
-pub fn on<A: Allocator + Copy>(
+/// There are fewer. Then all of them are moved.
+pub fn move_by<A: Allocator + Copy>(
     database: &mut Database<A>,
     history: &mut History<A>,
+    way: Way,
     count: usize,
-) -> Result<(), RedoFault>
+) -> Result<(), Fail>
     requires { Links database.old history.old.lists }
     ensures linked { Links database.new history.new.lists }
-    ensures ok { IsOk result ↔ (count ≤ length history.old.lists.future) }
+    ensures ok { IsOk result ↔ (count ≤ length (movable way history.old.lists)) }
     ensures session { session_of database.new history.new.lists
-        ≡ moved_on count (session_of database.old history.old.lists) }
+        ≡ moved way count (session_of database.old history.old.lists) }
 {
     for _step in 0..count {
-        history.redo(database, 1)?;
+        move_one(database, history, way)?;
     }
     Ok(())
 }

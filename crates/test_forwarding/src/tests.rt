@@ -6,7 +6,6 @@ mod built;
 mod texts;
 
 // Where packets go.
-mod areas;
 mod own_externals;
 mod paths;
 mod routers;

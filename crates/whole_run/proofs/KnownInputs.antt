@@ -23,6 +23,9 @@ use Rattle.whole_run.specs.WholeRun.{IfBoth, MayEndRun}
 use Rattle.whole_run.specs.Calls.{Writes}
 use Rattle.whole_run.specs.declared.fault.RunFault.{RunFault}
 use Rattle.whole_run.specs.declared.fault.RunFault.TheVariants.{Dump, Read, Write, TooLarge, OutOfMemory}
+use Rattle.whole_run.specs.declared.leaving.Left.{Left}
+use Rattle.whole_run.specs.declared.leaving.Wanted.{Wanted}
+use Rattle.whole_run.specs.steps.Leaving.{HasTexts}
 use Rattle.whole_run.specs.steps.Reading.{IsRunEnd}
 
 answers_are : (bytes script : List ℕ) (s : Sessions) → begun (opened bytes) ≡ Ok s → run_answers bytes script ≡ answers s (lines_of script)
@@ -47,21 +50,24 @@ of_answers P None script s loads holds = tt
 of_answers P (Some bytes) None s loads holds = tt
 of_answers P (Some bytes) (Some known) s loads holds = subst P (sym (answers_are bytes known s loads)) holds
 
--- the dump that the script leaves
-pub of_dump : (items : List ℕ) (dump script : Option (List ℕ)) (s : Sessions) → IfSome dump (λ bytes. begun (opened bytes) ≡ Ok s)
-    → IfSome script (λ known. items ≡ text (state (sessions_after s (lines_of known) 0)))
-    → IfBoth dump script (λ bytes known. items ≡ final_dump bytes known)
-of_dump items None script s loads ends = tt
-of_dump items (Some bytes) None s loads ends = tt
-of_dump items (Some bytes) (Some known) s loads ends = ends ∙ sym (dump_is bytes known s loads)
+-- the dump and the session that the script leaves
+pub of_texts : {A : Type 0} (wanted : Wanted) (left : Left A) (dump script : Option (List ℕ)) (s : Sessions)
+    → IfSome dump (λ bytes. begun (opened bytes) ≡ Ok s)
+    → IfSome script (λ known. HasTexts wanted left (text (state (sessions_after s (lines_of known) 0))) (saved_text (sessions_after s (lines_of known) 0)))
+    → IfBoth dump script (λ bytes known. HasTexts wanted left (final_dump bytes known) (final_session bytes known))
+of_texts wanted left None script s loads ends = tt
+of_texts wanted left (Some bytes) None s loads ends = tt
+of_texts wanted left (Some bytes) (Some known) s loads ends = record {
+  dump = λ given. ends.dump given ∙ sym (dump_is bytes known s loads);
+  session = λ given. ends.session given ∙ sym (session_is bytes known s loads);
+}
 
--- the session that the script leaves
-pub of_session : (items : List ℕ) (dump script : Option (List ℕ)) (s : Sessions) → IfSome dump (λ bytes. begun (opened bytes) ≡ Ok s)
-    → IfSome script (λ known. items ≡ saved_text (sessions_after s (lines_of known) 0))
-    → IfBoth dump script (λ bytes known. items ≡ final_session bytes known)
-of_session items None script s loads ends = tt
-of_session items (Some bytes) None s loads ends = tt
-of_session items (Some bytes) (Some known) s loads ends = ends ∙ sym (session_is bytes known s loads)
+-- what follows from what is known of both texts
+pub from_both : (P Q : List ℕ → List ℕ → Type 0) → ((bytes known : List ℕ) → P bytes known → Q bytes known) → (dump script : Option (List ℕ))
+    → IfBoth dump script P → IfBoth dump script Q
+from_both P Q f None script holds = tt
+from_both P Q f (Some bytes) None holds = tt
+from_both P Q f (Some bytes) (Some known) holds = f bytes known holds
 
 -- how the run ends, where carrying out the script ends it
 pub of_end : (dump script : Option (List ℕ)) → IfSome dump IsAccepted → (fault : RunFault) → IsRunEnd (IsLonger script longest_script) fault

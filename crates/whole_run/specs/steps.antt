@@ -1,3 +1,4 @@
 -- What private contracts cite: the steps of the code.
 pub mod Lines
 pub mod Reading
+pub mod Leaving

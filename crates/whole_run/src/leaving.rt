@@ -5,6 +5,7 @@ ghost use Rattle.lsdb.specs.Text.{text};
 ghost use Rattle.edit_history.specs.Session.{state};
 ghost use Rattle.saved_sessions.specs.Saved.{saved_text};
 ghost use Rattle.branches.specs.Branches.{sessions_of};
+ghost use Rattle.whole_run.specs.steps.Leaving.{HasTexts};
 
 use branches::Branches;
 use std::alloc::{AllocError, Allocator, Global};
@@ -67,10 +68,8 @@ pub(crate) fn texts_left<A: Allocator + Copy>(
     branches: &mut Branches<A>,
     wanted: Wanted,
 ) -> Result<Left<A>, AllocError>
-    ensures dump { wanted.dump ≡ true → IfOk result
-        (λ left. left.dump.items ≡ text (state (sessions_of branches.old 0))) }
-    ensures session { wanted.session ≡ true → IfOk result
-        (λ left. left.session.items ≡ saved_text (sessions_of branches.old 0)) }
+    ensures { IfOk result (λ left. HasTexts wanted left
+        (text (state (sessions_of branches.old 0))) (saved_text (sessions_of branches.old 0))) }
 {
     Ok(Left {
         dump: dump_left(alloc, branches, wanted.dump)?,

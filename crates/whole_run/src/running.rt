@@ -17,6 +17,7 @@ ghost use Rattle.whole_run.specs.Order.{AreUntouched};
 ghost use Rattle.whole_run.specs.WholeRun.{IfBoth, IsSummaryOf};
 ghost use Rattle.whole_run.specs.Inputs.{longest_script};
 ghost use Rattle.whole_run.specs.Calls.{FitsInputs, IsWritten, KeepsReplies, KeepsWriter, ReadsAtMost, Writes, WritesInOrder};
+ghost use Rattle.whole_run.specs.steps.Leaving.{HasTexts};
 ghost use Rattle.whole_run.specs.steps.Reading.{IsRunEnd};
 
 use crate::fault::RunFault;
@@ -115,12 +116,10 @@ fn answer_all<A: Allocator + Copy, R: Read, S: Read, W: Write>(
     ensures replies { Writes run_text (R.remaining (inner_of dump.old))
         (S.remaining (inner_of script.old)) result
         (W.contents (inner_of replies.old)) (W.contents (inner_of replies.new)) }
-    ensures dump { wanted.dump ≡ true → IfOk result
+    ensures left { IfOk result
         (λ done. IfBoth (R.remaining (inner_of dump.old)) (S.remaining (inner_of script.old))
-        (λ bytes script. done.1.dump.items ≡ final_dump bytes script)) }
-    ensures session { wanted.session ≡ true → IfOk result
-        (λ done. IfBoth (R.remaining (inner_of dump.old)) (S.remaining (inner_of script.old))
-        (λ bytes script. done.1.session.items ≡ final_session bytes script)) }
+        (λ bytes script. HasTexts wanted done.1
+        (final_dump bytes script) (final_session bytes script))) }
     ensures summary { IfOk result
         (λ done. IfBoth (R.remaining (inner_of dump.old)) (S.remaining (inner_of script.old))
         (λ bytes script. IsSummaryOf (run_answers bytes script) done.0)) }
@@ -157,14 +156,11 @@ fn run_script<A: Allocator + Copy, S: Read, W: Write>(
     ensures replies { OnOk result (IfSome (S.remaining (inner_of script.old))
         (λ script. Appends (W.contents (inner_of replies.old)) (W.contents (inner_of replies.new))
         (text_of (answers (sessions_of branches.old) (lines_of script))))) }
-    ensures dump { wanted.dump ≡ true → IfOk result
+    ensures left { IfOk result
         (λ done. IfSome (S.remaining (inner_of script.old))
-        (λ script. done.1.dump.items
-        ≡ text (state (sessions_after (sessions_of branches.old) (lines_of script) 0)))) }
-    ensures session { wanted.session ≡ true → IfOk result
-        (λ done. IfSome (S.remaining (inner_of script.old))
-        (λ script. done.1.session.items
-        ≡ saved_text (sessions_after (sessions_of branches.old) (lines_of script) 0))) }
+        (λ script. HasTexts wanted done.1
+        (text (state (sessions_after (sessions_of branches.old) (lines_of script) 0)))
+        (saved_text (sessions_after (sessions_of branches.old) (lines_of script) 0)))) }
     ensures summary { IfOk result
         (λ done. IfSome (S.remaining (inner_of script.old))
         (λ script. IsSummaryOf (answers (sessions_of branches.old) (lines_of script)) done.0)) }

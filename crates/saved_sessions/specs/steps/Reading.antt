@@ -1,21 +1,19 @@
 -- What a function that reads a part of a saved session returns.
-use Rattle.std.specs.Prelude.{◌≡◌, Result, Ok, Err}
+use Rattle.std.specs.Prelude.{◌≡◌, ◌≤◌, ℕ, List, [], length, Result, Ok, Err, IfOk}
 use Rattle.lsdb.specs.declared.fault.DumpFault.{DumpFault}
-use Rattle.lsdb.specs.Loading.{no_memory}
-use Rattle.saved_sessions.specs.declared.fault.ReadError.{ReadError}
-use Rattle.saved_sessions.specs.declared.fault.ReadError.TheVariants as errors
+use Rattle.lsdb.specs.Loading.{At, IsFirstFault}
+use Rattle.edit_history.specs.Session.{Session}
+use Rattle.recalculate.specs.Planning.{PlannerValue}
+use Rattle.saved_sessions.specs.Opening.{position_after}
 
--- reading ended for want of memory, or with the fault that is reported
-abbrev pub Fails : {Y : Type 0} → ReadError → Result Y DumpFault → Type 0
-Fails errors.Memory read = Unit {0}
-Fails (errors.Fault f) read = read ≡ Err f
-
--- what a function returned, seen by view, is what reading gives, unless memory ran out
-abbrev pub Gives : {X Y : Type 0} → (X → Y) → Result X ReadError → Result Y DumpFault → Type 0
+-- what a function returned, seen by view, is what reading gives; or it is the first fault, or want of memory
+abbrev pub Gives : {X Y : Type 0} → (X → Y) → Result X DumpFault → Result Y DumpFault → Type 0
 Gives view (Ok x) read = read ≡ Ok (view x)
-Gives view (Err e) read = Fails e read
+Gives view (Err fault) read = IsFirstFault fault read
 
--- the fault that is reported of a failed reading
-abbrev pub reported_fault : ReadError → DumpFault
-reported_fault errors.Memory = no_memory
-reported_fault (errors.Fault f) = f
+-- a function carried edits out as they were read, and returned the offset after them; a planner without trees has none then
+pub record CarriesOn (read : Result (Session × At) DumpFault) (bytes : List ℕ) (result : Result ℕ DumpFault) (old new : PlannerValue) : Type 0 where
+  pub session : Gives (λ end. (new.session, position_after end bytes)) result read
+  pub within : IfOk result (λ end. end ≤ length bytes)
+  pub runs : new.runs ≡ old.runs
+  pub kept : old.kept ≡ [] → new.kept ≡ []

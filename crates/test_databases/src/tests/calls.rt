@@ -7,7 +7,7 @@ use lsa_codec::{Addr, Lsa, LsaFault, MakeFault, Prefix, RouterId};
 use lsdb::{Database, DumpFault, DumpFaultKind};
 use std::alloc::{AllocError, Global};
 use std::test::*;
-use test_support::{Answer, FailingAlloc, FallibleCall, Outcome, first_wrong};
+use test_support::{Answer, CallOn, FailingAlloc, FallibleCall, Outcome, first_wrong, outcome_of};
 
 /// What is called.
 #[derive(Clone, Copy)]
@@ -162,66 +162,56 @@ fn text(alloc: Global, text: Result<Vec<u8, &FailingAlloc>, AllocError>) -> Resu
     }
 }
 
-/// What a call answers.
-fn answer<'a>(
-    alloc: Global,
-    failing: &'a FailingAlloc,
-    lent: &Lent<'a>,
-    call: Call,
-) -> Result<Answer, Fail> {
-    let database = &lent.database;
-    match call {
-        Call::Decode => read(alloc, Lsa::decode(failing, SUMMARY).map(|found| found.0)),
-        Call::CopyLsa => read(
-            alloc,
-            lent.router
-                .clone_of(failing)
-                .map_err(|_| LsaFault::OutOfMemory),
-        ),
-        Call::Load => loaded(alloc, failing, Database::load(failing, NETS)),
-        Call::LoadBase => loaded(
-            alloc,
-            failing,
-            Database::load_base(failing, BASE).map(|found| found.0),
-        ),
-        Call::CopyDatabase => loaded(alloc, failing, database.clone_of().map_err(|_| NO_MEMORY)),
-        Call::Dump => text(alloc, database.dump()),
-        Call::DumpBase => text(alloc, database.dump_base()),
-        Call::Print => text(
-            alloc,
-            print(failing, &lent.edit).map(|line| line.into_bytes()),
-        ),
-        Call::WithMetric | Call::NewSummary | Call::NewExternal => {
-            made(alloc, of_summary(failing, &lent.summary, call))
-        }
-        _ => made(alloc, of_router(failing, &lent.router, call)),
-    }
-}
-
 /// The fault of a dump for which there is no memory.
 const NO_MEMORY: DumpFault = DumpFault {
     offset: 0,
     kind: DumpFaultKind::OutOfMemory,
 };
 
-/// What is seen of a call with this number of growths, and then with ample memory.
-fn outcome_on<'a>(
-    alloc: Global,
-    failing: &'a FailingAlloc,
-    lent: &Lent<'a>,
-    call: Call,
-    growths: u64,
-) -> Result<Outcome, Fail> {
-    failing.set_remaining(growths);
-    let first = answer(alloc, failing, lent, call)?;
-    failing.set_remaining(u64::MAX);
-    let then = answer(alloc, failing, lent, call)?;
-    Ok(Outcome::of_answers(alloc, first, then))
+impl<'a> CallOn<'a, Lent<'a>> for Call {
+    fn answer(
+        &self,
+        alloc: Global,
+        failing: &'a FailingAlloc,
+        lent: &mut Lent<'a>,
+    ) -> Result<Answer, Fail> {
+        let database = &lent.database;
+        match self {
+            Call::Decode => read(alloc, Lsa::decode(failing, SUMMARY).map(|found| found.0)),
+            Call::CopyLsa => read(
+                alloc,
+                lent.router
+                    .clone_of(failing)
+                    .map_err(|_| LsaFault::OutOfMemory),
+            ),
+            Call::Load => loaded(alloc, failing, Database::load(failing, NETS)),
+            Call::LoadBase => loaded(
+                alloc,
+                failing,
+                Database::load_base(failing, BASE).map(|found| found.0),
+            ),
+            Call::CopyDatabase => loaded(
+                alloc,
+                failing,
+                database.clone_of().map_err(|_| NO_MEMORY),
+            ),
+            Call::Dump => text(alloc, database.dump()),
+            Call::DumpBase => text(alloc, database.dump_base()),
+            Call::Print => text(
+                alloc,
+                print(failing, &lent.edit).map(|line| line.into_bytes()),
+            ),
+            Call::WithMetric | Call::NewSummary | Call::NewExternal => {
+                made(alloc, of_summary(failing, &lent.summary, *self))
+            }
+            _ => made(alloc, of_router(failing, &lent.router, *self)),
+        }
+    }
 }
 
 impl FallibleCall for Call {
     fn outcome(&self, alloc: Global, failing: &FailingAlloc, left: u64) -> Result<Outcome, Fail> {
-        outcome_on(alloc, failing, &lend(failing)?, *self, left)
+        outcome_of(alloc, failing, lend(failing)?, *self, left)
     }
 }
 

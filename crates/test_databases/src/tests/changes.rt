@@ -1,7 +1,8 @@
 //! The one LSA that the last edit, or taking one back, has changed.
 
-use super::edited::{back, edited};
+use super::edited::{edited, move_by};
 use super::nets::NETS;
+use crate::edited::Way;
 use edit_history::{Change, Moved};
 use std::alloc::Global;
 use std::test::*;
@@ -59,7 +60,7 @@ fn are_reported(
     next: Option<&[u8]>,
 ) -> Result<bool, Fail> {
     let (mut database, mut history) = edited(alloc, NETS, &[line])?;
-    back(&mut database, &mut history, count)?;
+    move_by(&mut database, &mut history, Way::Back, count)?;
     Ok(
         is_change_so(history.one_change(Moved::On(1)), last)
             && is_change_so(history.one_change(Moved::Back(1)), next),

@@ -3,7 +3,9 @@
 use super::nets::NETS;
 use super::refreshes::STALE;
 use crate::filled::{area_of, as_list_of};
-use std::alloc::{AllocError, Global};
+use std::alloc::Global;
+use std::test::Fail;
+use test_support::dump_of_text;
 
 /// A dump.
 #[derive(Clone, Copy)]
@@ -19,11 +21,11 @@ pub(super) enum Dump {
 }
 
 /// The bytes of a dump.
-pub(super) fn bytes_of(alloc: Global, dump: Dump) -> Result<Vec<u8>, AllocError> {
-    match dump {
-        Dump::Nets => Vec::from_slice(alloc, NETS),
-        Dump::Stale => Vec::from_slice(alloc, STALE),
-        Dump::Area(lsas) => area_of(alloc, lsas),
-        Dump::AsList(lsas) => as_list_of(alloc, lsas),
-    }
+pub(super) fn bytes_of(alloc: Global, dump: Dump) -> Result<Vec<u8>, Fail> {
+    Ok(match dump {
+        Dump::Nets => Vec::from_slice(alloc, NETS)?,
+        Dump::Stale => dump_of_text(alloc, STALE)?,
+        Dump::Area(lsas) => area_of(alloc, lsas)?,
+        Dump::AsList(lsas) => as_list_of(alloc, lsas)?,
+    })
 }

@@ -4,8 +4,8 @@
 ghost use Rattle.std.specs.Prelude.{IfOk};
 ghost use Rattle.edit_history.specs.Journal.{Links};
 
-use crate::edited;
-use edit_history::{EditFault, History, RedoFault, UndoFault};
+use crate::edited::{self, Way};
+use edit_history::{EditFault, History};
 use edit_script::Edit;
 use lsdb::Database;
 use std::alloc::Allocator;
@@ -34,26 +34,15 @@ pub(super) fn edited<A: Allocator + Copy>(
     edited::edited(alloc, dump, lines)
 }
 
-/// Takes edits back, one at a time.
-pub(super) fn back<A: Allocator + Copy>(
+/// Moves edits, one at a time.
+pub(super) fn move_by<A: Allocator + Copy>(
     database: &mut Database<A>,
     history: &mut History<A>,
+    way: Way,
     count: usize,
-) -> Result<(), UndoFault>
+) -> Result<(), Fail>
     requires { Links database.old history.old.lists }
     ensures { Links database.new history.new.lists }
 {
-    edited::back(database, history, count)
-}
-
-/// Carries undone edits out again, one at a time.
-pub(super) fn on<A: Allocator + Copy>(
-    database: &mut Database<A>,
-    history: &mut History<A>,
-    count: usize,
-) -> Result<(), RedoFault>
-    requires { Links database.old history.old.lists }
-    ensures { Links database.new history.new.lists }
-{
-    edited::on(database, history, count)
+    edited::move_by(database, history, way, count)
 }

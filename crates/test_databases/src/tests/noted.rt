@@ -3,8 +3,9 @@
 
 ghost use Rattle.edit_history.specs.Journal.{Links};
 
-use super::edited::{apply_and_push, back, edited};
+use super::edited::{apply_and_push, edited, move_by};
 use super::nets::{NETS, edit_of};
+use crate::edited::Way;
 use edit_history::History;
 use lsa_codec::{Addr, Prefix, RouterId};
 use lsdb::Database;
@@ -110,7 +111,7 @@ fn are_noted_after_edits<A: Allocator + Copy>(
     let edited = are_noted(alloc, database, EDITED)?;
     let copied = are_noted_in_copy(alloc, database)?;
     failing.set_remaining(0);
-    back(database, history, 2)?;
+    move_by(database, history, Way::Back, 2)?;
     Ok([loaded, edited, copied, are_noted(alloc, database, EDITED)?])
 }
 

@@ -2,8 +2,9 @@
 
 ghost use Rattle.edit_history.specs.Journal.{Links};
 
-use super::edited::{apply_and_push, back, edited, on};
+use super::edited::{apply_and_push, edited, move_by};
 use super::nets::{NETS, TEN_EDITS, edit_of, is_after};
+use crate::edited::Way;
 use edit_history::{EditFault, History};
 use lsa_codec::{Addr, Key, RouterId};
 use lsdb::{Database, Section, SlotId};
@@ -20,9 +21,9 @@ fn go_one_by_one<A: Allocator + Copy>(
     requires { Links database.old history.old.lists }
     ensures { Links database.new history.new.lists }
 {
-    back(database, history, 10)?;
+    move_by(database, history, Way::Back, 10)?;
     let are_back = is_after(alloc, database, &[])?;
-    on(database, history, 10)?;
+    move_by(database, history, Way::On, 10)?;
     Ok(are_back && is_after(alloc, database, TEN_EDITS)?)
 }
 

@@ -10,6 +10,38 @@ use std::alloc::Global;
 use std::test::*;
 use test_support::{NETWORK, dump_of_text};
 
+/// A network that tables name.
+#[derive(Clone, Copy)]
+pub(super) enum Network {
+    /// That of a text.
+    Text(&'static str),
+    /// That which calls are made on.
+    TwoAreas,
+    /// The same, where the AS-external-LSA of 3.3.3.3 has age MaxAge.
+    AtMaxAge,
+}
+
+/// Where the LS age of the AS-external-LSA of 3.3.3.3 begins in the network.
+const AGE_AT: usize = 366;
+
+/// The network, in which that LSA has age MaxAge, 3600 seconds. The checksum does not cover it.
+fn network_at_max_age(alloc: Global) -> Result<Vec<u8>, Fail> {
+    let mut dump = Vec::from_slice(alloc, NETWORK)?;
+    let [high, low] = 3600u16.to_be_bytes();
+    *dump.get_mut(AGE_AT).ok_or("the age")? = high;
+    *dump.get_mut(AGE_AT + 1).ok_or("the age")? = low;
+    Ok(dump)
+}
+
+/// The dump of a network.
+fn dump_of(alloc: Global, network: Network) -> Result<Vec<u8>, Fail> {
+    Ok(match network {
+        Network::Text(text) => dump_of_text(alloc, text)?,
+        Network::TwoAreas => Vec::from_slice(alloc, NETWORK)?,
+        Network::AtMaxAge => network_at_max_age(alloc)?,
+    })
+}
+
 /// The forwarding graph of an address in the database of a dump.
 pub(super) fn graph_of(alloc: Global, dump: &[u8], address: u32) -> Result<ForwardingGraph, Fail> {
     let database = Database::load(alloc, dump)?;
@@ -23,10 +55,14 @@ pub(super) fn area_graphs(alloc: Global) -> Result<AreaGraphs, Fail> {
     Ok(AreaGraphs::of(alloc, &database)?)
 }
 
-/// The routers that packets for an address reach from a router, how they end, and the loops, in the
-/// database of a dump.
-pub(super) fn path_in(alloc: Global, dump: &[u8], from: u32, address: u32) -> Result<String, Fail> {
-    let graph = graph_of(alloc, dump, address)?;
+/// The routers that packets for an address reach from a router, how they end, and the loops.
+pub(super) fn path(
+    alloc: Global,
+    network: Network,
+    from: u32,
+    address: u32,
+) -> Result<String, Fail> {
+    let graph = graph_of(alloc, &dump_of(alloc, network)?, address)?;
     let reached = graph.reached(alloc, RouterId(from))?;
     let mut path = String::new(alloc);
     push_routers(alloc, &mut path, &reached)?;
@@ -45,10 +81,4 @@ pub(super) fn path_in(alloc: Global, dump: &[u8], from: u32, address: u32) -> Re
         push_routers(alloc, &mut path, found.as_slice())?;
     }
     Ok(path)
-}
-
-/// The same in the database that a text describes.
-pub(super) fn path(alloc: Global, text: &str, from: u32, address: u32) -> Result<String, Fail> {
-    let dump = dump_of_text(alloc, text)?;
-    path_in(alloc, &dump, from, address)
 }

@@ -11,11 +11,12 @@ use spf::Meter;
 use std::alloc::Global;
 use std::test::*;
 use test_support::{
-    Answer, FailingAlloc, FallibleCall, NETWORK, Outcome, R1, R2, dump_of_text, growths_of,
+    Answer, CallOn, FailingAlloc, FallibleCall, NETWORK, Outcome, R1, R2, dump_of_text,
+    first_wrong, outcome_of,
 };
 
 /// What is called.
-#[derive(Clone, Copy, Debug)]
+#[derive(Clone, Copy)]
 enum Call {
     AreaGraphs,
     FarEnds,
@@ -133,62 +134,39 @@ fn answer_by_routes<'a>(
     }
 }
 
-/// What a call answers.
-fn answer_of<'a>(
-    alloc: Global,
-    failing: &'a FailingAlloc,
-    lent: &Lent<'a>,
-    call: Call,
-) -> Result<Answer, Fail> {
-    let (database, graphs) = (&lent.database, &lent.graphs);
-    match call {
-        Call::AreaGraphs => of_area_graphs(alloc, failing, AreaGraphs::of(failing, database)),
-        Call::FarEnds => of_routers(alloc, graphs.far_ends(failing, ROUTER, LINK)),
-        Call::Owners => of_routers(alloc, graphs.owners(failing, ROUTER, FIRST, SECOND)),
-        Call::Routes => {
-            let routes = RouterRoutes::of(failing, database, ROUTER, &mut Meter::new());
-            of_routes(alloc, failing, graphs, routes)
+impl<'a> CallOn<'a, Lent<'a>> for Call {
+    fn answer(
+        &self,
+        alloc: Global,
+        failing: &'a FailingAlloc,
+        lent: &mut Lent<'a>,
+    ) -> Result<Answer, Fail> {
+        let (database, graphs) = (&lent.database, &lent.graphs);
+        match self {
+            Call::AreaGraphs => of_area_graphs(alloc, failing, AreaGraphs::of(failing, database)),
+            Call::FarEnds => of_routers(alloc, graphs.far_ends(failing, ROUTER, LINK)),
+            Call::Owners => of_routers(alloc, graphs.owners(failing, ROUTER, FIRST, SECOND)),
+            Call::Routes => {
+                let routes = RouterRoutes::of(failing, database, ROUTER, &mut Meter::new());
+                of_routes(alloc, failing, graphs, routes)
+            }
+            Call::Forwarding => {
+                let forwarding = Forwarding::of(failing, database, &mut Meter::new());
+                of_forwarding(alloc, failing, forwarding)
+            }
+            _ => answer_by_routes(alloc, failing, lent, *self),
         }
-        Call::Forwarding => {
-            let forwarding = Forwarding::of(failing, database, &mut Meter::new());
-            of_forwarding(alloc, failing, forwarding)
-        }
-        _ => answer_by_routes(alloc, failing, lent, call),
     }
 }
 
-/// What is seen of a call with this number of growths.
-fn outcome_on<'a>(
-    alloc: Global,
-    failing: &'a FailingAlloc,
-    lent: &Lent<'a>,
-    call: Call,
-    growths: u64,
-) -> Result<Outcome, Fail> {
-    failing.set_remaining(growths);
-    let first = answer_of(alloc, failing, lent, call)?;
-    failing.set_remaining(u64::MAX);
-    let then = answer_of(alloc, failing, lent, call)?;
-    Ok(Outcome::of_answers(alloc, first, then))
-}
-
 impl FallibleCall for Call {
-    fn outcome(
-        &self,
-        alloc: Global,
-        failing: &FailingAlloc,
-        growths: u64,
-    ) -> Result<Outcome, Fail> {
-        let lent = lend(alloc, failing)?;
-        outcome_on(alloc, failing, &lent, *self, growths)
+    fn outcome(&self, alloc: Global, failing: &FailingAlloc, left: u64) -> Result<Outcome, Fail> {
+        outcome_of(alloc, failing, lend(alloc, failing)?, *self, left)
     }
 }
 
 #[test]
 fn each_growth_of_a_call_refused(rt: HostRuntime) -> Result<(), Fail> {
-    for call in CALLS {
-        let growths = growths_of(rt.alloc(), call)?;
-        assert!(rt; 0 < growths, "{call:?}");
-    }
+    assert_eq!(rt; first_wrong(rt.alloc(), CALLS)?, None);
     Ok(())
 }

@@ -2,16 +2,16 @@
 
 use super::answers::{of_bytes, of_routers};
 use super::network::{ROUTER, database_of};
-use super::outcomes::{Subject, outcome_of};
+use super::outcomes::outcome_on;
 use branches::{Branches, reply_text};
-use edit_script::{Command, parse};
+use edit_script::parse;
 use std::alloc::{AllocError, Global};
 use std::test::*;
-use test_support::{Answer, FailingAlloc, FallibleCall, Outcome, growths_of};
+use test_support::{Answer, CallOn, FailingAlloc, FallibleCall, Outcome, first_wrong};
 
 /// What is called. The first command in a branch, 1, is made where no other branch but 0 was
 /// named. Branch 1 is named before each other call.
-#[derive(Clone, Copy, Debug)]
+#[derive(Clone, Copy)]
 enum Call {
     StepEdit,
     StepTable,
@@ -105,16 +105,6 @@ fn prepare(branches: &mut Branches<&FailingAlloc>, call: Call) -> Result<(), Fai
     }
 }
 
-/// The session of branch 0, saved, and the dump of each branch and what it counts.
-fn bytes_of(alloc: Global, branches: &mut Branches<&FailingAlloc>) -> Result<Vec<u8>, Fail> {
-    let mut bytes = Vec::from_slice(alloc, &branches.save()?)?;
-    for branch in 0..8 {
-        bytes.extend_from_slice(&branches.dump(branch)?)?;
-        bytes.extend_from_slice(&branches.answer(branch, &Command::Info)?.text)?;
-    }
-    Ok(bytes)
-}
-
 /// The text of the reply to the line of a call, carried out by `step`. There is ample memory for
 /// the text, and from then on.
 fn stepped<'a>(
@@ -166,41 +156,34 @@ fn is_answered(call: Call) -> bool {
     }
 }
 
-impl<'a> Subject<'a, Call> for Branches<&'a FailingAlloc> {
-    fn bytes(&mut self, alloc: Global) -> Result<Vec<u8>, Fail> {
-        bytes_of(alloc, self)
-    }
-
+impl<'a> CallOn<'a, Branches<&'a FailingAlloc>> for Call {
     fn answer(
-        &mut self,
+        &self,
         alloc: Global,
         failing: &'a FailingAlloc,
-        call: Call,
+        branches: &mut Branches<&'a FailingAlloc>,
     ) -> Result<Answer, Fail> {
-        match call {
-            Call::Routers => of_routers(alloc, self.routers(1)),
-            Call::RoutersUnnamed => of_routers(alloc, self.routers(2)),
-            Call::PushTable | Call::PushFirstTable => pushed(alloc, failing, self),
-            Call::Dump => of_bytes(alloc, self.dump(0)),
-            Call::DumpNamed => of_bytes(alloc, self.dump(1)),
-            Call::DumpUnnamed => of_bytes(alloc, self.dump(2)),
-            Call::Save => of_bytes(alloc, self.save()),
-            call if is_answered(call) => answered(alloc, self, call),
-            call => stepped(alloc, failing, self, call),
+        if is_answered(*self) {
+            return answered(alloc, branches, *self);
+        }
+        match self {
+            Call::Routers => of_routers(alloc, branches.routers(1)),
+            Call::RoutersUnnamed => of_routers(alloc, branches.routers(2)),
+            Call::PushTable | Call::PushFirstTable => pushed(alloc, failing, branches),
+            Call::Dump => of_bytes(alloc, branches.dump(0)),
+            Call::DumpNamed => of_bytes(alloc, branches.dump(1)),
+            Call::DumpUnnamed => of_bytes(alloc, branches.dump(2)),
+            Call::Save => of_bytes(alloc, branches.save()),
+            _ => stepped(alloc, failing, branches, *self),
         }
     }
 }
 
 impl FallibleCall for Call {
-    fn outcome(
-        &self,
-        alloc: Global,
-        failing: &FailingAlloc,
-        growths: u64,
-    ) -> Result<Outcome, Fail> {
+    fn outcome(&self, alloc: Global, failing: &FailingAlloc, left: u64) -> Result<Outcome, Fail> {
         let mut branches = Branches::new(failing, database_of(failing)?);
         prepare(&mut branches, *self)?;
-        outcome_of(alloc, failing, &mut branches, *self, growths)
+        outcome_on(alloc, failing, &mut branches, *self, left)
     }
 
     fn may_be_done(&self) -> bool {
@@ -210,9 +193,6 @@ impl FallibleCall for Call {
 
 #[test]
 fn each_growth_of_a_call_refused(rt: HostRuntime) -> Result<(), Fail> {
-    for call in CALLS {
-        let growths = growths_of(rt.alloc(), call)?;
-        assert!(rt; 0 < growths, "{call:?}");
-    }
+    assert_eq!(rt; first_wrong(rt.alloc(), CALLS)?, None);
     Ok(())
 }

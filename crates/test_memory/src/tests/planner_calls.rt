@@ -2,20 +2,19 @@
 
 use super::answers::{of_bytes, of_fault, of_made_table, of_routers, of_table, of_table_of};
 use super::network::{OTHER, ROUTER, cost, database_of, no_link};
-use super::outcomes::{Subject, outcome_of};
+use super::outcomes::outcome_on;
 use edit_history::EditFault;
 use lsa_codec::RouterId;
 use lsdb::Database;
 use recalculate::Planner;
-use saved_sessions::save;
 use std::alloc::{AllocError, Global};
 use std::test::*;
-use test_support::{Answer, FailingAlloc, FallibleCall, Outcome, growths_of};
+use test_support::{Answer, CallOn, FailingAlloc, FallibleCall, Outcome, first_wrong};
 
 /// What is called. Before a table after an edit, an undo or a redo there was a table, whose trees
 /// are kept but for those of the area that is touched. After a refused edit all are kept. A second
 /// table of the loaded database is made over a copy of it, where many edits are done.
-#[derive(Clone, Copy, Debug)]
+#[derive(Clone, Copy)]
 enum Call {
     Edit,
     Dump,
@@ -55,18 +54,6 @@ const CALLS: &[Call] = &[
     Call::BaseOfCopy,
     Call::CachedTable,
 ];
-
-/// What a planner counts, its dump and its session, saved.
-pub(super) fn bytes_of(
-    alloc: Global,
-    planner: &mut Planner<&FailingAlloc>,
-) -> Result<Vec<u8>, Fail> {
-    let info = planner.info();
-    let mut bytes = format!(in alloc; "{info:?}")?.into_bytes();
-    bytes.extend_from_slice(&planner.dump()?)?;
-    bytes.extend_from_slice(&save(planner)?)?;
-    Ok(bytes)
-}
 
 /// Makes a table, whose trees are kept.
 fn keep_trees(planner: &mut Planner<&FailingAlloc>) -> Result<(), Fail> {
@@ -173,57 +160,45 @@ fn of_edited_table<'a>(
     Ok(done.and(table))
 }
 
-impl<'a> Subject<'a, Call> for Planner<&'a FailingAlloc> {
-    fn bytes(&mut self, alloc: Global) -> Result<Vec<u8>, Fail> {
-        bytes_of(alloc, self)
-    }
-
+impl<'a> CallOn<'a, Planner<&'a FailingAlloc>> for Call {
     fn answer(
-        &mut self,
+        &self,
         alloc: Global,
         failing: &'a FailingAlloc,
-        call: Call,
+        planner: &mut Planner<&'a FailingAlloc>,
     ) -> Result<Answer, Fail> {
-        match call {
-            Call::Edit => of_edit(alloc, self.edit(&cost(7))),
-            Call::EditThenTable => of_edited_table(alloc, failing, self),
-            Call::Dump => of_bytes(alloc, self.dump()),
-            Call::DumpBase => of_bytes(alloc, self.dump_base()),
-            Call::Base | Call::BaseOfCopy => of_database(alloc, failing, self.base()),
-            Call::Routers => of_routers(alloc, self.routers()),
-            Call::BaseTable => of_table(alloc, failing, self.base_table(ROUTER)),
+        match self {
+            Call::Edit => of_edit(alloc, planner.edit(&cost(7))),
+            Call::EditThenTable => of_edited_table(alloc, failing, planner),
+            Call::Dump => of_bytes(alloc, planner.dump()),
+            Call::DumpBase => of_bytes(alloc, planner.dump_base()),
+            Call::Base | Call::BaseOfCopy => of_database(alloc, failing, planner.base()),
+            Call::Routers => of_routers(alloc, planner.routers()),
+            Call::BaseTable => of_table(alloc, failing, planner.base_table(ROUTER)),
             Call::BaselineTable | Call::CopyForBaseTable | Call::BaseTableOverCopy =>
-                match self.baseline_table(ROUTER) {
+                match planner.baseline_table(ROUTER) {
                     Ok(table) => of_made_table(alloc, failing, &table),
                     Err(fault) => of_fault(fault),
                 },
-            Call::CachedTable => match self.cached_table(ROUTER) {
+            Call::CachedTable => match planner.cached_table(ROUTER) {
                 Ok(table) => of_made_table(alloc, failing, &table),
                 Err(fault) => of_fault(fault),
             },
-            _ => of_table_now(alloc, failing, self),
+            _ => of_table_now(alloc, failing, planner),
         }
     }
 }
 
 impl FallibleCall for Call {
-    fn outcome(
-        &self,
-        alloc: Global,
-        failing: &FailingAlloc,
-        growths: u64,
-    ) -> Result<Outcome, Fail> {
+    fn outcome(&self, alloc: Global, failing: &FailingAlloc, left: u64) -> Result<Outcome, Fail> {
         let mut planner = Planner::new(failing, database_of(failing)?);
         prepare(&mut planner, *self)?;
-        outcome_of(alloc, failing, &mut planner, *self, growths)
+        outcome_on(alloc, failing, &mut planner, *self, left)
     }
 }
 
 #[test]
 fn each_growth_of_a_call_refused(rt: HostRuntime) -> Result<(), Fail> {
-    for call in CALLS {
-        let growths = growths_of(rt.alloc(), call)?;
-        assert!(rt; 0 < growths, "{call:?}");
-    }
+    assert_eq!(rt; first_wrong(rt.alloc(), CALLS)?, None);
     Ok(())
 }

@@ -23,7 +23,7 @@ use routing_table::{KeptTrees, routers};
 use spf::{Meter, Tree};
 use std::alloc::{AllocError, Global};
 use std::test::*;
-use test_support::{Answer, FailingAlloc, FallibleCall, Outcome, first_wrong};
+use test_support::{Answer, CallOn, FailingAlloc, FallibleCall, Outcome, first_wrong, outcome_of};
 
 /// What is called.
 #[derive(Clone, Copy)]
@@ -119,7 +119,7 @@ fn area_by<'a>(
     AreaResult::build(failing, database, area, graph, tree, hops, &stubs)
 }
 
-/// What an area gives with this number of growths, and then with ample memory.
+/// What is seen of an area with this number of growths, and then with ample memory.
 fn area_on<'a>(
     alloc: Global,
     failing: &'a FailingAlloc,
@@ -129,7 +129,7 @@ fn area_on<'a>(
     tree: &Tree<&'a FailingAlloc>,
     hops: &Hops<&'a FailingAlloc>,
     growths: u64,
-) -> Result<(Answer, Answer), Fail>
+) -> Result<Outcome, Fail>
     requires { (root : AnyRouter)
         × AreOf (lsas_of (Area area) (lists_of database.now)) root graph.now tree.now hops.now }
 {
@@ -138,7 +138,7 @@ fn area_on<'a>(
     let first = of_area(alloc, first)?;
     failing.set_remaining(u64::MAX);
     let then = area_by(failing, database, area, graph, tree, hops);
-    Ok((first, of_area(alloc, then)?))
+    Ok(Outcome::of_answers(alloc, first, of_area(alloc, then)?))
 }
 
 /// The same by a graph and a tree of the area, of which the hops are made for it.
@@ -150,7 +150,7 @@ fn area_by_tree<'a>(
     graph: &Graph<&'a FailingAlloc>,
     tree: &Tree<&'a FailingAlloc>,
     growths: u64,
-) -> Result<(Answer, Answer), Fail>
+) -> Result<Outcome, Fail>
     requires graph { IsGraphOf (lsas_of (Area area) (lists_of database.now)) graph.now }
     requires tree { (root : AnyRouter) × IsTreeOf graph.now (Router root) tree.now }
 {
@@ -166,7 +166,7 @@ fn area_by_graph<'a>(
     area: AreaId,
     graph: &Graph<&'a FailingAlloc>,
     growths: u64,
-) -> Result<(Answer, Answer), Fail>
+) -> Result<Outcome, Fail>
     requires { IsGraphOf (lsas_of (Area area) (lists_of database.now)) graph.now }
 {
     let tree = Tree::build(failing, graph, ROUTER, &mut Meter::new())?;
@@ -179,7 +179,7 @@ fn area_with<'a>(
     failing: &'a FailingAlloc,
     database: &Database<&'a FailingAlloc>,
     growths: u64,
-) -> Result<(Answer, Answer), Fail> {
+) -> Result<Outcome, Fail> {
     let area = AreaId(0);
     let graph = Graph::build(failing, database, area)?;
     area_by_graph(alloc, failing, database, area, &graph, growths)
@@ -209,6 +209,14 @@ pub(super) fn lend(failing: &FailingAlloc) -> Result<Lent<'_>, Fail> {
     })
 }
 
+/// The inter-area routes, and entries of routers.
+fn inter_on<'a>(
+    failing: &'a FailingAlloc,
+    lent: &Lent<'a>,
+) -> Result<InterResult<&'a FailingAlloc>, AllocError> {
+    inter(failing, &lent.database, ROUTER, &lent.results, &lent.intra)
+}
+
 /// The external routes, by the AS-external-LSAs, which are listed for them.
 fn externals_on<'a>(
     failing: &'a FailingAlloc,
@@ -219,72 +227,38 @@ fn externals_on<'a>(
     externals(failing, &lent.database, &lsas, ROUTER, intra, routers)
 }
 
-/// What a call answers.
-fn answer_of<'a>(
-    alloc: Global,
-    failing: &'a FailingAlloc,
-    lent: &Lent<'a>,
-    call: Call,
-) -> Result<Answer, Fail> {
-    let database = &lent.database;
-    match call {
-        Call::Intra => match intra(failing, &lent.results) {
-            Ok(routes) => of_routes(alloc, routes.as_routes()),
-            Err(AllocError) => Ok(None),
-        },
-        Call::Inter => {
-            let found = inter(failing, database, ROUTER, &lent.results, &lent.intra);
-            of_inter(alloc, found)
+impl<'a> CallOn<'a, Lent<'a>> for Call {
+    fn answer(
+        &self,
+        alloc: Global,
+        failing: &'a FailingAlloc,
+        lent: &mut Lent<'a>,
+    ) -> Result<Answer, Fail> {
+        match self {
+            Call::Intra => match intra(failing, &lent.results) {
+                Ok(routes) => of_routes(alloc, routes.as_routes()),
+                Err(AllocError) => Ok(None),
+            },
+            Call::Inter => of_inter(alloc, inter_on(failing, lent)),
+            Call::Externals => match externals_on(failing, lent) {
+                Ok(routes) => of_routes(alloc, &routes),
+                Err(AllocError) => Ok(None),
+            },
+            Call::Routers => of_routers(alloc, routers(failing, &lent.database)),
+            _ => of_table_of(alloc, failing, &lent.database),
         }
-        Call::Externals => match externals_on(failing, lent) {
-            Ok(routes) => of_routes(alloc, &routes),
-            Err(AllocError) => Ok(None),
-        },
-        Call::Routers => of_routers(alloc, routers(failing, database)),
-        _ => of_table_of(alloc, failing, database),
     }
-}
-
-/// What a call answers with this number of growths, and then with ample memory.
-fn answers_with<'a>(
-    alloc: Global,
-    failing: &'a FailingAlloc,
-    lent: &Lent<'a>,
-    call: Call,
-    growths: u64,
-) -> Result<(Answer, Answer), Fail> {
-    failing.set_remaining(growths);
-    let first = answer_of(alloc, failing, lent, call)?;
-    failing.set_remaining(u64::MAX);
-    Ok((first, answer_of(alloc, failing, lent, call)?))
-}
-
-/// What is seen of a call.
-fn outcome_on<'a>(
-    alloc: Global,
-    failing: &'a FailingAlloc,
-    lent: &Lent<'a>,
-    call: Call,
-    growths: u64,
-) -> Result<Outcome, Fail> {
-    let (first, then) = match call {
-        Call::Area => area_with(alloc, failing, &lent.database, growths)?,
-        Call::AreaOfFew => {
-            area_with(
-                alloc,
-                failing,
-                &lonely_database_of(alloc, failing)?,
-                growths,
-            )?
-        }
-        _ => answers_with(alloc, failing, lent, call, growths)?,
-    };
-    Ok(Outcome::of_answers(alloc, first, then))
 }
 
 impl FallibleCall for Call {
     fn outcome(&self, alloc: Global, failing: &FailingAlloc, left: u64) -> Result<Outcome, Fail> {
-        outcome_on(alloc, failing, &lend(failing)?, *self, left)
+        match self {
+            Call::Area => area_with(alloc, failing, &database_of(failing)?, left),
+            Call::AreaOfFew => {
+                area_with(alloc, failing, &lonely_database_of(alloc, failing)?, left)
+            }
+            _ => outcome_of(alloc, failing, lend(failing)?, *self, left),
+        }
     }
 }
 

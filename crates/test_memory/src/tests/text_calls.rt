@@ -8,10 +8,10 @@ use edit_script::parse;
 use std::alloc::{AllocError, Global};
 use std::test::*;
 use table_report::{compare_text, table_text};
-use test_support::{FailingAlloc, FallibleCall, Outcome, growths_of};
+use test_support::{Answer, CallOn, FailingAlloc, FallibleCall, Outcome, first_wrong, outcome_of};
 
 /// What is called.
-#[derive(Clone, Copy, Debug)]
+#[derive(Clone, Copy)]
 enum Call {
     Table,
     Compare,
@@ -76,19 +76,15 @@ fn text_of<'a>(
     }
 }
 
-/// What is seen of a call on a reply.
-fn outcome_on<'a>(
-    alloc: Global,
-    failing: &'a FailingAlloc,
-    reply: &Reply<&'a FailingAlloc>,
-    call: Call,
-    growths: u64,
-) -> Result<Outcome, Fail> {
-    failing.set_remaining(growths);
-    let first = of_bytes(alloc, text_of(failing, reply, call))?;
-    failing.set_remaining(u64::MAX);
-    let then = of_bytes(alloc, text_of(failing, reply, call))?;
-    Ok(Outcome::of_answers(alloc, first, then))
+impl<'a> CallOn<'a, Reply<&'a FailingAlloc>> for Call {
+    fn answer(
+        &self,
+        alloc: Global,
+        failing: &'a FailingAlloc,
+        reply: &mut Reply<&'a FailingAlloc>,
+    ) -> Result<Answer, Fail> {
+        of_bytes(alloc, text_of(failing, reply, *self))
+    }
 }
 
 /// What is seen of a call on the reply to its line, after the edits. No function hands the reply
@@ -103,26 +99,18 @@ fn outcome_after<'a>(
     carry_out(branches, EDITS)?;
     let (branch, command) = parse(line_of(call).as_bytes())?;
     let reply = branches.step(branch, &command)?;
-    outcome_on(alloc, failing, &reply, call, growths)
+    outcome_of(alloc, failing, reply, call, growths)
 }
 
 impl FallibleCall for Call {
-    fn outcome(
-        &self,
-        alloc: Global,
-        failing: &FailingAlloc,
-        growths: u64,
-    ) -> Result<Outcome, Fail> {
+    fn outcome(&self, alloc: Global, failing: &FailingAlloc, left: u64) -> Result<Outcome, Fail> {
         let mut branches = Branches::new(failing, database_of(failing)?);
-        outcome_after(alloc, failing, &mut branches, *self, growths)
+        outcome_after(alloc, failing, &mut branches, *self, left)
     }
 }
 
 #[test]
 fn each_growth_of_a_call_refused(rt: HostRuntime) -> Result<(), Fail> {
-    for call in CALLS {
-        let growths = growths_of(rt.alloc(), call)?;
-        assert!(rt; 0 < growths, "{call:?}");
-    }
+    assert_eq!(rt; first_wrong(rt.alloc(), CALLS)?, None);
     Ok(())
 }

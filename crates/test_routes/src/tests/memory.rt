@@ -7,5 +7,5 @@ mod texts;
 
 // The calls.
 mod calls;
-mod layers;
+mod hops;
 mod readers;

@@ -1,11 +1,11 @@
 //! Whole runs in which each growth is refused in turn.
 
-use super::dumps::{NETWORK, SAVED, TWO_AREAS};
+use super::dumps::{Beginning, bytes_of};
 use super::outcome::{Outcome, run_whole};
 use std::alloc::Global;
 use std::test::*;
 use test_support::FailingAlloc;
-use whole_run::{RunFault, SAMPLE};
+use whole_run::RunFault;
 
 const ON_SAMPLE: &[u8] =
     b"cost 0.0.0.0 1.1.1.1 1 65535\n# note\nfrob\ncost 0.0.0.0 1.1.1.1 1 0\nundo 2\nundo 1\n";
@@ -131,11 +131,20 @@ fn ends_early_or_well(alloc: Global, dump: &[u8], script: &[u8]) -> bool {
         && ended.save.stream.as_slice() == ample.save.stream.as_slice()
 }
 
+/// The same of a run by what it begins at.
+fn ends_well(alloc: Global, beginning: Beginning, script: &[u8]) -> Result<bool, Fail> {
+    let bytes = bytes_of(alloc, beginning)?;
+    Ok(ends_early_or_well(alloc, &bytes, script))
+}
+
 #[test]
 fn each_growth_refused_on_the_sample_and_on_a_network(rt: HostRuntime) -> Result<(), Fail> {
-    assert!(rt; ends_early_or_well(rt.alloc(), SAMPLE, ON_SAMPLE), "sample");
     assert!(rt;
-        ends_early_or_well(rt.alloc(), NETWORK, ON_NETWORK),
+        ends_well(rt.alloc(), Beginning::Sample, ON_SAMPLE)?,
+        "sample"
+    );
+    assert!(rt;
+        ends_well(rt.alloc(), Beginning::Network, ON_NETWORK)?,
         "network"
     );
     Ok(())
@@ -144,11 +153,11 @@ fn each_growth_refused_on_the_sample_and_on_a_network(rt: HostRuntime) -> Result
 #[test]
 fn each_growth_refused_on_two_areas_and_on_a_saved_session(rt: HostRuntime) -> Result<(), Fail> {
     assert!(rt;
-        ends_early_or_well(rt.alloc(), TWO_AREAS, ON_TWO_AREAS),
+        ends_well(rt.alloc(), Beginning::TwoAreas, ON_TWO_AREAS)?,
         "two areas"
     );
     assert!(rt;
-        ends_early_or_well(rt.alloc(), SAVED, ON_SAVED),
+        ends_well(rt.alloc(), Beginning::Saved, ON_SAVED)?,
         "saved session"
     );
     Ok(())

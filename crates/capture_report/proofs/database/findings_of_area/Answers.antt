@@ -19,6 +19,6 @@ returns g c =
       no_router_lsa = c.in_ok-routers.ensures;
       no_network_lsa = c.in_ok-networks.ensures;
       whole = c.in_ok-put_all_left_out.ensures
-          ∙ (λ i. (second ∙ (λ j. (first ∙ (λ k. c.new.ensures.items k ++ map (router_finding area) (c.deref.ensures.value k))) j
+          ∙ (λ i. (second ∙ (λ j. (first ∙ (λ k. c.new-findings.ensures.items k ++ map (router_finding area) (c.deref.ensures.value k))) j
           ++ map (network_finding area) (c.deref-2.ensures.value j))) i ++ all_left_out (scopes.Area area) lsas);
     }

@@ -15,5 +15,5 @@ returns g c =
       routers = c.in_ok-routers.routers.items;
       no_router_lsa = c.in_ok-routers.ensures;
       whole = c.in_ok-put_all_left_out.ensures
-          ∙ (λ i. (first ∙ (λ j. c.new.ensures.items j ++ map asbr_finding (c.deref.ensures.value j))) i ++ all_left_out scopes.AsWide lsas);
+          ∙ (λ i. (first ∙ (λ j. c.new-findings.ensures.items j ++ map asbr_finding (c.deref.ensures.value j))) i ++ all_left_out scopes.AsWide lsas);
     }

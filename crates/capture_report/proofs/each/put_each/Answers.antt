@@ -8,14 +8,14 @@ one_more : {X Y : Type 0} (made : X → Y) (old before after : List Y) (items : 
 one_more made old before after items i item one within is e h pushed =
     pushed ∙ (λ j. h j ++ (e ∙ ap made is) j ∷ [])
     ∙ append_assoc old (map made (take i items)) (made (get_or items i item) ∷ [])
-    ∙ ap (λ added. old ++ added) (map_more made items i item within)
+    ∙ ap (λ added. old ++ added) (sym (map_more made items i item within))
 
 all_of_them : {X Y : Type 0} (made : X → Y) (old new : List Y) (items : List X) (i : ℕ) → length items ≤ i → new ≡ old ++ map made (take i items)
     → new ≡ old ++ map made items
 all_of_them made old new items i all h = h ∙ ap (λ these. old ++ map made these) (take_all i items all)
 
 pub loop-item-init : goal.loop-item-init
-loop-item-init g c = λ made says. sym (append-nil c.args.findings.old.items)
+loop-item-init g c = λ made says. sym (append-nil c.args.findings.now.items)
 
 pub loop-item-preserved : goal.loop-item-preserved
 loop-item-preserved g c = λ made says.

@@ -12,5 +12,5 @@ returns g c =
       are_unseen = c.in_ok-unseen.ensures;
       are_newer = c.in_ok-newer.ensures;
       reported = second
-          ∙ (λ i. (first ∙ (λ j. c.new.ensures.items j ++ map Unseen (c.deref.ensures.value j))) i ++ map Newer (c.deref-2.ensures.value i));
+          ∙ (λ i. (first ∙ (λ j. c.new-findings.ensures.items j ++ map Unseen (c.deref.ensures.value j))) i ++ map Newer (c.deref-2.ensures.value i));
     }

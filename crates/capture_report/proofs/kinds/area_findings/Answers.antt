@@ -10,6 +10,6 @@ returns g c =
       both = c.in_ok-both.both.items;
       contradictory = c.in_ok-both.ensures;
       reported = second
-          ∙ (λ i. (first ∙ (λ j. c.new.ensures.items j ++ map BothKinds (c.deref.ensures.value j))) i
+          ∙ (λ i. (first ∙ (λ j. c.new-findings.ensures.items j ++ map BothKinds (c.deref.ensures.value j))) i
           ++ map NoKind ((c.deref-2.ensures.value ∙ c.in_ok-neither.ensures) i));
     }

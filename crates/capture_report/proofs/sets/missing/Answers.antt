@@ -1,5 +1,5 @@
 use Rattle.std.proofs.lemmas.Result.{IfOk-weaker}
-use Rattle.capture_report.proofs.Sets.{left_over}
+use Rattle.capture_report.proofs.Members.{left_over}
 use Rattle.capture_report.proofs.sets.missing.Goals as goal
 
 pub returns : goal.returns

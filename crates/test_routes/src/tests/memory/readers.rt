@@ -2,7 +2,7 @@
 
 ghost use Rattle.std.specs.Prelude.{◌≤◌};
 
-use super::layers::of_hops;
+use super::hops::of_hops;
 use super::network::database_of;
 use super::texts::{graph_text, tree_text};
 use crate::tests::built::graph_of;
@@ -187,49 +187,35 @@ fn numbered_text(alloc: Global, graph: &Graph<&FailingAlloc>) -> Result<String, 
     Ok(text)
 }
 
-/// The tree of a graph is read while this number of growths are left.
+/// The tree of a graph is read, or its hops, while this number of growths are left.
 fn read_tree<'a>(
-    alloc: Global,
-    failing: &'a FailingAlloc,
-    graph: &Graph<&'a FailingAlloc>,
-    growths: u64,
-) -> Result<String, Fail> {
-    let tree = Tree::build(failing, graph, RouterId(R1), &mut Meter::new())?;
-    failing.set_remaining(growths);
-    tree_text(alloc, &tree)
-}
-
-/// The hops of that tree are read while this number of growths are left.
-fn read_hops<'a>(
-    alloc: Global,
-    failing: &'a FailingAlloc,
-    graph: &Graph<&'a FailingAlloc>,
-    growths: u64,
-) -> Result<String, Fail> {
-    let tree = Tree::build(failing, graph, RouterId(R1), &mut Meter::new())?;
-    let text = of_hops(alloc, failing, graph, &tree, growths)?;
-    Ok(text.ok_or("hops")?)
-}
-
-/// A graph is read, or what is made of it, while this number of growths are left.
-fn read_on_graph<'a>(
     alloc: Global,
     failing: &'a FailingAlloc,
     graph: &Graph<&'a FailingAlloc>,
     call: Call,
     growths: u64,
 ) -> Result<String, Fail> {
-    match call {
-        Call::Tree => read_tree(alloc, failing, graph, growths),
-        Call::Hops => read_hops(alloc, failing, graph, growths),
-        _ => {
-            failing.set_remaining(growths);
-            numbered_text(alloc, graph)
-        }
+    let tree = Tree::build(failing, graph, RouterId(R1), &mut Meter::new())?;
+    if let Call::Hops = call {
+        let text = of_hops(alloc, failing, graph, &tree, growths)?;
+        return Ok(text.ok_or("hops")?);
     }
+    failing.set_remaining(growths);
+    tree_text(alloc, &tree)
 }
 
-/// The same of the graph of the network.
+/// A graph is read while this number of growths are left.
+fn read_vertices(
+    alloc: Global,
+    failing: &FailingAlloc,
+    graph: &Graph<&FailingAlloc>,
+    growths: u64,
+) -> Result<String, Fail> {
+    failing.set_remaining(growths);
+    numbered_text(alloc, graph)
+}
+
+/// The graph of the network is read, or what is made of it, while this number of growths are left.
 fn read_graph(
     alloc: Global,
     failing: &FailingAlloc,
@@ -237,7 +223,10 @@ fn read_graph(
     growths: u64,
 ) -> Result<String, Fail> {
     let graph = graph_of(failing, NETWORK)?;
-    read_on_graph(alloc, failing, &graph, call, growths)
+    match call {
+        Call::Graph => read_vertices(alloc, failing, &graph, growths),
+        _ => read_tree(alloc, failing, &graph, call, growths),
+    }
 }
 
 /// What is answered for a length, and for numbers under its mask.

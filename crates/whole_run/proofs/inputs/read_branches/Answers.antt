@@ -11,4 +11,4 @@ returns-in-Err-TooLarge-clause-refused g c = (λ e. absurd cc, if_too_long _ (c.
 pub returns-clause-refused : goal.returns-clause-refused
 returns-clause-refused g c =
     let all : IsAll (g.R.Read.remaining (inner_of c.args.dump.now)) c.as_slice.result.now = rw c.as_slice.ensures.value c.in-Ok.ensures.whole in
-    c.open_fault.ensures.end _ (known_first _ _ _ all c.in-Err.ensures.fault)
+    c.open_fault.ensures.end _ (known_first _ _ _ all c.in-Err.ensures.loads.fault)

@@ -5,7 +5,7 @@ use Rattle.std.specs.Io.KnownBytes.{Appends}
 use Rattle.whole_run.specs.Run.{text_of}
 use Rattle.whole_run.specs.WholeRun.{IsSummaryOf}
 use Rattle.whole_run.proofs.FailedReads.{read_by_either}
-use Rattle.whole_run.proofs.KnownInputs.{not_refused, of_answers, of_dump, of_end, of_session, on_success}
+use Rattle.whole_run.proofs.KnownInputs.{not_refused, of_answers, of_end, of_texts, on_success}
 use Rattle.whole_run.proofs.running.answer_all.Goals as goal
 
 pub returns-clause-replies : goal.returns-clause-replies
@@ -18,13 +18,9 @@ returns-clause-replies g c = record {
       c.in_ok-branches.ensures.loads c.run_script.ensures.prefix;
 }
 
-pub returns-clause-dump : goal.returns-clause-dump
-returns-clause-dump g c wanted =
-    IfOk-weaker _ _ _ (λ done. of_dump done.1.dump.items _ _ _ c.in_ok-branches.ensures.loads) (c.run_script.ensures.dump wanted)
-
-pub returns-clause-session : goal.returns-clause-session
-returns-clause-session g c wanted =
-    IfOk-weaker _ _ _ (λ done. of_session done.1.session.items _ _ _ c.in_ok-branches.ensures.loads) (c.run_script.ensures.session wanted)
+pub returns-clause-left : goal.returns-clause-left
+returns-clause-left g c =
+    IfOk-weaker _ _ _ (λ done. of_texts c.args.wanted done.1 _ _ _ c.in_ok-branches.ensures.loads) c.run_script.ensures.left
 
 pub returns-clause-summary : goal.returns-clause-summary
 returns-clause-summary g c =

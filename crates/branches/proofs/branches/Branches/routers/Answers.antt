@@ -1,10 +1,9 @@
 use Rattle.std.proofs.Common.{◌≡◌, ◌∙◌, IfOk, ap, subst}
 use Rattle.lsdb.specs.Lists.{Lists}
 use Rattle.lsdb.specs.Slots.{lists_of}
-use Rattle.edit_history.specs.Session.{state}
+use Rattle.edit_history.specs.Session.{Session, state}
 use Rattle.routing_table.specs.Routers.{attached_routers}
-use Rattle.recalculate.specs.Planning.{PlannerValue}
-use Rattle.branches.specs.Branches.{named_by, sessions_of}
+use Rattle.branches.specs.Branches.{sessions_of}
 use Rattle.branches.proofs.AllTables.{found_parts}
 use Rattle.branches.proofs.BranchSessions.{session_of_first, session_of_named, session_of_unnamed}
 use Rattle.branches.proofs.branches.Branches.routers.Goals as goal
@@ -38,30 +37,16 @@ returns-in-Some-clause-reply g c =
 
 -- a branch that has none
 
-pub invariant_of-self : goal.invariant_of-self
-invariant_of-self g c = rw c.base.ensures.kept c.self.invariant
-
-pub invariant_of-self-in-None : goal.invariant_of-self-in-None
-invariant_of-self-in-None g c = rw c.base.ensures.kept c.self.invariant
-
-pub returns-in_err-base-in-None-clause-kept : goal.returns-in_err-base-in-None-clause-kept
-returns-in_err-base-in-None-clause-kept g c =
-    ap (λ (first : PlannerValue). named_by first c.self.inside.others.entries) c.base.ensures.kept ∙ c.self.view_is
-
-pub returns-in_ok-base-in-None-clause-kept : goal.returns-in_ok-base-in-None-clause-kept
-returns-in_ok-base-in-None-clause-kept g c =
-    ap (λ (first : PlannerValue). named_by first c.self.inside.others.entries) c.base.ensures.kept ∙ c.self.view_is
-
-pub returns-in_ok-base-in-None-clause-routers : goal.returns-in_ok-base-in-None-clause-routers
-returns-in_ok-base-in-None-clause-routers g c =
+pub returns-in_ok-begun-in-None-clause-routers : goal.returns-in_ok-begun-in-None-clause-routers
+returns-in_ok-begun-in-None-clause-routers g c =
     subst (λ (db : Lists). IfOk c.routers_with_table-in-None-2.result (λ routers. routers.items ≡ attached_routers db))
-    (c.in_ok-base-in-None.ensures.base
-    ∙ ap state (session_of_unnamed c.self.inside.first c.self.inside.others.entries c.args.branch _ c.self.view_is c.if-branch-eq0.false c.in-None.ensures.value))
+    (c.database-in-None-2.ensures.state ∙ ap (λ (s : Session). state s) (c.in_ok-begun-in-None.ensures.begun
+    ∙ session_of_unnamed c.self.inside.first c.self.inside.others.entries c.args.branch _ c.self.view_is c.if-branch-eq0.false c.in-None.ensures.value))
     c.routers_with_table-in-None-2.ensures.routers
 
-pub returns-in_ok-base-in-None-clause-reply : goal.returns-in_ok-base-in-None-clause-reply
-returns-in_ok-base-in-None-clause-reply g c =
-    found_parts c.args.branch (sessions_of c.args.self.now c.args.branch) (lists_of c.in_ok-base-in-None.field-0) c.routers_with_table-in-None-2.result
-    (c.in_ok-base-in-None.ensures.base
-    ∙ ap state (session_of_unnamed c.self.inside.first c.self.inside.others.entries c.args.branch _ c.self.view_is c.if-branch-eq0.false c.in-None.ensures.value))
+pub returns-in_ok-begun-in-None-clause-reply : goal.returns-in_ok-begun-in-None-clause-reply
+returns-in_ok-begun-in-None-clause-reply g c =
+    found_parts c.args.branch (sessions_of c.args.self.now c.args.branch) (lists_of c.database-in-None-2.result.now) c.routers_with_table-in-None-2.result
+    (c.database-in-None-2.ensures.state ∙ ap (λ (s : Session). state s) (c.in_ok-begun-in-None.ensures.begun
+    ∙ session_of_unnamed c.self.inside.first c.self.inside.others.entries c.args.branch _ c.self.view_is c.if-branch-eq0.false c.in-None.ensures.value))
     c.routers_with_table-in-None-2.ensures.routers c.routers_with_table-in-None-2.ensures.tables

@@ -1,9 +1,12 @@
-use Rattle.std.proofs.Common.{◌≡◌, Some, IfErr, IfOk, subst}
+use Rattle.std.proofs.Common.{◌∙◌, ap, subst, sym}
 use Rattle.std.proofs.lemmas.Result.{err_from_is_err_and}
+use Rattle.lsdb.specs.Lists.{Lists}
 use Rattle.edit_history.specs.Session.{Session, state}
-use Rattle.routing_table.specs.Tables.{FaultMeans, table_in}
+use Rattle.recalculate.specs.CallsForTables.{ShowsTable}
+use Rattle.recalculate.specs.Planning.{IsCacheOf, PlannerValue}
+use Rattle.recalculate.proofs.Caches.{with_present}
 use Rattle.recalculate.proofs.EitherTables.{both_come, none_come, noted_come}
-use Rattle.recalculate.proofs.Staying.{stayed_twice}
+use Rattle.recalculate.proofs.Staying.{stayed_twice, trees_made, trees_stay}
 use Rattle.recalculate.proofs.planner.Planner.cached_table.Goals as goal
 
 pub returns-in-Some-clause-trees : goal.returns-in-Some-clause-trees
@@ -23,20 +26,29 @@ returns-in_err-clone-2-clause-trees g c =
     let gave = err_from_is_err_and c.from_residual-in_err-clone-2.result c.from_residual-in_err-clone-2.ensures.1 in
     rw gave.1 (noted_come c.args.router _ c.args.self.now c.ask.new.self c.ask.ensures tt)
 
-pub returns-clause-trees : goal.returns-clause-trees
-returns-clause-trees g c =
-    both_come c.args.router c.new_table.result c.args.self.now c.ask.new.self c.ask.ensures c.new_table.new.self c.new_table.ensures.session
-    c.new_table.ensures.first_kept c.new_table.ensures.first c.new_table.ensures.trees
+-- a new table of the session's database
 
-pub returns-clause-step : goal.returns-clause-step
-returns-clause-step g c = stayed_twice _ _ _ c.ask.ensures.step c.new_table.ensures.step
+pub new_table-requires : goal.new_table-requires
+new_table-requires g c = subst (λ (db : Lists). IsCacheOf db c.self.inside.present) (sym c.database.ensures.state) c.self.invariant.present
+
+pub invariant_of-self : goal.invariant_of-self
+invariant_of-self g c = with_present _ _ _ _ _ c.database.ensures.state c.new_table.ensures.cache c.self.invariant
 
 pub returns-clause-table : goal.returns-clause-table
 returns-clause-table g c =
-    subst (λ (s : Session). IfOk c.new_table.result (λ table. table_in (state s) c.args.router ≡ Some table.value))
-    c.ask.ensures.step.session c.new_table.ensures.table
+    subst (λ (db : Lists). ShowsTable c.new_table.result (λ table. table.value) db c.args.router)
+    (c.database.ensures.state ∙ ap (λ (p : PlannerValue). state p.session) c.self.view_is
+    ∙ ap (λ (s : Session). state s) c.ask.ensures.step.session) c.new_table.ensures.table
 
-pub returns-clause-fault : goal.returns-clause-fault
-returns-clause-fault g c =
-    subst (λ (s : Session). IfErr c.new_table.result (FaultMeans (table_in (state s) c.args.router)))
-    c.ask.ensures.step.session c.new_table.ensures.fault
+pub returns-clause-trees : goal.returns-clause-trees
+returns-clause-trees g c =
+    both_come c.args.router c.new_table.result c.args.self.now c.ask.new.self c.ask.ensures _ (ap (λ (p : PlannerValue). p.session) c.self.view_is)
+    (ap (λ (p : PlannerValue). p.first_kept) c.self.view_is) (ap (λ (p : PlannerValue). p.tables.first) c.self.view_is)
+    (trees_made c.self.inside.study c.self.inside.meter c.new_table.new.meter c.self.inside.present c.new_table.new.self c.self.inside.baseline c.self.inside.asked
+    c.new_table.result _ c.args.router c.database.ensures.state _ c.self.view_is c.new_table.ensures.trees)
+
+pub returns-clause-step : goal.returns-clause-step
+returns-clause-step g c =
+    stayed_twice _ _ _ c.ask.ensures.step
+    (trees_stay c.self.inside.study c.self.inside.meter c.new_table.new.meter c.self.inside.present c.new_table.new.self c.self.inside.baseline c.self.inside.asked
+    c.new_table.result _ c.args.router c.database.ensures.state _ c.self.view_is c.new_table.ensures.trees)

@@ -1,5 +1,5 @@
 use Rattle.std.proofs.Common.{refl}
-use Rattle.recalculate.proofs.CallsSpare.{caches_follow, carries_out, others_stay}
+use Rattle.recalculate.proofs.CallsSpare.{caches_follow, carries_out}
 use Rattle.recalculate.proofs.Touches.{redo_step}
 use Rattle.recalculate.proofs.planner.Planner.redo.Goals as goal
 
@@ -8,20 +8,8 @@ invariant_of-self-2 g c =
     let step = redo_step c.self.inside.study c.redo.new.self c.args.count (c.in_ok-redo.ensures.ok.0 refl) c.in_ok-redo.ensures.session in
     caches_follow _ _ _ _ step c.self.inside.present c.follow.new.self c.self.inside.baseline c.follow.ensures.cache c.self.invariant
 
-pub returns-clause-kept : goal.returns-clause-kept
-returns-clause-kept g c =
-    let step = redo_step c.self.inside.study c.redo.new.self c.args.count (c.in_ok-redo.ensures.ok.0 refl) c.in_ok-redo.ensures.session in
-    (carries_out _ _ _ _ step c.self.inside.present c.follow.new.self c.self.inside.baseline c.self.inside.meter c.self.inside.asked _ c.self.view_is
-    c.follow.ensures.kept c.redo.ensures.leads).kept
-
-pub returns-clause-others : goal.returns-clause-others
-returns-clause-others g c =
-    let step = redo_step c.self.inside.study c.redo.new.self c.args.count (c.in_ok-redo.ensures.ok.0 refl) c.in_ok-redo.ensures.session in
-    others_stay _ _ _ _ step c.self.inside.present c.follow.new.self c.self.inside.baseline c.self.inside.meter c.self.inside.asked _ c.self.view_is
-    c.follow.ensures.table
-
 pub returns-clause-step : goal.returns-clause-step
 returns-clause-step g c =
     let step = redo_step c.self.inside.study c.redo.new.self c.args.count (c.in_ok-redo.ensures.ok.0 refl) c.in_ok-redo.ensures.session in
     carries_out _ _ _ _ step c.self.inside.present c.follow.new.self c.self.inside.baseline c.self.inside.meter c.self.inside.asked _ c.self.view_is
-    c.follow.ensures.kept c.redo.ensures.leads
+    _ c.follow.ensures.kept c.redo.ensures.leads c.follow.ensures.table

@@ -32,9 +32,9 @@ returns-clause-cache g c =
     let there = subst (λ (v : CacheValue). HasTrees db c.args.router (routers_of v.trees)) (sym c.self-2.view_is) c.in_ok-table.ensures.trees.all in
     subst (λ (t : TableValue). IsCacheOf db (record { trees = c.self-2.inside.trees; externals = c.self-2.inside.externals; table = Some t }))
     (sym c.in_ok-table-2.ensures ∙ sym c.in_ok-clone.ensures.cases)
-    (with_table db c.args.router c.in_ok-table.table _ c.in_ok-table.ensures.table there was)
+    (with_table db c.args.router c.in_ok-table.table _ c.in_ok-table.ensures.table.found there was)
 
 pub returns-clause-last : goal.returns-clause-last
 returns-clause-last g c =
     ap (λ (t : TableValue). Some t.router) (sym (sym c.in_ok-table-2.ensures ∙ sym c.in_ok-clone.ensures.cases))
-    ∙ ap (λ (r : RouterId). Some r) (named (lists_of c.args.database.now) c.args.router c.in_ok-table.table c.in_ok-table.ensures.table)
+    ∙ ap (λ (r : RouterId). Some r) (named (lists_of c.args.database.now) c.args.router c.in_ok-table.table c.in_ok-table.ensures.table.found)

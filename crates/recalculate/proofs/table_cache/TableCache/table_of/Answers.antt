@@ -10,10 +10,11 @@ use Rattle.recalculate.proofs.Caches.{with_more}
 use Rattle.recalculate.proofs.Calculated.{all_in, some_in, within_kept}
 use Rattle.recalculate.proofs.table_cache.TableCache.table_of.Goals as goal
 
-pub returns-in_err-results-clause-fault : goal.returns-in_err-results-clause-fault
-returns-in_err-results-clause-fault g c =
+pub returns-in_err-results-clause-table : goal.returns-in_err-results-clause-table
+returns-in_err-results-clause-table g c =
     let gave = err_from_is_err_and c.from_residual.result c.from_residual.ensures.1 in
-    rw (gave.1, gave.2) (no_memory (lists_of c.args.database.now) c.args.router c.in_err-results.ensures.memory)
+    rw (gave.1, gave.2)
+    (record { found = tt; fault = no_memory (lists_of c.args.database.now) c.args.router c.in_err-results.ensures.memory })
 
 pub returns-in_err-results-clause-trees : goal.returns-in_err-results-clause-trees
 returns-in_err-results-clause-trees g c =
