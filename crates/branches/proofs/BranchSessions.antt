@@ -186,8 +186,10 @@ module _ (first : PlannerValue) (ps : List (ℕ × PlannerValue)) (branch : ℕ)
   pub session_of_named : (p : PlannerValue) → branch ≢ 0 → Some p ≡ planner_at ps branch → p.session ≡ sessions_of named branch
   session_of_named p other was = sym (named_session first ps branch p (ne_eqb branch 0 other) was) ∙ ap (λ (n : Named). sessions_of n branch) shows
 
-  pub session_of_unnamed : branch ≢ 0 → None ≡ planner_at ps branch → start first.session.base ≡ sessions_of named branch
-  session_of_unnamed other none = sym (unnamed_session first ps branch (ne_eqb branch 0 other) none) ∙ ap (λ (n : Named). sessions_of n branch) shows
+  pub session_of_unnamed : branch ≢ 0 → None ≡ planner_at ps branch → start named.first.base ≡ sessions_of named branch
+  session_of_unnamed other none =
+      ap (λ (n : Named). start n.first.base) (sym shows)
+      ∙ sym (unnamed_session first ps branch (ne_eqb branch 0 other) none) ∙ ap (λ (n : Named). sessions_of n branch) shows
 
 base_of : (named : Named) (branch : ℕ) (s : Session) → Some s ≡ found named.others branch → HaveOneBase named → s.base ≡ named.first.base
 base_of named branch s was one = subst (λ o. IfSome o (λ (x : Session). x.base ≡ named.first.base)) (sym was) (one branch)

@@ -1,11 +1,10 @@
-use Rattle.std.proofs.Common.{◌≡◌, ◌≤◌, Ok, take, length, sym, ap, ◌∙◌, arith, inr, rules}
+use Rattle.std.proofs.Common.{◌≡◌, ◌≤◌, Ok, take, length, sym, ap, ◌∙◌, arith, inr}
 use Rattle.std.proofs.lemmas.Result.{err_from_is_err_and}
 use Rattle.lsdb.specs.BaseText.{base_text}
 use Rattle.lsdb.specs.Lists.{Lists}
 use Rattle.edit_history.specs.Session.{Session}
-use Rattle.saved_sessions.specs.Opening.{session_loaded}
 use Rattle.saved_sessions.proofs.SessionTaken.{session_is}
-use Rattle.saved_sessions.proofs.Trailing.{history_ends, trailing}
+use Rattle.saved_sessions.proofs.Trailing.{history_ends, trailing, whole}
 use Rattle.saved_sessions.proofs.opening.read_session.Goals as goal
 
 pub returns-clause-spelled : goal.returns-clause-spelled
@@ -20,9 +19,10 @@ returns-clause-spelled g c =
 -- a base that was read has no fault at its front
 
 pub returns-clause-loads : goal.returns-clause-loads
-unfolding session_loaded
 returns-clause-loads g c = record {
-  found = search rules;
+  found = whole c.args.bytes.now (c.new-planner.result.session.base, c.in_ok-base.byte_count) c.read_history.new.planner.session c.in_ok-end.end
+      (c.in_ok-base.ensures.found ∙ ap (λ (s : Session). Ok (s.base, c.in_ok-base.byte_count)) (sym c.new-planner.ensures.session))
+      c.in_ok-end.ensures.session (omega (arith, c.if-end-bytes.false));
   fault = tt;
   front = λ fault is. let none = c.in_ok-base.ensures.front fault is in absurd cc;
   runs = c.read_history.ensures.runs ∙ c.new-planner.ensures.runs;

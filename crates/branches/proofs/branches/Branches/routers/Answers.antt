@@ -39,14 +39,14 @@ returns-in-Some-clause-reply g c =
 
 pub returns-in_ok-begun-in-None-clause-routers : goal.returns-in_ok-begun-in-None-clause-routers
 returns-in_ok-begun-in-None-clause-routers g c =
-    subst (λ (db : Lists). IfOk c.routers_with_table-in-None-2.result (λ routers. routers.items ≡ attached_routers db))
+    subst (λ (db : Lists). IfOk c.routers_with_table-in-None.result (λ routers. routers.items ≡ attached_routers db))
     (c.database-in-None-2.ensures.state ∙ ap (λ (s : Session). state s) (c.in_ok-begun-in-None.ensures.begun
     ∙ session_of_unnamed c.self.inside.first c.self.inside.others.entries c.args.branch _ c.self.view_is c.if-branch-eq0.false c.in-None.ensures.value))
-    c.routers_with_table-in-None-2.ensures.routers
+    c.routers_with_table-in-None.ensures.routers
 
 pub returns-in_ok-begun-in-None-clause-reply : goal.returns-in_ok-begun-in-None-clause-reply
 returns-in_ok-begun-in-None-clause-reply g c =
-    found_parts c.args.branch (sessions_of c.args.self.now c.args.branch) (lists_of c.database-in-None-2.result.now) c.routers_with_table-in-None-2.result
+    found_parts c.args.branch (sessions_of c.args.self.now c.args.branch) (lists_of c.database-in-None-2.result.now) c.routers_with_table-in-None.result
     (c.database-in-None-2.ensures.state ∙ ap (λ (s : Session). state s) (c.in_ok-begun-in-None.ensures.begun
     ∙ session_of_unnamed c.self.inside.first c.self.inside.others.entries c.args.branch _ c.self.view_is c.if-branch-eq0.false c.in-None.ensures.value))
-    c.routers_with_table-in-None-2.ensures.routers c.routers_with_table-in-None-2.ensures.tables
+    c.routers_with_table-in-None.ensures.routers c.routers_with_table-in-None.ensures.tables
