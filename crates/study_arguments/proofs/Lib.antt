@@ -1,0 +1,3 @@
+pub mod PrefixParts
+pub mod EachWord
+pub mod ArgumentLemmas

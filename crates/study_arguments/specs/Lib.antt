@@ -1,0 +1,7 @@
+pub mod Fault
+pub mod Positions
+pub mod Values
+pub mod Optional
+pub mod Arguments
+pub mod Lists
+pub mod Spelling
