@@ -1,14 +1,13 @@
 -- How numbers are compared.
-use Rattle.std.specs.Prelude.{ℕ, List, [], ◌∷◌, Option, codes}
+use Rattle.std.specs.Prelude.{ℕ, List, [], ◌∷◌, Option}
 use Rattle.study_words.specs.declared.comparison.Comparison.{Comparison}
 use Rattle.study_words.specs.declared.comparison.Comparison.TheVariants as of
 use Rattle.study_words.specs.Named.{named}
+use Rattle.study_words.specs.Written.{compare, written}
 
 -- as it is written
-unfoldable pub comparison_text : Comparison → List ℕ
-comparison_text of.AtMost = codes "<="
-comparison_text of.Equal = codes "="
-comparison_text of.AtLeast = codes ">="
+abbrev pub comparison_text : Comparison → List ℕ
+comparison_text w = written (compare w)
 
 abbrev pub comparisons : List Comparison
 comparisons =

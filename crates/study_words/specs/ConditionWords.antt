@@ -1,23 +1,13 @@
 -- The words of conditions, which stand after `expect`.
-use Rattle.std.specs.Prelude.{ℕ, List, [], ◌∷◌, Option, codes}
+use Rattle.std.specs.Prelude.{ℕ, List, [], ◌∷◌, Option}
 use Rattle.study_words.specs.declared.condition_word.ConditionWord.{ConditionWord}
 use Rattle.study_words.specs.declared.condition_word.ConditionWord.TheVariants as of
 use Rattle.study_words.specs.Named.{named}
+use Rattle.study_words.specs.Written.{condition, written}
 
 -- as it is written
-unfoldable pub condition_text : ConditionWord → List ℕ
-condition_text of.Route = codes "route"
-condition_text of.NoRoute = codes "no-route"
-condition_text of.Hops = codes "hops"
-condition_text of.Path = codes "path"
-condition_text of.Lost = codes "lost"
-condition_text of.Gone = codes "gone"
-condition_text of.Loops = codes "loops"
-condition_text of.Microloops = codes "microloops"
-condition_text of.Blackholes = codes "blackholes"
-condition_text of.Same = codes "same"
-condition_text of.Changes = codes "changes"
-condition_text of.Audit = codes "audit"
+abbrev pub condition_text : ConditionWord → List ℕ
+condition_text w = written (condition w)
 
 abbrev pub condition_words : List ConditionWord
 condition_words =

@@ -1,4 +1,5 @@
 pub mod Named
+pub mod Written
 pub mod PlanWords
 pub mod SeeWords
 pub mod StudyWords
@@ -6,5 +7,4 @@ pub mod ConditionWords
 pub mod RouteKinds
 pub mod AuditKinds
 pub mod Comparisons
-pub mod Particles
 pub mod Reserved

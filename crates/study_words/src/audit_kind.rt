@@ -1,7 +1,7 @@
 //! The kinds of audit findings.
+#![tactic(auto, unfolding(crate::specs::Written::written))]
 
-ghost use Rattle.std.specs.Prelude.{◌≡◌, bytes_eq};
-ghost use Rattle.study_words.specs.AuditKinds.{audit_kind_text, audit_kind_of};
+use crate::word::Word;
 
 /// A kind of finding of `audit`: what the answers may not be trusted for.
 #[derive(Clone, Copy, Debug, PartialEq, Eq)]
@@ -58,41 +58,44 @@ pub enum AuditKind {
     MaxAge,
 }
 
-/// All kinds of findings, in the order of `audit`.
-pub const AUDIT_KINDS: &[AuditKind] = &[
-    AuditKind::Nssa,
-    AuditKind::AreaKind,
-    AuditKind::VirtualLink,
-    AuditKind::AreaMissing,
-    AuditKind::AbrWithoutBackbone,
-    AuditKind::AbrWithoutBitB,
-    AuditKind::SplitArea,
-    AuditKind::SummaryRaised,
-    AuditKind::SummaryNotDue,
-    AuditKind::SummaryMissing,
-    AuditKind::Rfc1583,
-    AuditKind::ExternalWithoutBitE,
-    AuditKind::UndescribedRouter,
-    AuditKind::SeveralNetworks,
-    AuditKind::DuplicateAddress,
-    AuditKind::OwnExternal,
-    AuditKind::ForwardUnreached,
-    AuditKind::OneWayLink,
-    AuditKind::UnequalCost,
-    AuditKind::PointToMultipoint,
-    AuditKind::Drained,
-    AuditKind::UnreachedRouter,
-    AuditKind::OrphanLsa,
-    AuditKind::Opaque,
-    AuditKind::MaxAge,
-];
+impl Word for AuditKind {
+    ghost use Rattle.study_words.specs.AuditKinds.{audit_kind_text, audit_kinds};
 
-impl AuditKind {
-    /// The word as it is written.
-    #[tactic(auto, unfolding(crate::specs::AuditKinds::audit_kind_text))]
-    pub fn text(self) -> &'static str
-        ensures { result.now ≡ audit_kind_text self }
-    {
+    ghost all = { audit_kinds };
+
+    ghost spelled = { audit_kind_text };
+
+    fn all() -> &'static [AuditKind] {
+        &[
+            AuditKind::Nssa,
+            AuditKind::AreaKind,
+            AuditKind::VirtualLink,
+            AuditKind::AreaMissing,
+            AuditKind::AbrWithoutBackbone,
+            AuditKind::AbrWithoutBitB,
+            AuditKind::SplitArea,
+            AuditKind::SummaryRaised,
+            AuditKind::SummaryNotDue,
+            AuditKind::SummaryMissing,
+            AuditKind::Rfc1583,
+            AuditKind::ExternalWithoutBitE,
+            AuditKind::UndescribedRouter,
+            AuditKind::SeveralNetworks,
+            AuditKind::DuplicateAddress,
+            AuditKind::OwnExternal,
+            AuditKind::ForwardUnreached,
+            AuditKind::OneWayLink,
+            AuditKind::UnequalCost,
+            AuditKind::PointToMultipoint,
+            AuditKind::Drained,
+            AuditKind::UnreachedRouter,
+            AuditKind::OrphanLsa,
+            AuditKind::Opaque,
+            AuditKind::MaxAge,
+        ]
+    }
+
+    fn text(self) -> &'static str {
         match self {
             AuditKind::Nssa => "nssa",
             AuditKind::AreaKind => "area-kind",
@@ -120,24 +123,5 @@ impl AuditKind {
             AuditKind::Opaque => "opaque",
             AuditKind::MaxAge => "max-age",
         }
-    }
-
-    /// Whether a word is written so.
-    fn is_text(self, word: &[u8]) -> bool
-        ensures { result ≡ bytes_eq word.now (audit_kind_text self) }
-    {
-        word == self.text().as_bytes()
-    }
-
-    /// The kind of finding that a word names, if it names one.
-    pub fn of(word: &[u8]) -> Option<AuditKind>
-        ensures { result ≡ audit_kind_of word.now }
-    {
-        for kind in AUDIT_KINDS {
-            if kind.is_text(word) {
-                return Some(*kind);
-            }
-        }
-        None
     }
 }

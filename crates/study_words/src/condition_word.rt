@@ -1,7 +1,7 @@
 //! The words of conditions, which stand after `expect`.
+#![tactic(auto, unfolding(crate::specs::Written::written))]
 
-ghost use Rattle.std.specs.Prelude.{◌≡◌, bytes_eq};
-ghost use Rattle.study_words.specs.ConditionWords.{condition_text, condition_word_of};
+use crate::word::Word;
 
 /// The first word of a condition.
 #[derive(Clone, Copy, Debug, PartialEq, Eq)]
@@ -34,28 +34,31 @@ pub enum ConditionWord {
     Audit,
 }
 
-/// All words of conditions, in the order of `help expect`.
-pub const CONDITION_WORDS: &[ConditionWord] = &[
-    ConditionWord::Route,
-    ConditionWord::NoRoute,
-    ConditionWord::Hops,
-    ConditionWord::Path,
-    ConditionWord::Lost,
-    ConditionWord::Gone,
-    ConditionWord::Loops,
-    ConditionWord::Microloops,
-    ConditionWord::Blackholes,
-    ConditionWord::Same,
-    ConditionWord::Changes,
-    ConditionWord::Audit,
-];
+impl Word for ConditionWord {
+    ghost use Rattle.study_words.specs.ConditionWords.{condition_text, condition_words};
 
-impl ConditionWord {
-    /// The word as it is written.
-    #[tactic(auto, unfolding(crate::specs::ConditionWords::condition_text))]
-    pub fn text(self) -> &'static str
-        ensures { result.now ≡ condition_text self }
-    {
+    ghost all = { condition_words };
+
+    ghost spelled = { condition_text };
+
+    fn all() -> &'static [ConditionWord] {
+        &[
+            ConditionWord::Route,
+            ConditionWord::NoRoute,
+            ConditionWord::Hops,
+            ConditionWord::Path,
+            ConditionWord::Lost,
+            ConditionWord::Gone,
+            ConditionWord::Loops,
+            ConditionWord::Microloops,
+            ConditionWord::Blackholes,
+            ConditionWord::Same,
+            ConditionWord::Changes,
+            ConditionWord::Audit,
+        ]
+    }
+
+    fn text(self) -> &'static str {
         match self {
             ConditionWord::Route => "route",
             ConditionWord::NoRoute => "no-route",
@@ -70,24 +73,5 @@ impl ConditionWord {
             ConditionWord::Changes => "changes",
             ConditionWord::Audit => "audit",
         }
-    }
-
-    /// Whether a word is written so.
-    fn is_text(self, word: &[u8]) -> bool
-        ensures { result ≡ bytes_eq word.now (condition_text self) }
-    {
-        word == self.text().as_bytes()
-    }
-
-    /// The word of a condition that a word is, if it is one.
-    pub fn of(word: &[u8]) -> Option<ConditionWord>
-        ensures { result ≡ condition_word_of word.now }
-    {
-        for condition_word in CONDITION_WORDS {
-            if condition_word.is_text(word) {
-                return Some(*condition_word);
-            }
-        }
-        None
     }
 }

@@ -7,14 +7,12 @@ ghost use Rattle.study_words.specs.declared.condition_word.ConditionWord.{Condit
 ghost use Rattle.study_words.specs.declared.route_kind.RouteKind.{RouteKind as AnyRouteKind};
 ghost use Rattle.study_words.specs.declared.audit_kind.AuditKind.{AuditKind as AnyAuditKind};
 ghost use Rattle.study_words.specs.declared.comparison.Comparison.{Comparison as AnyComparison};
-ghost use Rattle.study_words.specs.declared.particle.Particle.{Particle as AnyParticle};
 ghost use Rattle.study_words.specs.PlanWords.{plan_text, plan_word_of};
 ghost use Rattle.study_words.specs.SeeWords.{see_text, see_word_of};
 ghost use Rattle.study_words.specs.ConditionWords.{condition_text, condition_word_of};
 ghost use Rattle.study_words.specs.RouteKinds.{route_kind_text, route_kind_of};
 ghost use Rattle.study_words.specs.AuditKinds.{audit_kind_text, audit_kind_of};
 ghost use Rattle.study_words.specs.Comparisons.{comparison_text, comparison_of};
-ghost use Rattle.study_words.specs.Particles.{particle_text, particle_of};
 ghost use Rattle.study_words.specs.declared.study_word.StudyWord.{StudyWord as AnyStudyWord};
 ghost use Rattle.study_words.specs.StudyWords.{study_text, study_word_of};
 
@@ -29,5 +27,4 @@ pub fn texts_are_found()
     ensures route { (w : AnyRouteKind) → route_kind_of (route_kind_text w) ≡ Some w }
     ensures audit { (w : AnyAuditKind) → audit_kind_of (audit_kind_text w) ≡ Some w }
     ensures comparison { (w : AnyComparison) → comparison_of (comparison_text w) ≡ Some w }
-    ensures particle { (w : AnyParticle) → particle_of (particle_text w) ≡ Some w }
 {}

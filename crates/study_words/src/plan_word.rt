@@ -1,7 +1,7 @@
 //! The command words of `ospf-plan`.
+#![tactic(auto, unfolding(crate::specs::Written::written))]
 
-ghost use Rattle.std.specs.Prelude.{◌≡◌, bytes_eq};
-ghost use Rattle.study_words.specs.PlanWords.{plan_text, plan_word_of};
+use crate::word::Word;
 
 /// A command word that `ospf-plan` has, too.
 #[derive(Clone, Copy, Debug, PartialEq, Eq)]
@@ -43,33 +43,36 @@ pub enum PlanWord {
     Info,
 }
 
-/// All these words, in the order of `help`.
-pub const PLAN_WORDS: &[PlanWord] = &[
-    PlanWord::Cost,
-    PlanWord::DropLink,
-    PlanWord::FailLink,
-    PlanWord::FailNet,
-    PlanWord::FailRouter,
-    PlanWord::AddStub,
-    PlanWord::Summary,
-    PlanWord::AddSummary,
-    PlanWord::AddExternal,
-    PlanWord::DropExternal,
-    PlanWord::Refresh,
-    PlanWord::Undo,
-    PlanWord::Redo,
-    PlanWord::Table,
-    PlanWord::Tables,
-    PlanWord::Compare,
-    PlanWord::Info,
-];
+impl Word for PlanWord {
+    ghost use Rattle.study_words.specs.PlanWords.{plan_text, plan_words};
 
-impl PlanWord {
-    /// The word as it is written.
-    #[tactic(auto, unfolding(crate::specs::PlanWords::plan_text))]
-    pub fn text(self) -> &'static str
-        ensures { result.now ≡ plan_text self }
-    {
+    ghost all = { plan_words };
+
+    ghost spelled = { plan_text };
+
+    fn all() -> &'static [PlanWord] {
+        &[
+            PlanWord::Cost,
+            PlanWord::DropLink,
+            PlanWord::FailLink,
+            PlanWord::FailNet,
+            PlanWord::FailRouter,
+            PlanWord::AddStub,
+            PlanWord::Summary,
+            PlanWord::AddSummary,
+            PlanWord::AddExternal,
+            PlanWord::DropExternal,
+            PlanWord::Refresh,
+            PlanWord::Undo,
+            PlanWord::Redo,
+            PlanWord::Table,
+            PlanWord::Tables,
+            PlanWord::Compare,
+            PlanWord::Info,
+        ]
+    }
+
+    fn text(self) -> &'static str {
         match self {
             PlanWord::Cost => "cost",
             PlanWord::DropLink => "drop-link",
@@ -89,24 +92,5 @@ impl PlanWord {
             PlanWord::Compare => "compare",
             PlanWord::Info => "info",
         }
-    }
-
-    /// Whether a word is written so.
-    fn is_text(self, word: &[u8]) -> bool
-        ensures { result ≡ bytes_eq word.now (plan_text self) }
-    {
-        word == self.text().as_bytes()
-    }
-
-    /// The word of these that a word is, if it is one.
-    pub fn of(word: &[u8]) -> Option<PlanWord>
-        ensures { result ≡ plan_word_of word.now }
-    {
-        for plan_word in PLAN_WORDS {
-            if plan_word.is_text(word) {
-                return Some(*plan_word);
-            }
-        }
-        None
     }
 }

@@ -1,7 +1,7 @@
 //! The command words of questions that only studies have.
+#![tactic(auto, unfolding(crate::specs::Written::written))]
 
-ghost use Rattle.std.specs.Prelude.{◌≡◌, bytes_eq};
-ghost use Rattle.study_words.specs.SeeWords.{see_text, see_word_of};
+use crate::word::Word;
 
 /// A command word of a question that only studies have.
 #[derive(Clone, Copy, Debug, PartialEq, Eq)]
@@ -39,31 +39,34 @@ pub enum SeeWord {
     Help,
 }
 
-/// All these words, in the order of `help`.
-pub const SEE_WORDS: &[SeeWord] = &[
-    SeeWord::Routers,
-    SeeWord::Links,
-    SeeWord::Networks,
-    SeeWord::Routes,
-    SeeWord::Path,
-    SeeWord::Explain,
-    SeeWord::Changes,
-    SeeWord::Differences,
-    SeeWord::Lost,
-    SeeWord::Gone,
-    SeeWord::Loops,
-    SeeWord::Microloops,
-    SeeWord::Audit,
-    SeeWord::Log,
-    SeeWord::Help,
-];
+impl Word for SeeWord {
+    ghost use Rattle.study_words.specs.SeeWords.{see_text, see_words};
 
-impl SeeWord {
-    /// The word as it is written.
-    #[tactic(auto, unfolding(crate::specs::SeeWords::see_text))]
-    pub fn text(self) -> &'static str
-        ensures { result.now ≡ see_text self }
-    {
+    ghost all = { see_words };
+
+    ghost spelled = { see_text };
+
+    fn all() -> &'static [SeeWord] {
+        &[
+            SeeWord::Routers,
+            SeeWord::Links,
+            SeeWord::Networks,
+            SeeWord::Routes,
+            SeeWord::Path,
+            SeeWord::Explain,
+            SeeWord::Changes,
+            SeeWord::Differences,
+            SeeWord::Lost,
+            SeeWord::Gone,
+            SeeWord::Loops,
+            SeeWord::Microloops,
+            SeeWord::Audit,
+            SeeWord::Log,
+            SeeWord::Help,
+        ]
+    }
+
+    fn text(self) -> &'static str {
         match self {
             SeeWord::Routers => "routers",
             SeeWord::Links => "links",
@@ -81,24 +84,5 @@ impl SeeWord {
             SeeWord::Log => "log",
             SeeWord::Help => "help",
         }
-    }
-
-    /// Whether a word is written so.
-    fn is_text(self, word: &[u8]) -> bool
-        ensures { result ≡ bytes_eq word.now (see_text self) }
-    {
-        word == self.text().as_bytes()
-    }
-
-    /// The word of these that a word is, if it is one.
-    pub fn of(word: &[u8]) -> Option<SeeWord>
-        ensures { result ≡ see_word_of word.now }
-    {
-        for see_word in SEE_WORDS {
-            if see_word.is_text(word) {
-                return Some(*see_word);
-            }
-        }
-        None
     }
 }

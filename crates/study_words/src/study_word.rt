@@ -5,6 +5,7 @@ ghost use Rattle.study_words.specs.StudyWords.{study_text, study_word_of};
 
 use crate::plan_word::PlanWord;
 use crate::see_word::SeeWord;
+use crate::word::Word;
 
 /// A command word of a study.
 #[derive(Clone, Copy, Debug, PartialEq, Eq)]
