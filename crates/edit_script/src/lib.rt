@@ -5,6 +5,7 @@
 //! database, `undo COUNT` and `redo COUNT` take edits back and carry them out again, and
 //! `table ROUTER`, `tables`, `compare ROUTER` and `info` show the result of the edits. [`parse`]
 //! reads a line without memory, and [`print`] writes an edit as the line that reads back to it.
+//! [`number`], [`address`], [`prefix`] and others read one argument.
 #![tactic(auto)]
 
 mod arguments;
@@ -25,3 +26,4 @@ pub use fault::ScriptFault;
 pub use laws::{edits_are_in_range, reads_back, reads_what_is_said, spelled_on_one_line};
 pub use line::parse;
 pub use printing::print;
+pub use reading::{address, metric_type, metric24, number, number16, prefix};

@@ -18,15 +18,23 @@ const GREATEST_NUMBER16: u32 = 65_535;
 
 // ---- one argument
 
-/// The number that a word spells, where it is at most `max`; else S5.
-pub(crate) fn number(max: u32, word: &[u8]) -> Result<u32, ScriptFault>
+/// The number that a word spells, where it is at most `max`.
+///
+/// # Errors
+///
+/// S5, where it spells no such number.
+pub fn number(max: u32, word: &[u8]) -> Result<u32, ScriptFault>
     ensures { result ≡ number max word.now }
 {
     number_up_to(max, word).ok_or(ScriptFault::BadNumber)
 }
 
-/// The number of 16 bits that a word spells; else S5.
-pub(crate) fn number16(word: &[u8]) -> Result<u16, ScriptFault>
+/// The number of 16 bits that a word spells.
+///
+/// # Errors
+///
+/// S5, where it spells no such number.
+pub fn number16(word: &[u8]) -> Result<u16, ScriptFault>
     ensures { result ≡ number greatest_number16 word.now }
 {
     match number_up_to(GREATEST_NUMBER16, word) {
@@ -35,8 +43,12 @@ pub(crate) fn number16(word: &[u8]) -> Result<u16, ScriptFault>
     }
 }
 
-/// The metric of 24 bits that a word spells; else S5.
-pub(crate) fn metric24(word: &[u8]) -> Result<Metric, ScriptFault>
+/// The metric of 24 bits that a word spells.
+///
+/// # Errors
+///
+/// S5, where it spells no such number.
+pub fn metric24(word: &[u8]) -> Result<Metric, ScriptFault>
     ensures { result ≡ number ls_infinity word.now }
 {
     match number_up_to(LS_INFINITY, word) {
@@ -45,8 +57,12 @@ pub(crate) fn metric24(word: &[u8]) -> Result<Metric, ScriptFault>
     }
 }
 
-/// The type of an external metric that a word names, 1 or 2; else S5.
-pub(crate) fn metric_type(word: &[u8]) -> Result<MetricType, ScriptFault>
+/// The type of an external metric that a word names, 1 or 2.
+///
+/// # Errors
+///
+/// S5, where it is neither.
+pub fn metric_type(word: &[u8]) -> Result<MetricType, ScriptFault>
     ensures { result ≡ metric_type word.now }
 {
     match word {
@@ -56,15 +72,23 @@ pub(crate) fn metric_type(word: &[u8]) -> Result<MetricType, ScriptFault>
     }
 }
 
-/// The address that a word spells; else S6.
-pub(crate) fn address(word: &[u8]) -> Result<u32, ScriptFault>
+/// The address that a word spells.
+///
+/// # Errors
+///
+/// S6, where it spells none.
+pub fn address(word: &[u8]) -> Result<u32, ScriptFault>
     ensures { result ≡ address word.now }
 {
     address_of(word).ok_or(ScriptFault::BadAddress)
 }
 
-/// The prefix that a word spells; else S7.
-pub(crate) fn prefix(word: &[u8]) -> Result<Prefix, ScriptFault>
+/// The prefix that a word spells.
+///
+/// # Errors
+///
+/// S7, where it spells none, whatever part of it is wrong.
+pub fn prefix(word: &[u8]) -> Result<Prefix, ScriptFault>
     ensures { result ≡ prefix word.now }
 {
     prefix_of(word).ok_or(ScriptFault::BadPrefix)

@@ -1,6 +1,7 @@
 -- The faults of lines, and how they are printed.
 use Rattle.std.specs.Prelude.{◌≡◌, ℕ, List, Option, Some, None, IfSome, Result, Ok, Err, codes}
 use Rattle.text_words.specs.Words.{Word}
+use Rattle.edit_script.specs.declared.fault.ScriptFault.{ScriptFault}
 use Rattle.edit_script.specs.declared.fault.ScriptFault.TheVariants as script
 use Rattle.edit_script.specs.Fault.{code_of as script_code, name_of as script_name}
 use Rattle.study_arguments.specs.declared.fault.Fault.{Fault}
@@ -35,15 +36,6 @@ missing_word word = (Script script.MissingWord, word)
 abbrev pub extra_word : Word → FaultAt
 extra_word word = (Script script.ExtraWord, word)
 
-abbrev pub bad_number : Word → FaultAt
-bad_number word = (Script script.BadNumber, word)
-
-abbrev pub bad_address : Word → FaultAt
-bad_address word = (Script script.BadAddress, word)
-
-abbrev pub bad_prefix : Word → FaultAt
-bad_prefix word = (Script script.BadPrefix, word)
-
 abbrev pub bad_branch : Word → FaultAt
 bad_branch word = (Script script.BadBranch, word)
 
@@ -53,9 +45,23 @@ bad_word word = (BadWord, word)
 -- ---- what functions return
 
 infixl 10 ◌>>=◌
-abbrev pub ◌>>=◌ : {A B : Type 0} → Result A FaultAt → (A → Result B FaultAt) → Result B FaultAt
+abbrev pub ◌>>=◌ : {A B E : Type 0} → Result A E → (A → Result B E) → Result B E
 (Ok x) >>= f = f x
 (Err fault) >>= f = Err fault
+
+-- what is made of what is read
+abbrev pub made : {A B E : Type 0} → (A → B) → Result A E → Result B E
+made make given = given >>= λ x. Ok (make x)
+
+-- a fault that lines of `ospf-plan` have, too
+abbrev pub of_script : {A : Type 0} → Result A ScriptFault → Result A FaultKind
+of_script (Ok x) = Ok x
+of_script (Err fault) = Err (Script fault)
+
+-- what is wrong with a word, and the word
+abbrev pub at_word : {A : Type 0} → Word → Result A FaultKind → Result A FaultAt
+at_word word (Ok x) = Ok x
+at_word word (Err kind) = Err (kind, word)
 
 -- a function's result, by its view, is what the definition gives
 abbrev pub Gives : {X Y : Type 0} → (X → Y) → Result X Fault → Result Y FaultAt → Type 0

@@ -1,7 +1,6 @@
 pub mod Fault
 pub mod Positions
 pub mod Values
-pub mod Optional
 pub mod Arguments
 pub mod Lists
 pub mod Spelling

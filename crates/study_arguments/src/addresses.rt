@@ -2,27 +2,19 @@
 
 ghost use Rattle.std.specs.Prelude.{◌≡◌};
 ghost use Rattle.network_names.specs.Names.{stands_for};
-ghost use Rattle.study_arguments.specs.Fault.{Is};
-ghost use Rattle.study_arguments.specs.Values.{address, address_named, named, router};
+ghost use Rattle.study_arguments.specs.Values.{address_named, named};
 
-use crate::fault::{Fault, FaultKind};
-use edit_script::ScriptFault;
-use lsa_codec::RouterId;
+use crate::argument::Argument;
+use crate::fault::FaultKind;
+use edit_script::{ScriptFault, address};
+use lsa_codec::{Addr, AreaId, RouterId};
 use network_names::Names;
 use std::alloc::Allocator;
 use text_words::address_of;
 
-/// The address that a word spells; no name stands for it.
-///
-/// # Errors
-///
-/// S6, where it spells none.
-pub fn address<'a>(word: &'a [u8]) -> Result<u32, Fault<'a>>
-    ensures { Is result (address word.now) }
-{
-    let kind = FaultKind::Script(ScriptFault::BadAddress);
-    address_of(word).ok_or(Fault { kind, word })
-}
+/// An address in dotted decimal, for which no name stands.
+#[derive(Clone, Copy, Debug, PartialEq, Eq)]
+pub struct Dotted(pub Addr);
 
 /// The address that a word spells, or that it stands for as a name.
 pub(crate) fn address_named<A: Allocator + Copy>(names: &Names<'_, A>, word: &[u8]) -> Option<u32>
@@ -35,32 +27,48 @@ pub(crate) fn address_named<A: Allocator + Copy>(names: &Names<'_, A>, word: &[u
 }
 
 /// The address that a word spells, or that it stands for as a name.
-///
-/// # Errors
-///
-/// S6, where it is neither an address nor a name.
-pub fn named<'a, A: Allocator + Copy>(
-    names: &Names<'_, A>,
-    word: &'a [u8],
-) -> Result<u32, Fault<'a>>
-    ensures { Is result (named (stands_for names.now) word.now) }
+fn named<A: Allocator + Copy>(names: &Names<'_, A>, word: &[u8]) -> Result<u32, FaultKind>
+    ensures { result ≡ named (stands_for names.now) word.now }
 {
-    let kind = FaultKind::Script(ScriptFault::BadAddress);
-    address_named(names, word).ok_or(Fault { kind, word })
+    address_named(names, word).ok_or(FaultKind::Script(ScriptFault::BadAddress))
 }
 
-/// The router that a word names, by its Router ID or by a name.
-///
-/// # Errors
-///
-/// S6, where it is neither an address nor a name.
-#[tactic(auto, unfolding(crate::specs::Values::router))]
-pub fn router_of<'a, A: Allocator + Copy>(
-    names: &Names<'_, A>,
-    word: &'a [u8],
-) -> Result<RouterId, Fault<'a>>
-    ensures { Is result (router (stands_for names.now) word.now) }
-{
-    let id = named(names, word)?;
-    Ok(RouterId(id))
+impl Argument for RouterId {
+    ghost use Rattle.study_arguments.specs.Values.{router_id};
+
+    ghost means = { router_id };
+
+    fn read<A: Allocator + Copy>(names: &Names<'_, A>, word: &[u8]) -> Result<Self, FaultKind> {
+        Ok(RouterId(named(names, word)?))
+    }
+}
+
+impl Argument for Addr {
+    ghost use Rattle.study_arguments.specs.Values.{addr};
+
+    ghost means = { addr };
+
+    fn read<A: Allocator + Copy>(names: &Names<'_, A>, word: &[u8]) -> Result<Self, FaultKind> {
+        Ok(Addr(named(names, word)?))
+    }
+}
+
+impl Argument for AreaId {
+    ghost use Rattle.study_arguments.specs.Values.{area_id};
+
+    ghost means = { area_id };
+
+    fn read<A: Allocator + Copy>(_names: &Names<'_, A>, word: &[u8]) -> Result<Self, FaultKind> {
+        Ok(AreaId(address(word)?))
+    }
+}
+
+impl Argument for Dotted {
+    ghost use Rattle.study_arguments.specs.Values.{dotted};
+
+    ghost means = { dotted };
+
+    fn read<A: Allocator + Copy>(_names: &Names<'_, A>, word: &[u8]) -> Result<Self, FaultKind> {
+        Ok(Dotted(Addr(address(word)?)))
+    }
 }

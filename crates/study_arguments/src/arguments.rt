@@ -1,14 +1,18 @@
-//! The arguments of a command: each word, and how many there are.
+//! The arguments of a command: how many there are, and what each means.
 
 ghost use Rattle.std.specs.Prelude.{◌≡◌, option_map};
 ghost use Rattle.edit_script.specs.Words.{words};
-ghost use Rattle.study_arguments.specs.Arguments.{argument, four_of, one_of, one_or_two_of, optional_of, six_of, three_of, two_of};
-ghost use Rattle.study_arguments.specs.Fault.{Gives};
+ghost use Rattle.network_names.specs.Names.{stands_for};
+ghost use Rattle.study_arguments.specs.Arguments.{argument, four_of, if_given, one_of, one_or_two_of, optional_of, optional_word, six_of, three_of, two_of};
+ghost use Rattle.study_arguments.specs.Fault.{Gives, Is};
 ghost use Rattle.study_arguments.specs.Positions.{words_at};
 
+use crate::argument::{Argument, value_of};
 use crate::fault::{Fault, FaultKind};
 use crate::position::{Position, end, first_word};
 use edit_script::ScriptFault;
+use network_names::Names;
+use std::alloc::Allocator;
 
 /// The first of the arguments of a command word, and the text after it; else S3 for the command
 /// word.
@@ -24,106 +28,140 @@ fn argument<'a>(word: &'a [u8], arguments: &'a [u8]) -> Result<Position<'a>, Fau
     }
 }
 
+/// The first three of the arguments of a command word; else S3 for the command word.
+#[tactic(auto, unfolding(crate::specs::Arguments::three_words))]
+fn three_words<'a>(
+    word: &'a [u8],
+    arguments: &'a [u8],
+) -> Result<(Position<'a>, Position<'a>, Position<'a>), Fault<'a>>
+    ensures { Gives (λ x. (words_at x.0, words_at x.1, words_at x.2)) result
+        (three_words word.now (words arguments.now)) }
+{
+    let first = argument(word, arguments)?;
+    let second = argument(word, first.rest)?;
+    let third = argument(word, second.rest)?;
+    Ok((first, second, third))
+}
+
 /// The only argument of a command.
 ///
 /// # Errors
 ///
-/// S3 for the command word where there are too few; S4 for the first word that is too many.
+/// S3 for the command word where there are too few; S4 for the first word that is too many; the
+/// fault of the argument.
 #[tactic(auto, unfolding(crate::specs::Arguments::one_of))]
-pub fn one<'a>(line: Position<'a>) -> Result<&'a [u8], Fault<'a>>
-    ensures { Gives (λ x. x.now) result (one_of (words_at line.entry)) }
+pub fn one<'a, T: Argument, A: Allocator + Copy>(
+    names: &Names<'_, A>,
+    line: Position<'a>,
+) -> Result<T, Fault<'a>>
+    ensures { Is result (one_of (T.means (stands_for names.now)) (words_at line.entry)) }
 {
     let first = argument(line.word, line.rest)?;
     end(first)?;
-    Ok(first.word)
+    value_of(names, first.word)
 }
 
 /// The two arguments of a command.
 ///
 /// # Errors
 ///
-/// S3 for the command word where there are too few; S4 for the first word that is too many.
+/// Those of [`one`], in the order of the arguments.
 #[tactic(auto, unfolding(crate::specs::Arguments::two_of))]
-pub fn two<'a>(line: Position<'a>) -> Result<(&'a [u8], &'a [u8]), Fault<'a>>
-    ensures { Gives (λ x. (x.0.now, x.1.now)) result (two_of (words_at line.entry)) }
+pub fn two<'a, T: Argument, U: Argument, A: Allocator + Copy>(
+    names: &Names<'_, A>,
+    line: Position<'a>,
+) -> Result<(T, U), Fault<'a>>
+    ensures { Is result (two_of (T.means (stands_for names.now)) (U.means (stands_for names.now))
+        (words_at line.entry)) }
 {
     let first = argument(line.word, line.rest)?;
     let second = argument(line.word, first.rest)?;
     end(second)?;
-    Ok((first.word, second.word))
+    let first = value_of(names, first.word)?;
+    let second = value_of(names, second.word)?;
+    Ok((first, second))
 }
 
 /// The three arguments of a command.
 ///
 /// # Errors
 ///
-/// S3 for the command word where there are too few; S4 for the first word that is too many.
+/// Those of [`one`], in the order of the arguments.
 #[tactic(auto, unfolding(crate::specs::Arguments::three_of))]
-pub fn three<'a>(line: Position<'a>) -> Result<(&'a [u8], &'a [u8], &'a [u8]), Fault<'a>>
-    ensures { Gives (λ x. (x.0.now, x.1.now, x.2.now)) result (three_of (words_at line.entry)) }
+pub fn three<'a, T: Argument, U: Argument, V: Argument, A: Allocator + Copy>(
+    names: &Names<'_, A>,
+    line: Position<'a>,
+) -> Result<(T, U, V), Fault<'a>>
+    ensures { Is result (three_of (T.means (stands_for names.now)) (U.means (stands_for names.now))
+        (V.means (stands_for names.now)) (words_at line.entry)) }
 {
-    let first = argument(line.word, line.rest)?;
-    let second = argument(line.word, first.rest)?;
-    let third = argument(line.word, second.rest)?;
+    let (first, second, third) = three_words(line.word, line.rest)?;
     end(third)?;
-    Ok((first.word, second.word, third.word))
+    let first = value_of(names, first.word)?;
+    let second = value_of(names, second.word)?;
+    let third = value_of(names, third.word)?;
+    Ok((first, second, third))
 }
 
 /// The four arguments of a command.
 ///
 /// # Errors
 ///
-/// S3 for the command word where there are too few; S4 for the first word that is too many.
+/// Those of [`one`], in the order of the arguments.
 #[tactic(auto, unfolding(crate::specs::Arguments::four_of))]
-pub fn four<'a>(line: Position<'a>) -> Result<(&'a [u8], &'a [u8], &'a [u8], &'a [u8]), Fault<'a>>
-    ensures { Gives (λ x. (x.0.now, x.1.now, x.2.now, x.3.now)) result
-        (four_of (words_at line.entry)) }
+pub fn four<'a, T: Argument, U: Argument, V: Argument, W: Argument, A: Allocator + Copy>(
+    names: &Names<'_, A>,
+    line: Position<'a>,
+) -> Result<(T, U, V, W), Fault<'a>>
+    ensures { Is result (four_of (T.means (stands_for names.now)) (U.means (stands_for names.now))
+        (V.means (stands_for names.now)) (W.means (stands_for names.now)) (words_at line.entry)) }
 {
-    let first = argument(line.word, line.rest)?;
-    let second = argument(line.word, first.rest)?;
-    let third = argument(line.word, second.rest)?;
+    let (first, second, third) = three_words(line.word, line.rest)?;
     let fourth = argument(line.word, third.rest)?;
     end(fourth)?;
-    Ok((first.word, second.word, third.word, fourth.word))
+    let first = value_of(names, first.word)?;
+    let second = value_of(names, second.word)?;
+    let third = value_of(names, third.word)?;
+    let fourth = value_of(names, fourth.word)?;
+    Ok((first, second, third, fourth))
 }
 
 /// The six arguments of a command.
 ///
 /// # Errors
 ///
-/// S3 for the command word where there are too few; S4 for the first word that is too many.
+/// Those of [`one`], in the order of the arguments.
 #[tactic(auto, unfolding(crate::specs::Arguments::six_of))]
-pub fn six<'a>(
-    line: Position<'a>,
-) -> Result<(&'a [u8], &'a [u8], &'a [u8], &'a [u8], &'a [u8], &'a [u8]), Fault<'a>>
-    ensures { Gives (λ x. (x.0.now, x.1.now, x.2.now, x.3.now, x.4.now, x.5.now)) result
-        (six_of (words_at line.entry)) }
+pub fn six<
+    'a,
+    T: Argument,
+    U: Argument,
+    V: Argument,
+    W: Argument,
+    X: Argument,
+    Y: Argument,
+    A: Allocator + Copy,
+>(names: &Names<'_, A>, line: Position<'a>) -> Result<(T, U, V, W, X, Y), Fault<'a>>
+    ensures { Is result (six_of (T.means (stands_for names.now)) (U.means (stands_for names.now))
+        (V.means (stands_for names.now)) (W.means (stands_for names.now))
+        (X.means (stands_for names.now)) (Y.means (stands_for names.now)) (words_at line.entry)) }
 {
-    let first = argument(line.word, line.rest)?;
-    let second = argument(line.word, first.rest)?;
-    let third = argument(line.word, second.rest)?;
-    let fourth = argument(line.word, third.rest)?;
-    let fifth = argument(line.word, fourth.rest)?;
-    let sixth = argument(line.word, fifth.rest)?;
+    let (first, second, third) = three_words(line.word, line.rest)?;
+    let (fourth, fifth, sixth) = three_words(line.word, third.rest)?;
     end(sixth)?;
-    Ok((
-        first.word,
-        second.word,
-        third.word,
-        fourth.word,
-        fifth.word,
-        sixth.word,
-    ))
+    let first = value_of(names, first.word)?;
+    let second = value_of(names, second.word)?;
+    let third = value_of(names, third.word)?;
+    let fourth = value_of(names, fourth.word)?;
+    let fifth = value_of(names, fifth.word)?;
+    let sixth = value_of(names, sixth.word)?;
+    Ok((first, second, third, fourth, fifth, sixth))
 }
 
-/// The argument of a command, which may be left out.
-///
-/// # Errors
-///
-/// S4 for a second word.
-pub fn optional<'a>(line: Position<'a>) -> Result<Option<&'a [u8]>, Fault<'a>>
+/// The word of a command's argument, if there is one; else S4 for a second word.
+fn optional_word<'a>(line: Position<'a>) -> Result<Option<&'a [u8]>, Fault<'a>>
     ensures { Gives (λ x. option_map (λ word. word.now) x) result
-        (optional_of (words_at line.entry)) }
+        (optional_word (words_at line.entry)) }
 {
     let Some(first) = first_word(line.rest) else {
         return Ok(None);
@@ -137,17 +175,54 @@ pub fn optional<'a>(line: Position<'a>) -> Result<Option<&'a [u8]>, Fault<'a>>
     }
 }
 
+/// What a word means, if there is one; else its fault.
+fn if_given<'a, T: Argument, A: Allocator + Copy>(
+    names: &Names<'_, A>,
+    word: Option<&'a [u8]>,
+) -> Result<Option<T>, Fault<'a>>
+    ensures { Is result (if_given (T.means (stands_for names.now))
+        (option_map (λ word. word.now) word.entry)) }
+{
+    let Some(word) = word else {
+        return Ok(None);
+    };
+    let value = value_of(names, word)?;
+    Ok(Some(value))
+}
+
+/// The argument of a command, which may be left out.
+///
+/// # Errors
+///
+/// S4 for a second word; the fault of the argument.
+#[tactic(auto, unfolding(crate::specs::Arguments::optional_of))]
+pub fn optional<'a, T: Argument, A: Allocator + Copy>(
+    names: &Names<'_, A>,
+    line: Position<'a>,
+) -> Result<Option<T>, Fault<'a>>
+    ensures { Is result (optional_of (T.means (stands_for names.now)) (words_at line.entry)) }
+{
+    let word = optional_word(line)?;
+    if_given(names, word)
+}
+
 /// The argument of a command, and a second one, which may be left out.
 ///
 /// # Errors
 ///
-/// S3 for the command word where there is no argument; S4 for a third word.
+/// S3 for the command word where there is no argument; S4 for a third word; the faults of the
+/// arguments.
 #[tactic(auto, unfolding(crate::specs::Arguments::one_or_two_of))]
-pub fn one_or_two<'a>(line: Position<'a>) -> Result<(&'a [u8], Option<&'a [u8]>), Fault<'a>>
-    ensures { Gives (λ x. (x.0.now, option_map (λ word. word.now) x.1)) result
-        (one_or_two_of (words_at line.entry)) }
+pub fn one_or_two<'a, T: Argument, U: Argument, A: Allocator + Copy>(
+    names: &Names<'_, A>,
+    line: Position<'a>,
+) -> Result<(T, Option<U>), Fault<'a>>
+    ensures { Is result (one_or_two_of (T.means (stands_for names.now))
+        (U.means (stands_for names.now)) (words_at line.entry)) }
 {
     let first = argument(line.word, line.rest)?;
-    let second = optional(first)?;
-    Ok((first.word, second))
+    let second = optional_word(first)?;
+    let first = value_of(names, first.word)?;
+    let second = if_given(names, second)?;
+    Ok((first, second))
 }

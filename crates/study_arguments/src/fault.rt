@@ -2,6 +2,7 @@
 
 ghost use Rattle.std.specs.Prelude.{◌≡◌};
 ghost use Rattle.study_arguments.specs.Fault.{code_of, name_of};
+ghost use Rattle.study_arguments.specs.declared.fault.FaultKind.TheVariants as kinds;
 ghost use Rattle.study_arguments.specs.declared.fault.ParseError.TheVariants as errors;
 
 use edit_script::ScriptFault;
@@ -39,6 +40,14 @@ impl FaultKind {
             FaultKind::Script(fault) => fault.name(),
             FaultKind::BadWord => "BadWord",
         }
+    }
+}
+
+impl From<ScriptFault> for FaultKind {
+    ghost from_gives = { λ fault kind. kind ≡ kinds.Script fault };
+
+    fn from(fault: ScriptFault) -> FaultKind {
+        FaultKind::Script(fault)
     }
 }
 

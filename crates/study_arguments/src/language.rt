@@ -1,32 +1,37 @@
 //! What a word means as one of the language.
 
-ghost use Rattle.std.specs.Prelude.{◌≡◌};
-ghost use Rattle.study_arguments.specs.Fault.{Is};
-ghost use Rattle.study_arguments.specs.Values.{audit_kind, comparison};
+use crate::argument::Argument;
+use crate::fault::FaultKind;
+use network_names::Names;
+use std::alloc::Allocator;
+use study_words::{AuditKind, Comparison, StudyWord, Word};
 
-use crate::fault::{Fault, FaultKind};
-use study_words::{AuditKind, Comparison};
+impl Argument for AuditKind {
+    ghost use Rattle.study_arguments.specs.Values.{audit_kind};
 
-/// The kind of audit findings that a word names.
-///
-/// # Errors
-///
-/// S9, where it names none.
-pub fn audit_kind<'a>(word: &'a [u8]) -> Result<AuditKind, Fault<'a>>
-    ensures { Is result (audit_kind word.now) }
-{
-    let kind = FaultKind::BadWord;
-    AuditKind::of(word).ok_or(Fault { kind, word })
+    ghost means = { audit_kind };
+
+    fn read<A: Allocator + Copy>(_names: &Names<'_, A>, word: &[u8]) -> Result<Self, FaultKind> {
+        AuditKind::of(word).ok_or(FaultKind::BadWord)
+    }
 }
 
-/// The comparison that a word is.
-///
-/// # Errors
-///
-/// S9, where it is none.
-pub fn comparison<'a>(word: &'a [u8]) -> Result<Comparison, Fault<'a>>
-    ensures { Is result (comparison word.now) }
-{
-    let kind = FaultKind::BadWord;
-    Comparison::of(word).ok_or(Fault { kind, word })
+impl Argument for Comparison {
+    ghost use Rattle.study_arguments.specs.Values.{comparison};
+
+    ghost means = { comparison };
+
+    fn read<A: Allocator + Copy>(_names: &Names<'_, A>, word: &[u8]) -> Result<Self, FaultKind> {
+        Comparison::of(word).ok_or(FaultKind::BadWord)
+    }
+}
+
+impl Argument for StudyWord {
+    ghost use Rattle.study_arguments.specs.Values.{study_word};
+
+    ghost means = { study_word };
+
+    fn read<A: Allocator + Copy>(_names: &Names<'_, A>, word: &[u8]) -> Result<Self, FaultKind> {
+        StudyWord::of(word).ok_or(FaultKind::BadWord)
+    }
 }

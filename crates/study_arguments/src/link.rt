@@ -1,14 +1,9 @@
-//! What names a link.
-
-ghost use Rattle.std.specs.Prelude.{◌≡◌};
-ghost use Rattle.network_names.specs.Names.{stands_for};
-ghost use Rattle.study_arguments.specs.Fault.{Is};
-ghost use Rattle.study_arguments.specs.Values.{link};
+//! What a word means as a prefix, and what names a link.
 
 use crate::addresses::address_named;
-use crate::fault::Fault;
-use crate::networks::prefix_of;
-use crate::numbers::number16;
+use crate::argument::Argument;
+use crate::fault::FaultKind;
+use edit_script::{number16, prefix};
 use lsa_codec::{Addr, Prefix};
 use network_names::Names;
 use std::alloc::Allocator;
@@ -25,24 +20,29 @@ pub enum LinkName {
     Prefix(Prefix),
 }
 
-/// The number of a link, or what names it.
-///
-/// # Errors
-///
-/// S5, where it is neither an address, a name, a prefix nor a number of 16 bits.
+impl Argument for Prefix {
+    ghost use Rattle.study_arguments.specs.Values.{prefix};
+
+    ghost means = { prefix };
+
+    fn read<A: Allocator + Copy>(_names: &Names<'_, A>, word: &[u8]) -> Result<Self, FaultKind> {
+        Ok(prefix(word)?)
+    }
+}
+
 #[tactic(auto, unfolding(crate::specs::Values::link))]
-pub fn link_of<'a, A: Allocator + Copy>(
-    names: &Names<'_, A>,
-    word: &'a [u8],
-) -> Result<LinkName, Fault<'a>>
-    ensures { Is result (link (stands_for names.now) word.now) }
-{
-    if let Some(address) = address_named(names, word) {
-        return Ok(LinkName::Address(Addr(address)));
+impl Argument for LinkName {
+    ghost use Rattle.study_arguments.specs.Values.{link};
+
+    ghost means = { link };
+
+    fn read<A: Allocator + Copy>(names: &Names<'_, A>, word: &[u8]) -> Result<Self, FaultKind> {
+        if let Some(address) = address_named(names, word) {
+            return Ok(LinkName::Address(Addr(address)));
+        }
+        if let Ok(prefix) = prefix(word) {
+            return Ok(LinkName::Prefix(prefix));
+        }
+        Ok(LinkName::Number(number16(word)?))
     }
-    if let Some(prefix) = prefix_of(word) {
-        return Ok(LinkName::Prefix(prefix));
-    }
-    let number = number16(word)?;
-    Ok(LinkName::Number(number))
 }

@@ -1,75 +1,48 @@
 //! What a word means as a number.
 
-ghost use Rattle.std.specs.Prelude.{◌≡◌};
-ghost use Rattle.lsa_codec.specs.Views.{ls_infinity};
-ghost use Rattle.edit_script.specs.Reading.{greatest_number16};
-ghost use Rattle.study_arguments.specs.Fault.{Is};
-ghost use Rattle.study_arguments.specs.Values.{metric_type, number};
+use crate::argument::Argument;
+use crate::fault::FaultKind;
+use edit_script::{MetricType, metric_type, metric24, number, number16};
+use lsa_codec::Metric;
+use network_names::Names;
+use std::alloc::Allocator;
 
-use crate::fault::{Fault, FaultKind};
-use edit_script::{MetricType, ScriptFault};
-use lsa_codec::{LS_INFINITY, Metric};
-use text_words::number_up_to;
+impl Argument for u16 {
+    ghost use Rattle.study_arguments.specs.Values.{number16};
 
-/// The greatest number of 16 bits, for the number of a link and its metric (RFC 2328, A.4.2).
-const GREATEST_NUMBER16: u32 = 65_535;
+    ghost means = { number16 };
 
-/// The number that a word spells, where it is at most `max`.
-///
-/// # Errors
-///
-/// S5, where it spells no such number.
-pub fn number<'a>(max: u32, word: &'a [u8]) -> Result<u32, Fault<'a>>
-    ensures { Is result (number max word.now) }
-{
-    let kind = FaultKind::Script(ScriptFault::BadNumber);
-    number_up_to(max, word).ok_or(Fault { kind, word })
-}
-
-/// The number of 16 bits that a word spells.
-///
-/// # Errors
-///
-/// S5, where it spells no such number.
-pub fn number16<'a>(word: &'a [u8]) -> Result<u16, Fault<'a>>
-    ensures { Is result (number greatest_number16 word.now) }
-{
-    let kind = FaultKind::Script(ScriptFault::BadNumber);
-    match number_up_to(GREATEST_NUMBER16, word) {
-        Some(number) => Ok(number as u16),
-        None => Err(Fault { kind, word }),
+    fn read<A: Allocator + Copy>(_names: &Names<'_, A>, word: &[u8]) -> Result<Self, FaultKind> {
+        Ok(number16(word)?)
     }
 }
 
-/// The metric of 24 bits that a word spells.
-///
-/// # Errors
-///
-/// S5, where it spells no such number.
-pub fn metric24<'a>(word: &'a [u8]) -> Result<Metric, Fault<'a>>
-    ensures { Is result (number ls_infinity word.now) }
-{
-    let kind = FaultKind::Script(ScriptFault::BadNumber);
-    match number_up_to(LS_INFINITY, word) {
-        Some(number) => Metric::new(number).ok_or(Fault { kind, word }),
-        None => Err(Fault { kind, word }),
+impl Argument for Metric {
+    ghost use Rattle.study_arguments.specs.Values.{metric24};
+
+    ghost means = { metric24 };
+
+    fn read<A: Allocator + Copy>(_names: &Names<'_, A>, word: &[u8]) -> Result<Self, FaultKind> {
+        Ok(metric24(word)?)
     }
 }
 
-/// The type of an external metric that a word names, 1 or 2.
-///
-/// # Errors
-///
-/// S5, where it is neither.
-pub fn metric_type<'a>(word: &'a [u8]) -> Result<MetricType, Fault<'a>>
-    ensures { Is result (metric_type word.now) }
-{
-    match word {
-        b"1" => Ok(MetricType::Type1),
-        b"2" => Ok(MetricType::Type2),
-        _ => Err(Fault {
-            kind: FaultKind::Script(ScriptFault::BadNumber),
-            word,
-        }),
+impl Argument for u32 {
+    ghost use Rattle.study_arguments.specs.Values.{number32};
+
+    ghost means = { number32 };
+
+    fn read<A: Allocator + Copy>(_names: &Names<'_, A>, word: &[u8]) -> Result<Self, FaultKind> {
+        Ok(number(u32::MAX, word)?)
+    }
+}
+
+impl Argument for MetricType {
+    ghost use Rattle.study_arguments.specs.Values.{metric_type};
+
+    ghost means = { metric_type };
+
+    fn read<A: Allocator + Copy>(_names: &Names<'_, A>, word: &[u8]) -> Result<Self, FaultKind> {
+        Ok(metric_type(word)?)
     }
 }
