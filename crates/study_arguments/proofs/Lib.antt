@@ -1,3 +1,2 @@
-pub mod PrefixParts
 pub mod EachWord
 pub mod ArgumentLemmas

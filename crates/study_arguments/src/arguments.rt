@@ -3,7 +3,7 @@
 ghost use Rattle.std.specs.Prelude.{◌≡◌, option_map};
 ghost use Rattle.edit_script.specs.Words.{words};
 ghost use Rattle.network_names.specs.Names.{stands_for};
-ghost use Rattle.study_arguments.specs.Arguments.{argument, four_of, if_given, one_of, one_or_two_of, optional_of, optional_word, six_of, three_of, two_of};
+ghost use Rattle.study_arguments.specs.Arguments.{argument, four_of, if_given, one_of, one_or_two_of, optional_of, optional_word, six_of, three_of, three_words, two_of};
 ghost use Rattle.study_arguments.specs.Fault.{Gives, Is};
 ghost use Rattle.study_arguments.specs.Positions.{words_at};
 
@@ -29,7 +29,6 @@ fn argument<'a>(word: &'a [u8], arguments: &'a [u8]) -> Result<Position<'a>, Fau
 }
 
 /// The first three of the arguments of a command word; else S3 for the command word.
-#[tactic(auto, unfolding(crate::specs::Arguments::three_words))]
 fn three_words<'a>(
     word: &'a [u8],
     arguments: &'a [u8],

@@ -1,7 +1,7 @@
 //! Why a line is not carried out.
 
 ghost use Rattle.std.specs.Prelude.{◌≡◌};
-ghost use Rattle.study_arguments.specs.Fault.{code_of, name_of};
+ghost use Rattle.study_arguments.specs.Fault.{bad_word, code_of, fault_at, name_of, unknown_word};
 ghost use Rattle.study_arguments.specs.declared.fault.FaultKind.TheVariants as kinds;
 ghost use Rattle.study_arguments.specs.declared.fault.ParseError.TheVariants as errors;
 
@@ -59,6 +59,24 @@ pub struct Fault<'a> {
     /// The word at fault. Where a word is missing, it is the branch where nothing follows it, the
     /// command word where there are too few arguments, and the last word of an expectation.
     pub word: &'a [u8],
+}
+
+impl<'a> Fault<'a> {
+    /// S2, for a word that is unknown.
+    pub fn unknown_word(word: &'a [u8]) -> Fault<'a>
+        ensures { fault_at result ≡ unknown_word word.now }
+    {
+        let kind = FaultKind::Script(ScriptFault::UnknownWord);
+        Fault { kind, word }
+    }
+
+    /// S9, for a word that is none of those that may stand there.
+    pub fn bad_word(word: &'a [u8]) -> Fault<'a>
+        ensures { fault_at result ≡ bad_word word.now }
+    {
+        let kind = FaultKind::BadWord;
+        Fault { kind, word }
+    }
 }
 
 /// Why a line is not read.

@@ -1,6 +1,7 @@
 -- What an expectation means: a condition, turned around or not, and the words of it.
-use Rattle.std.specs.Prelude.{Bool, true, false, List, [], ◌∷◌, Option, Some, None, Result, Ok, Err, ok_or, codes, bytes_eq, if◌then◌else◌}
+use Rattle.std.specs.Prelude.{ℕ, Bool, true, false, List, [], ◌∷◌, Option, Some, None, Result, Ok, Err, ok_or, codes, bytes_eq, if◌then◌else◌}
 use Rattle.std.specs.Char.{is_ascii_digit}
+use Rattle.lsa_codec.specs.Prefix.{Net}
 use Rattle.lsa_codec.specs.declared.address.RouterId.{RouterId}
 use Rattle.text_words.specs.Words.{Word}
 use Rattle.study_words.specs.declared.condition_word.ConditionWord.{ConditionWord}
@@ -8,9 +9,10 @@ use Rattle.study_words.specs.declared.condition_word.ConditionWord.TheVariants a
 use Rattle.study_words.specs.declared.route_kind.RouteKind.{RouteKind}
 use Rattle.study_words.specs.ConditionWords.{condition_word_of}
 use Rattle.study_words.specs.RouteKinds.{route_kind_of}
-use Rattle.study_arguments.specs.Fault.{◌>>=◌, FaultAt, bad_word, unknown_word}
+use Rattle.study_arguments.specs.Arguments.{next_as}
+use Rattle.study_arguments.specs.Fault.{◌>>=◌, FaultAt, bad_word, made, unknown_word}
 use Rattle.study_arguments.specs.Positions.{At, end, next}
-use Rattle.study_arguments.specs.Values.{Lookup, audit_kind, comparison, named, number, prefix, router}
+use Rattle.study_arguments.specs.Values.{Lookup, addr, audit_kind, comparison, number32, prefix, router_id}
 use Rattle.study_arguments.specs.Lists.{neighbors, one_or_more}
 use Rattle.study_script.specs.declared.condition.Bound.{Bound}
 use Rattle.study_script.specs.declared.condition.Passing.{Passing}
@@ -19,14 +21,19 @@ use Rattle.study_script.specs.Expected.{Expected, route, no_route, hops, path, l
 
 -- ---- parts of conditions; a part that is read goes with its last word and the words after it
 
+-- ROUTER PREFIX, which name an entry of a table
+unfoldable pub entry_of : Lookup → At → Result (RouterId × Net × At) FaultAt
+entry_of names line = do
+  router ← next_as (router_id names) line
+  net ← next_as (prefix names) router.1
+  Ok (router.0, net.0, net.1)
+
 -- OP NUMBER
-unfoldable pub bound_of : At → Result (Bound × At) FaultAt
-bound_of line = do
-  first ← next line
-  how ← comparison first.0
-  second ← next first
-  n ← number 4294967295 second.0
-  Ok (record { comparison = how; number = n }, second)
+unfoldable pub bound_of : Lookup → At → Result (Bound × At) FaultAt
+bound_of names line = do
+  how ← next_as (comparison names) line
+  n ← next_as (number32 names) how.1
+  Ok (record { comparison = how.0; number = n.0 }, n.1)
 
 -- [KIND]
 abbrev pub kind_or_none : At → Word → List Word → Option RouteKind → Option RouteKind × At
@@ -45,124 +52,105 @@ via_part names (last, word ∷ rest) =
     else Ok (None, (last, word ∷ rest))
 
 -- [cost OP NUMBER], and the end of the line: a word in place of `cost` does not fit
-unfoldable pub cost_part : At → Result (Option Bound) FaultAt
-cost_part (last, []) = Ok None
-cost_part (last, word ∷ rest) =
-    if bytes_eq word (codes "cost") then (bound_of (word, rest) >>= λ cost. end cost.1 >>= λ _. Ok (Some cost.0))
+unfoldable pub cost_part : Lookup → At → Result (Option Bound) FaultAt
+cost_part names (last, []) = Ok None
+cost_part names (last, word ∷ rest) =
+    if bytes_eq word (codes "cost") then (bound_of names (word, rest) >>= λ cost. end cost.1 >>= λ _. Ok (Some cost.0))
     else Err (bad_word word)
+
+-- NUMBER, and the end of the line
+unfoldable pub last_number : Lookup → At → Result ℕ FaultAt
+last_number names line = do
+  n ← next_as (number32 names) line
+  _ ← end n.1
+  Ok n.0
+
+-- none, and the end of the line
+unfoldable pub none_of : At → Result (Unit {0}) FaultAt
+none_of line = next line >>= λ first. if bytes_eq first.0 (codes "none") then end first else Err (bad_word first.0)
 
 -- ---- the conditions
 
 -- route ROUTER PREFIX [KIND] [via NEIGHBOR,..] [cost OP NUMBER]
 unfoldable pub route_of : Lookup → At → Result Expected FaultAt
 route_of names line = do
-  first ← next line
-  router ← router names first.0
-  second ← next first
-  net ← prefix second.0
-  via ← via_part names (kind_part second).1
-  cost ← cost_part via.1
-  Ok (route router net (kind_part second).0 via.0 cost)
+  entry ← entry_of names line
+  via ← via_part names (kind_part entry.2).1
+  cost ← cost_part names via.1
+  Ok (route entry.0 entry.1 (kind_part entry.2).0 via.0 cost)
 
 -- no-route ROUTER PREFIX
 unfoldable pub no_route_of : Lookup → At → Result Expected FaultAt
 no_route_of names line = do
-  first ← next line
-  router ← router names first.0
-  second ← next first
-  net ← prefix second.0
-  _ ← end second
-  Ok (no_route router net)
+  entry ← entry_of names line
+  _ ← end entry.2
+  Ok (no_route entry.0 entry.1)
 
 -- hops ROUTER PREFIX OP NUMBER
 unfoldable pub hops_of : Lookup → At → Result Expected FaultAt
 hops_of names line = do
-  first ← next line
-  router ← router names first.0
-  second ← next first
-  net ← prefix second.0
-  bound ← bound_of second
+  entry ← entry_of names line
+  bound ← bound_of names entry.2
   _ ← end bound.1
-  Ok (hops router net bound.0)
+  Ok (hops entry.0 entry.1 bound.0)
 
--- via ROUTER, avoids ROUTER or delivered; the first word is this line's
+-- via ROUTER, avoids ROUTER or delivered
 unfoldable pub passing_of : Lookup → At → Result (Passing × At) FaultAt
-passing_of names line =
-    if bytes_eq line.0 (codes "via") then (next line >>= λ after. router names after.0 >>= λ other. Ok (passing.Via other, after))
-    else if bytes_eq line.0 (codes "avoids") then (next line >>= λ after. router names after.0 >>= λ other. Ok (passing.Avoids other, after))
-    else if bytes_eq line.0 (codes "delivered") then Ok (passing.Delivered, line)
-    else Err (bad_word line.0)
+passing_of names line = next line >>= λ first.
+    if bytes_eq first.0 (codes "via") then made (λ x. (passing.Via x.0, x.1)) (next_as (router_id names) first)
+    else if bytes_eq first.0 (codes "avoids") then made (λ x. (passing.Avoids x.0, x.1)) (next_as (router_id names) first)
+    else if bytes_eq first.0 (codes "delivered") then Ok (passing.Delivered, first)
+    else Err (bad_word first.0)
 
 -- path ROUTER ADDRESS via ROUTER | avoids ROUTER | delivered
 unfoldable pub path_of : Lookup → At → Result Expected FaultAt
 path_of names line = do
-  first ← next line
-  router ← router names first.0
-  second ← next first
-  address ← named names second.0
-  third ← next second
-  through ← passing_of names third
+  router ← next_as (router_id names) line
+  address ← next_as (addr names) router.1
+  through ← passing_of names address.1
   _ ← end through.1
-  Ok (path router (record { 0 = address }) through.0)
+  Ok (path router.0 address.0 through.0)
 
 -- none | <= NUMBER | only PREFIX..; the first word is this line's
-unfoldable pub allowed_of : At → Result PairsAllowed FaultAt
-allowed_of line =
-    if bytes_eq line.0 (codes "none") then (end line >>= λ _. Ok nothing)
-    else if bytes_eq line.0 (codes "<=") then (next line >>= λ after. number 4294967295 after.0 >>= λ most. end after >>= λ _. Ok (at_most most))
-    else if bytes_eq line.0 (codes "only") then (one_or_more prefix line >>= λ prefixes. Ok (only prefixes))
+unfoldable pub allowed_of : Lookup → At → Result PairsAllowed FaultAt
+allowed_of names line =
+    if bytes_eq line.0 (codes "none") then made (λ _. nothing) (end line)
+    else if bytes_eq line.0 (codes "<=") then made at_most (last_number names line)
+    else if bytes_eq line.0 (codes "only") then made only (one_or_more (prefix names) line)
     else Err (bad_word line.0)
 
-unfoldable pub lost_of : At → Result Expected FaultAt
-lost_of line = do
-  first ← next line
-  pairs ← allowed_of first
-  Ok (lost pairs)
-
-unfoldable pub gone_of : At → Result Expected FaultAt
-gone_of line = do
-  first ← next line
-  pairs ← allowed_of first
-  Ok (gone pairs)
-
--- none, and the end of the line; the word is this line's
-unfoldable pub none_of : At → Result (Unit {0}) FaultAt
-none_of line = if bytes_eq line.0 (codes "none") then end line else Err (bad_word line.0)
-
--- a condition that is `none` alone
-unfoldable pub bare_none : Expected → At → Result Expected FaultAt
-bare_none what line = do
-  first ← next line
-  _ ← none_of first
-  Ok what
-
--- a word that begins with a digit is a number
+-- whether a word follows that begins with a digit: it is a number
 abbrev pub begins_with_digit : Word → Bool
 begins_with_digit [] = false
 begins_with_digit (byte ∷ bytes) = is_ascii_digit byte
 
+abbrev pub has_number : At → Bool
+has_number (word, []) = false
+has_number (word, first ∷ rest) = begins_with_digit first
+
 -- microloops [COUNT] none
-unfoldable pub microloops_of : At → Result Expected FaultAt
-microloops_of line = next line >>= λ first.
-    if begins_with_digit first.0 then (number 4294967295 first.0 >>= λ count. next first >>= λ second. none_of second >>= λ _. Ok (no_microloops (Some count)))
-    else (none_of first >>= λ _. Ok (no_microloops None))
+unfoldable pub microloops_of : Lookup → At → Result Expected FaultAt
+microloops_of names line =
+    if has_number line then (next_as (number32 names) line >>= λ count. made (λ _. no_microloops (Some count.0)) (none_of count.1))
+    else made (λ _. no_microloops None) (none_of line)
 
 -- same [ROUTER]
 unfoldable pub same_of : Lookup → At → Result Expected FaultAt
 same_of names (word, []) = Ok (same None)
-same_of names (word, first ∷ rest) = router names first >>= λ router. end (first, rest) >>= λ _. Ok (same (Some router))
+same_of names (word, first ∷ rest) =
+    next_as (router_id names) (word, first ∷ rest) >>= λ router. made (λ _. same (Some router.0)) (end router.1)
 
 -- changes <= NUMBER
-unfoldable pub changes_of : At → Result Expected FaultAt
-changes_of line = next line >>= λ first.
-    if bytes_eq first.0 (codes "<=") then (next first >>= λ second. number 4294967295 second.0 >>= λ most. end second >>= λ _. Ok (few_changes most))
+unfoldable pub changes_of : Lookup → At → Result Expected FaultAt
+changes_of names line = next line >>= λ first.
+    if bytes_eq first.0 (codes "<=") then made few_changes (last_number names first)
     else Err (bad_word first.0)
 
 -- audit clean | only KIND..
-unfoldable pub audit_of : At → Result Expected FaultAt
-audit_of line = next line >>= λ first.
-    if bytes_eq first.0 (codes "clean") then (end first >>= λ _. Ok clean_audit)
-    else if bytes_eq first.0 (codes "only") then (one_or_more audit_kind first >>= λ kinds. Ok (only_findings kinds))
+unfoldable pub audit_of : Lookup → At → Result Expected FaultAt
+audit_of names line = next line >>= λ first.
+    if bytes_eq first.0 (codes "clean") then made (λ _. clean_audit) (end first)
+    else if bytes_eq first.0 (codes "only") then made only_findings (one_or_more (audit_kind names) first)
     else Err (bad_word first.0)
 
 -- ---- expectations
@@ -173,14 +161,14 @@ condition_by names words.Route line = route_of names line
 condition_by names words.NoRoute line = no_route_of names line
 condition_by names words.Hops line = hops_of names line
 condition_by names words.Path line = path_of names line
-condition_by names words.Lost line = lost_of line
-condition_by names words.Gone line = gone_of line
-condition_by names words.Loops line = bare_none no_loops line
-condition_by names words.Microloops line = microloops_of line
-condition_by names words.Blackholes line = bare_none no_blackholes line
+condition_by names words.Lost line = made lost (next line >>= allowed_of names)
+condition_by names words.Gone line = made gone (next line >>= allowed_of names)
+condition_by names words.Loops line = made (λ _. no_loops) (none_of line)
+condition_by names words.Microloops line = microloops_of names line
+condition_by names words.Blackholes line = made (λ _. no_blackholes) (none_of line)
 condition_by names words.Same line = same_of names line
-condition_by names words.Changes line = changes_of line
-condition_by names words.Audit line = audit_of line
+condition_by names words.Changes line = changes_of names line
+condition_by names words.Audit line = audit_of names line
 
 -- the word is this line's
 unfoldable pub condition_of : Lookup → At → Result Expected FaultAt

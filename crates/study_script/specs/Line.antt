@@ -12,7 +12,7 @@ use Rattle.study_script.specs.declared.command.StudyCommand.{StudyCommand}
 use Rattle.study_script.specs.declared.command.StudyCommand.TheVariants as study
 use Rattle.study_script.specs.declared.named_command.NamedCommand.{NamedCommand}
 use Rattle.study_script.specs.declared.question.Question.{Question}
-use Rattle.study_arguments.specs.Fault.{◌>>=◌, FaultAt, bad_branch, unknown_word}
+use Rattle.study_arguments.specs.Fault.{◌>>=◌, FaultAt, bad_branch, made, unknown_word}
 use Rattle.study_arguments.specs.Positions.{At, next}
 use Rattle.study_arguments.specs.Values.{Lookup}
 use Rattle.study_script.specs.PlanLines.{plan_line_of}
@@ -35,8 +35,8 @@ asked (study.Expect e) = expect (expectation e).0 (expectation e).1
 
 -- the command word, which is this line's, and the words after it
 abbrev pub asked_by : Lookup → At → StudyWord → Result Asked FaultAt
-asked_by names line (study_word.Plan w) = plan_line_of names w line >>= λ c. Ok (named c)
-asked_by names line (study_word.See w) = question_of names w line >>= λ question. Ok (see question)
+asked_by names line (study_word.Plan w) = made named (plan_line_of names w line)
+asked_by names line (study_word.See w) = made see (question_of names w line)
 asked_by names line study_word.Expect = expectation_of names line >>= λ e. Ok (expect e.0 e.1)
 
 unfoldable pub asked_of : Lookup → At → Result Asked FaultAt

@@ -2,15 +2,15 @@
 
 ghost use Rattle.std.specs.Prelude.{◌≡◌};
 ghost use Rattle.network_names.specs.Names.{stands_for};
-ghost use Rattle.study_arguments.specs.Fault.{Gives};
+ghost use Rattle.study_arguments.specs.Fault.{Gives, Is};
 ghost use Rattle.study_arguments.specs.Positions.{words_at};
-ghost use Rattle.study_script.specs.Conditions.{changes_of, same_of};
+ghost use Rattle.study_script.specs.Conditions.{changes_of, last_number, same_of};
 ghost use Rattle.study_script.specs.Expected.{expected};
 
 use crate::condition::Condition;
 use network_names::Names;
 use std::alloc::Allocator;
-use study_arguments::{Fault, FaultKind, Position, end, first_word, next, number, router_of};
+use study_arguments::{Fault, Position, end, first_word, next, next_as};
 
 /// `same [ROUTER]`.
 #[tactic(auto, unfolding(crate::specs::Conditions::same_of))]
@@ -20,29 +20,40 @@ pub(crate) fn same<'a, A: Allocator + Copy>(
 ) -> Result<Condition<A>, Fault<'a>>
     ensures { Gives expected result (same_of (stands_for names.now) (words_at line.entry)) }
 {
-    let Some(first) = first_word(line.rest) else {
+    if first_word(line.rest).is_none() {
         return Ok(Condition::Same(None));
-    };
-    let router = router_of(names, first.word)?;
-    end(first)?;
+    }
+    let (router, after) = next_as(names, line)?;
+    end(after)?;
     Ok(Condition::Same(Some(router)))
+}
+
+/// A number, and the end of the line.
+#[tactic(auto, unfolding(crate::specs::Conditions::last_number))]
+pub(crate) fn last_number<'a, A: Allocator + Copy>(
+    names: &Names<'_, A>,
+    line: Position<'a>,
+) -> Result<u32, Fault<'a>>
+    ensures { Is result (last_number (stands_for names.now) (words_at line.entry)) }
+{
+    let (number, after) = next_as(names, line)?;
+    end(after)?;
+    Ok(number)
 }
 
 /// `changes <= NUMBER`.
 #[tactic(auto, unfolding(crate::specs::Conditions::changes_of))]
 pub(crate) fn changes<'a, A: Allocator + Copy>(
+    names: &Names<'_, A>,
     line: Position<'a>,
 ) -> Result<Condition<A>, Fault<'a>>
-    ensures { Gives expected result (changes_of (words_at line.entry)) }
+    ensures { Gives expected result (changes_of (stands_for names.now) (words_at line.entry)) }
 {
     let first = next(line)?;
     let word = first.word;
     if word != b"<=".as_slice() {
-        let kind = FaultKind::BadWord;
-        return Err(Fault { kind, word });
+        return Err(Fault::bad_word(word));
     }
-    let second = next(first)?;
-    let most = number(u32::MAX, second.word)?;
-    end(second)?;
+    let most = last_number(names, first)?;
     Ok(Condition::AtMostChanges(most))
 }

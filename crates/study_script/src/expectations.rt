@@ -10,15 +10,14 @@ ghost use Rattle.study_script.specs.Expected.{expectation, expected};
 use crate::audit_condition::audit;
 use crate::change_conditions::{changes, same};
 use crate::condition::{Condition, Expectation};
-use crate::none_conditions::{blackholes, loops, microloops};
-use crate::pair_conditions::{gone, lost};
+use crate::none_conditions::{microloops, none};
+use crate::pair_conditions::allowed;
 use crate::path_condition::path;
 use crate::route_conditions::{hops, no_route, route};
-use edit_script::ScriptFault;
 use network_names::Names;
 use std::alloc::Allocator;
-use study_arguments::{Fault, FaultKind, ParseError, Position, next};
-use study_words::ConditionWord;
+use study_arguments::{Fault, ParseError, Position, next};
+use study_words::{ConditionWord, Word};
 
 /// The condition of a word and the words after it.
 #[tactic(auto, unfolding(crate::specs::Conditions::condition_by))]
@@ -36,14 +35,20 @@ fn condition_by<'a, A: Allocator + Copy>(
         ConditionWord::NoRoute => Ok(no_route(names, line)?),
         ConditionWord::Hops => Ok(hops(names, line)?),
         ConditionWord::Path => Ok(path(names, line)?),
-        ConditionWord::Lost => lost(alloc, line),
-        ConditionWord::Gone => gone(alloc, line),
-        ConditionWord::Loops => Ok(loops(line)?),
-        ConditionWord::Microloops => Ok(microloops(line)?),
-        ConditionWord::Blackholes => Ok(blackholes(line)?),
+        ConditionWord::Lost => Ok(Condition::Lost(allowed(alloc, names, next(line)?)?)),
+        ConditionWord::Gone => Ok(Condition::Gone(allowed(alloc, names, next(line)?)?)),
+        ConditionWord::Loops => {
+            none(line)?;
+            Ok(Condition::NoLoops)
+        }
+        ConditionWord::Microloops => Ok(microloops(names, line)?),
+        ConditionWord::Blackholes => {
+            none(line)?;
+            Ok(Condition::NoBlackholes)
+        }
         ConditionWord::Same => Ok(same(names, line)?),
-        ConditionWord::Changes => Ok(changes(line)?),
-        ConditionWord::Audit => audit(alloc, line),
+        ConditionWord::Changes => Ok(changes(names, line)?),
+        ConditionWord::Audit => audit(alloc, names, line),
     }
 }
 
@@ -56,13 +61,10 @@ fn condition<'a, A: Allocator + Copy>(
 ) -> Result<Condition<A>, ParseError<'a>>
     ensures { Reads expected result (condition_of (stands_for names.now) (words_at line.entry)) }
 {
-    match ConditionWord::of(line.word) {
-        Some(word) => condition_by(alloc, names, word, line),
-        None => Err(ParseError::Fault(Fault {
-            kind: FaultKind::Script(ScriptFault::UnknownWord),
-            word: line.word,
-        })),
-    }
+    let Some(word) = ConditionWord::of(line.word) else {
+        return Err(ParseError::Fault(Fault::unknown_word(line.word)));
+    };
+    condition_by(alloc, names, word, line)
 }
 
 /// Whether the word that was read is `not`, and the first word of the condition.

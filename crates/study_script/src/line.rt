@@ -40,10 +40,7 @@ fn command<'a, A: Allocator + Copy>(
             let expectation = expectation(alloc, names, line)?;
             Ok(StudyCommand::Expect(expectation))
         }
-        None => Err(ParseError::Fault(Fault {
-            kind: FaultKind::Script(ScriptFault::UnknownWord),
-            word: line.word,
-        })),
+        None => Err(ParseError::Fault(Fault::unknown_word(line.word))),
     }
 }
 

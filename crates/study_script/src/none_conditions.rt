@@ -1,49 +1,29 @@
 //! Conditions that there is none: loops, blackholes, microloops.
 
 ghost use Rattle.std.specs.Prelude.{◌≡◌};
+ghost use Rattle.network_names.specs.Names.{stands_for};
 ghost use Rattle.study_arguments.specs.Fault.{Gives};
 ghost use Rattle.study_arguments.specs.Positions.{words_at};
-ghost use Rattle.study_script.specs.Conditions.{bare_none, begins_with_digit, microloops_of, none_of};
-ghost use Rattle.study_script.specs.Expected.{expected, no_blackholes, no_loops};
+ghost use Rattle.study_script.specs.Conditions.{begins_with_digit, has_number, microloops_of, none_of};
+ghost use Rattle.study_script.specs.Expected.{expected};
 
 use crate::condition::Condition;
+use network_names::Names;
 use std::alloc::Allocator;
-use study_arguments::{Fault, FaultKind, Position, end, next, number};
+use study_arguments::{Fault, Position, end, first_word, next, next_as};
 
-/// `none`, which was read, and the end of the line.
+/// `none`, and the end of the line.
 #[tactic(auto, unfolding(crate::specs::Conditions::none_of))]
-fn none<'a>(line: Position<'a>) -> Result<(), Fault<'a>>
+pub(crate) fn none<'a>(line: Position<'a>) -> Result<(), Fault<'a>>
     ensures { Gives (λ x. tt) result (none_of (words_at line.entry)) }
 {
-    let word = line.word;
+    let first = next(line)?;
+    let word = first.word;
     if word == b"none".as_slice() {
-        end(line)
+        end(first)
     } else {
-        let kind = FaultKind::BadWord;
-        Err(Fault { kind, word })
+        Err(Fault::bad_word(word))
     }
-}
-
-/// `loops none`.
-#[tactic(auto, unfolding(crate::specs::Conditions::bare_none))]
-pub(crate) fn loops<'a, A: Allocator + Copy>(line: Position<'a>) -> Result<Condition<A>, Fault<'a>>
-    ensures { Gives expected result (bare_none no_loops (words_at line.entry)) }
-{
-    let first = next(line)?;
-    none(first)?;
-    Ok(Condition::NoLoops)
-}
-
-/// `blackholes none`.
-#[tactic(auto, unfolding(crate::specs::Conditions::bare_none))]
-pub(crate) fn blackholes<'a, A: Allocator + Copy>(
-    line: Position<'a>,
-) -> Result<Condition<A>, Fault<'a>>
-    ensures { Gives expected result (bare_none no_blackholes (words_at line.entry)) }
-{
-    let first = next(line)?;
-    none(first)?;
-    Ok(Condition::NoBlackholes)
 }
 
 /// Whether a word begins with a digit.
@@ -56,21 +36,30 @@ fn begins_with_digit(word: &[u8]) -> bool
     }
 }
 
+/// Whether a word follows that begins with a digit.
+fn has_number(line: Position<'_>) -> bool
+    ensures { result ≡ has_number (words_at line.entry) }
+{
+    match first_word(line.rest) {
+        Some(first) => begins_with_digit(first.word),
+        None => false,
+    }
+}
+
 /// `microloops [COUNT] none`.
 #[tactic(auto, unfolding(crate::specs::Conditions::microloops_of))]
 pub(crate) fn microloops<'a, A: Allocator + Copy>(
+    names: &Names<'_, A>,
     line: Position<'a>,
 ) -> Result<Condition<A>, Fault<'a>>
-    ensures { Gives expected result (microloops_of (words_at line.entry)) }
+    ensures { Gives expected result (microloops_of (stands_for names.now) (words_at line.entry)) }
 {
-    let first = next(line)?;
-    if begins_with_digit(first.word) {
-        let count = number(u32::MAX, first.word)?;
-        let second = next(first)?;
-        none(second)?;
+    if has_number(line) {
+        let (count, after) = next_as(names, line)?;
+        none(after)?;
         Ok(Condition::NoMicroloops(Some(count)))
     } else {
-        none(first)?;
+        none(line)?;
         Ok(Condition::NoMicroloops(None))
     }
 }

@@ -8,13 +8,11 @@ ghost use Rattle.study_script.specs.Conditions.{passing_of, path_of};
 ghost use Rattle.study_script.specs.Expected.{expected};
 
 use crate::condition::{Condition, Passing};
-use lsa_codec::Addr;
 use network_names::Names;
 use std::alloc::Allocator;
-use study_arguments::{Fault, FaultKind, Position, end, named, next, router_of};
+use study_arguments::{Fault, Position, end, next, next_as};
 
-/// `via ROUTER`, `avoids ROUTER` or `delivered`, the first word of which was read, and where the
-/// line goes on.
+/// `via ROUTER`, `avoids ROUTER` or `delivered`, and where the line goes on.
 #[tactic(auto, unfolding(crate::specs::Conditions::passing_of))]
 fn passing<'a, A: Allocator + Copy>(
     names: &Names<'_, A>,
@@ -23,20 +21,18 @@ fn passing<'a, A: Allocator + Copy>(
     ensures { Gives (λ x. (x.0, words_at x.1)) result
         (passing_of (stands_for names.now) (words_at line.entry)) }
 {
-    let word = line.word;
+    let first = next(line)?;
+    let word = first.word;
     if word == b"via".as_slice() {
-        let after = next(line)?;
-        let other = router_of(names, after.word)?;
+        let (other, after) = next_as(names, first)?;
         Ok((Passing::Via(other), after))
     } else if word == b"avoids".as_slice() {
-        let after = next(line)?;
-        let other = router_of(names, after.word)?;
+        let (other, after) = next_as(names, first)?;
         Ok((Passing::Avoids(other), after))
     } else if word == b"delivered".as_slice() {
-        Ok((Passing::Delivered, line))
+        Ok((Passing::Delivered, first))
     } else {
-        let kind = FaultKind::BadWord;
-        Err(Fault { kind, word })
+        Err(Fault::bad_word(word))
     }
 }
 
@@ -48,12 +44,9 @@ pub(crate) fn path<'a, A: Allocator + Copy>(
 ) -> Result<Condition<A>, Fault<'a>>
     ensures { Gives expected result (path_of (stands_for names.now) (words_at line.entry)) }
 {
-    let first = next(line)?;
-    let router = router_of(names, first.word)?;
-    let second = next(first)?;
-    let address = Addr(named(names, second.word)?);
-    let third = next(second)?;
-    let (passing, after) = passing(names, third)?;
+    let (router, after) = next_as(names, line)?;
+    let (address, after) = next_as(names, after)?;
+    let (passing, after) = passing(names, after)?;
     end(after)?;
     Ok(Condition::Path {
         router,

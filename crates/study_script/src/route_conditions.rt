@@ -4,31 +4,44 @@ ghost use Rattle.std.specs.Prelude.{◌≡◌, option_map};
 ghost use Rattle.network_names.specs.Names.{stands_for};
 ghost use Rattle.study_arguments.specs.Fault.{Gives, Is, Reads};
 ghost use Rattle.study_arguments.specs.Positions.{words_at};
-ghost use Rattle.study_script.specs.Conditions.{bound_of, cost_part, hops_of, kind_part, no_route_of, route_of, via_part};
+ghost use Rattle.study_script.specs.Conditions.{bound_of, cost_part, entry_of, hops_of, kind_part, no_route_of, route_of, via_part};
 ghost use Rattle.study_script.specs.Expected.{expected};
 
 use crate::condition::{Bound, Condition};
-use lsa_codec::RouterId;
+use lsa_codec::{Prefix, RouterId};
 use network_names::Names;
 use std::alloc::Allocator;
-use study_arguments::{
-    Fault, FaultKind, ParseError, Position, comparison, end, first_word, neighbors, next, number,
-    prefix, router_of,
-};
-use study_words::RouteKind;
+use study_arguments::{Fault, ParseError, Position, end, first_word, neighbors, next, next_as};
+use study_words::{RouteKind, Word};
 
 // ---- parts, some of which may be left out
 
+/// `ROUTER PREFIX`, which name an entry of a table, and where the line goes on.
+#[tactic(auto, unfolding(crate::specs::Conditions::entry_of))]
+fn entry<'a, A: Allocator + Copy>(
+    names: &Names<'_, A>,
+    line: Position<'a>,
+) -> Result<(RouterId, Prefix, Position<'a>), Fault<'a>>
+    ensures { Gives (λ x. (x.0, x.1, words_at x.2)) result
+        (entry_of (stands_for names.now) (words_at line.entry)) }
+{
+    let (router, after) = next_as(names, line)?;
+    let (prefix, after) = next_as(names, after)?;
+    Ok((router, prefix, after))
+}
+
 /// `OP NUMBER`, and where the line goes on.
 #[tactic(auto, unfolding(crate::specs::Conditions::bound_of))]
-fn bound<'a>(line: Position<'a>) -> Result<(Bound, Position<'a>), Fault<'a>>
-    ensures { Gives (λ x. (x.0, words_at x.1)) result (bound_of (words_at line.entry)) }
+fn bound<'a, A: Allocator + Copy>(
+    names: &Names<'_, A>,
+    line: Position<'a>,
+) -> Result<(Bound, Position<'a>), Fault<'a>>
+    ensures { Gives (λ x. (x.0, words_at x.1)) result
+        (bound_of (stands_for names.now) (words_at line.entry)) }
 {
-    let first = next(line)?;
-    let comparison = comparison(first.word)?;
-    let second = next(first)?;
-    let number = number(u32::MAX, second.word)?;
-    Ok((Bound { comparison, number }, second))
+    let (comparison, after) = next_as(names, line)?;
+    let (number, after) = next_as(names, after)?;
+    Ok((Bound { comparison, number }, after))
 }
 
 /// `[KIND]`, and where the line goes on.
@@ -68,18 +81,20 @@ fn via_part<'a, A: Allocator + Copy>(
 
 /// `[cost OP NUMBER]`, and the end of the line.
 #[tactic(auto, unfolding(crate::specs::Conditions::cost_part))]
-fn cost_part<'a>(line: Position<'a>) -> Result<Option<Bound>, Fault<'a>>
-    ensures { Is result (cost_part (words_at line.entry)) }
+fn cost_part<'a, A: Allocator + Copy>(
+    names: &Names<'_, A>,
+    line: Position<'a>,
+) -> Result<Option<Bound>, Fault<'a>>
+    ensures { Is result (cost_part (stands_for names.now) (words_at line.entry)) }
 {
     let Some(first) = first_word(line.rest) else {
         return Ok(None);
     };
     let word = first.word;
     if word != b"cost".as_slice() {
-        let kind = FaultKind::BadWord;
-        return Err(Fault { kind, word });
+        return Err(Fault::bad_word(word));
     }
-    let (cost, last) = bound(first)?;
+    let (cost, last) = bound(names, first)?;
     end(last)?;
     Ok(Some(cost))
 }
@@ -95,13 +110,10 @@ pub(crate) fn route<'a, A: Allocator + Copy>(
 ) -> Result<Condition<A>, ParseError<'a>>
     ensures { Reads expected result (route_of (stands_for names.now) (words_at line.entry)) }
 {
-    let first = next(line)?;
-    let router = router_of(names, first.word)?;
-    let second = next(first)?;
-    let prefix = prefix(second.word)?;
-    let (kind, after) = kind_part(second);
+    let (router, prefix, after) = entry(names, line)?;
+    let (kind, after) = kind_part(after);
     let (via, after) = via_part(alloc, names, after)?;
-    let cost = cost_part(after)?;
+    let cost = cost_part(names, after)?;
     Ok(Condition::Route {
         router,
         prefix,
@@ -119,11 +131,8 @@ pub(crate) fn no_route<'a, A: Allocator + Copy>(
 ) -> Result<Condition<A>, Fault<'a>>
     ensures { Gives expected result (no_route_of (stands_for names.now) (words_at line.entry)) }
 {
-    let first = next(line)?;
-    let router = router_of(names, first.word)?;
-    let second = next(first)?;
-    let prefix = prefix(second.word)?;
-    end(second)?;
+    let (router, prefix, after) = entry(names, line)?;
+    end(after)?;
     Ok(Condition::NoRoute { router, prefix })
 }
 
@@ -135,11 +144,8 @@ pub(crate) fn hops<'a, A: Allocator + Copy>(
 ) -> Result<Condition<A>, Fault<'a>>
     ensures { Gives expected result (hops_of (stands_for names.now) (words_at line.entry)) }
 {
-    let first = next(line)?;
-    let router = router_of(names, first.word)?;
-    let second = next(first)?;
-    let prefix = prefix(second.word)?;
-    let (bound, after) = bound(second)?;
+    let (router, prefix, after) = entry(names, line)?;
+    let (bound, after) = bound(names, after)?;
     end(after)?;
     Ok(Condition::Hops {
         router,
