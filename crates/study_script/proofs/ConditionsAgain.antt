@@ -56,13 +56,13 @@ abbrev kind_last : Word → Option RouteKind → Word
 kind_last last None = last
 kind_last last (Some kind) = route_kind_text kind
 
-kind_again : (last : Word) (kind : Option RouteKind) (via : Option (List RouterId)) (cost : Option Bound)
+kind_part_again : (last : Word) (kind : Option RouteKind) (via : Option (List RouterId)) (cost : Option Bound)
     → kind_part (last, if_given route_kind_text kind ++ (via_words via ++ cost_words cost)) ≡ (kind, (kind_last last kind, via_words via ++ cost_words cost))
 unfolding kind_part among written
-kind_again last None None None = refl
-kind_again last None None (Some bound) = refl
-kind_again last None (Some routers) cost = refl
-kind_again last (Some kind) via cost = simp (word_found (route_kind kind))
+kind_part_again last None None None = refl
+kind_part_again last None None (Some bound) = refl
+kind_part_again last None (Some routers) cost = refl
+kind_part_again last (Some kind) via cost = simp (word_found (route_kind kind))
 
 abbrev via_last : Word → Option (List RouterId) → Word
 via_last last None = last
@@ -86,7 +86,7 @@ unfolding route_of
 route_again names word id net kind via cost h =
     simp (
       entry_again names word id net (if_given route_kind_text kind ++ (via_words via ++ cost_words cost)) h.0 h.1,
-      kind_again (prefix_text net) kind via cost,
+      kind_part_again (prefix_text net) kind via cost,
       via_again names (kind_last (prefix_text net) kind) via cost h.2,
       cost_again names (via_last (kind_last (prefix_text net) kind) via) cost h.3,
     )

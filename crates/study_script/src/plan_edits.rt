@@ -52,55 +52,6 @@ pub(crate) fn fail_link<'a, A: Allocator + Copy>(
     }))
 }
 
-/// `add-stub AREA ROUTER PREFIX METRIC`.
-pub(crate) fn add_stub<'a, A: Allocator + Copy>(
-    names: &Names<'_, A>,
-    line: Position<'a>,
-) -> Result<NamedCommand, Fault<'a>>
-    ensures { Is result (plan_line_of (stands_for names.now) words.AddStub (words_at line.entry)) }
-{
-    let (area, router, prefix, metric) = four(names, line)?;
-    Ok(edited(Edit::AddStub {
-        area,
-        router,
-        prefix,
-        metric,
-    }))
-}
-
-/// `summary AREA ROUTER PREFIX METRIC`.
-pub(crate) fn summary<'a, A: Allocator + Copy>(
-    names: &Names<'_, A>,
-    line: Position<'a>,
-) -> Result<NamedCommand, Fault<'a>>
-    ensures { Is result (plan_line_of (stands_for names.now) words.Summary (words_at line.entry)) }
-{
-    let (area, router, prefix, metric) = four(names, line)?;
-    Ok(edited(Edit::Summary {
-        area,
-        router,
-        prefix,
-        metric,
-    }))
-}
-
-/// `add-summary AREA ROUTER PREFIX METRIC`.
-pub(crate) fn add_summary<'a, A: Allocator + Copy>(
-    names: &Names<'_, A>,
-    line: Position<'a>,
-) -> Result<NamedCommand, Fault<'a>>
-    ensures { Is result
-        (plan_line_of (stands_for names.now) words.AddSummary (words_at line.entry)) }
-{
-    let (area, router, prefix, metric) = four(names, line)?;
-    Ok(edited(Edit::AddSummary {
-        area,
-        router,
-        prefix,
-        metric,
-    }))
-}
-
 /// `add-external ROUTER PREFIX TYPE METRIC FORWARD TAG`; no name stands for FORWARD.
 pub(crate) fn add_external<'a, A: Allocator + Copy>(
     names: &Names<'_, A>,

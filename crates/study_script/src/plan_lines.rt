@@ -7,12 +7,25 @@ ghost use Rattle.study_arguments.specs.Positions.{words_at};
 ghost use Rattle.study_script.specs.PlanLines.{alone, plan_line_of};
 
 use crate::named_command::NamedCommand;
-use crate::plan_edits::{add_external, add_stub, add_summary, cost, edited, fail_link, summary};
+use crate::plan_edits::{add_external, cost, edited, fail_link};
 use edit_script::{Command, Edit};
 use network_names::Names;
 use std::alloc::Allocator;
-use study_arguments::{Fault, Position, end, one, three, two};
+use study_arguments::{Fault, Position, end, four, one, three, two};
 use study_words::PlanWord;
+
+/// The edit of this variant, which has an area, a router, a prefix and a metric.
+macro_rules! prefix_edit {
+    ($variant:ident, $names:expr, $line:expr) => {{
+        let (area, router, prefix, metric) = four($names, $line)?;
+        Ok(edited(Edit::$variant {
+            area,
+            router,
+            prefix,
+            metric,
+        }))
+    }};
+}
 
 /// What a command word means that stands alone.
 pub(crate) fn alone<'a, T: Copy>(meaning: T, line: Position<'a>) -> Result<T, Fault<'a>>
@@ -46,9 +59,9 @@ pub(crate) fn plan_line<'a, A: Allocator + Copy>(
             let router = one(names, line)?;
             Ok(edited(Edit::FailRouter { router }))
         }
-        PlanWord::AddStub => add_stub(names, line),
-        PlanWord::Summary => summary(names, line),
-        PlanWord::AddSummary => add_summary(names, line),
+        PlanWord::AddStub => prefix_edit!(AddStub, names, line),
+        PlanWord::Summary => prefix_edit!(Summary, names, line),
+        PlanWord::AddSummary => prefix_edit!(AddSummary, names, line),
         PlanWord::AddExternal => add_external(names, line),
         PlanWord::DropExternal => {
             let (router, prefix) = two(names, line)?;

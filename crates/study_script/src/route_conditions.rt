@@ -26,8 +26,10 @@ fn entry<'a, A: Allocator + Copy>(
         (entry_of (stands_for names.now) (words_at line.entry)) }
 {
     let (router, after) = next_as(names, line)?;
-    let (prefix, after) = next_as(names, after)?;
-    Ok((router, prefix, after))
+    match next_as(names, after) {
+        Ok((prefix, after)) => Ok((router, prefix, after)),
+        Err(fault) => Err(fault),
+    }
 }
 
 /// `OP NUMBER`, and where the line goes on.
@@ -110,7 +112,10 @@ pub(crate) fn route<'a, A: Allocator + Copy>(
 ) -> Result<Condition<A>, ParseError<'a>>
     ensures { Reads expected result (route_of (stands_for names.now) (words_at line.entry)) }
 {
-    let (router, prefix, after) = entry(names, line)?;
+    let (router, prefix, after) = match entry(names, line) {
+        Ok(entry) => entry,
+        Err(fault) => return Err(ParseError::Fault(fault)),
+    };
     let (kind, after) = kind_part(after);
     let (via, after) = via_part(alloc, names, after)?;
     let cost = cost_part(names, after)?;
@@ -131,9 +136,13 @@ pub(crate) fn no_route<'a, A: Allocator + Copy>(
 ) -> Result<Condition<A>, Fault<'a>>
     ensures { Gives expected result (no_route_of (stands_for names.now) (words_at line.entry)) }
 {
-    let (router, prefix, after) = entry(names, line)?;
-    end(after)?;
-    Ok(Condition::NoRoute { router, prefix })
+    match entry(names, line) {
+        Ok((router, prefix, after)) => {
+            end(after)?;
+            Ok(Condition::NoRoute { router, prefix })
+        }
+        Err(fault) => Err(fault),
+    }
 }
 
 /// `hops ROUTER PREFIX OP NUMBER`.
@@ -144,7 +153,10 @@ pub(crate) fn hops<'a, A: Allocator + Copy>(
 ) -> Result<Condition<A>, Fault<'a>>
     ensures { Gives expected result (hops_of (stands_for names.now) (words_at line.entry)) }
 {
-    let (router, prefix, after) = entry(names, line)?;
+    let (router, prefix, after) = match entry(names, line) {
+        Ok(entry) => entry,
+        Err(fault) => return Err(fault),
+    };
     let (bound, after) = bound(names, after)?;
     end(after)?;
     Ok(Condition::Hops {
