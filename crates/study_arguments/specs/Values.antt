@@ -1,5 +1,5 @@
 -- What one word of a line means: a number, an address, a prefix, a link, a word of the language; or what is wrong with it.
-use Rattle.std.specs.Prelude.{ℕ, Option, Some, None, Result, Ok, Err, ok_or}
+use Rattle.std.specs.Prelude.{ℕ, Option, Some, None, Result, Ok, ok_or}
 use Rattle.std.specs.Option.{option_or}
 use Rattle.lsa_codec.specs.Prefix.{Net}
 use Rattle.lsa_codec.specs.Views.{ls_infinity}

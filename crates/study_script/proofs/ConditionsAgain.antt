@@ -31,7 +31,7 @@ use Rattle.study_arguments.specs.Spelling.{neighbors_text, router_text}
 use Rattle.study_arguments.proofs.ArgumentLemmas.{addr_again, kind_again, neighbors_again, net_again, one_or_more_again, router_again}
 use Rattle.study_script.specs.declared.condition.Bound.{Bound}
 use Rattle.study_script.specs.declared.condition.Passing.TheVariants as passing
-use Rattle.study_script.specs.Expected.{Expected, route, no_route, hops, path, lost, gone, no_loops, no_microloops, no_blackholes, same, few_changes, clean_audit, only_findings, PairsAllowed, nothing, at_most, only}
+use Rattle.study_script.specs.Expected.{Expected, route, no_route, hops, path, lost, gone, no_microloops, same, few_changes, only_findings, PairsAllowed, nothing, at_most, only}
 use Rattle.study_script.specs.Conditions.{allowed_of, audit_of, begins_with_digit, bound_of, changes_of, condition_by, condition_of, cost_part, entry_of, expectation_of, hops_of, kind_part, last_number}
 use Rattle.study_script.specs.Conditions.{microloops_of, no_route_of, none_of, not_part, passing_of, path_of, route_of, same_of, via_part}
 use Rattle.study_script.specs.Line.{asked_of, expect}
@@ -81,7 +81,8 @@ cost_again names last None h = refl
 cost_again names last (Some bound) h = simp (bound_again names (codes "cost") bound h)
 
 route_again : (names : Lookup) (word : Word) (id : RouterId) (net : Net) (kind : Option RouteKind) (via : Option (List RouterId)) (cost : Option Bound)
-    → IsExpectedInRange (route id net kind via cost) → route_of names (word, condition_rest (route id net kind via cost)) ≡ Ok (route id net kind via cost)
+    → IsExpectedInRange (route id net kind via cost)
+    → route_of names (word, condition_rest (route id net kind via cost)) ≡ Ok (route id net kind via cost)
 unfolding route_of
 route_again names word id net kind via cost h =
     simp (
