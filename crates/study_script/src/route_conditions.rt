@@ -26,6 +26,7 @@ fn entry<'a, A: Allocator + Copy>(
         (entry_of (stands_for names.now) (words_at line.entry)) }
 {
     let (router, after) = next_as(names, line)?;
+    // The prover has no rule for `?` where a result has a prefix and a reference, here and below.
     match next_as(names, after) {
         Ok((prefix, after)) => Ok((router, prefix, after)),
         Err(fault) => Err(fault),
