@@ -17,7 +17,7 @@ use Rattle.text_words.proofs.AddressLemmas.{address_again}
 use Rattle.text_words.proofs.WordLemmas.{words_joined, literal_word, decimal_word, address_word}
 use Rattle.edit_script.specs.Words.{Word, words}
 use Rattle.edit_script.specs.Reading.{metric_type, edit_of, cost_of, drop_link_of, fail_link_of, fail_net_of, fail_router_of, add_stub_of, summary_of}
-use Rattle.edit_script.specs.Reading.{add_summary_of, add_external_of, drop_external_of, command_of, count_of, router_of, refresh_of}
+use Rattle.edit_script.specs.Reading.{add_summary_of, add_external_of, drop_external_of, refresh_of, route_edit_of, command_of, count_of, router_of}
 use Rattle.edit_script.specs.Line.{meaning, meaning_of_words, after_branch}
 use Rattle.edit_script.specs.Spelling.{spelling, type_text, edit_words, command_words, branch_word, Says, IsEditInRange, IsInRange}
 use Rattle.edit_script.proofs.Prefixes.{prefix_again, prefix_word}
@@ -84,7 +84,7 @@ type_again Type2 = refl
 
 -- the words of an edit are read back
 edit_again : (edit : Edit) → IsEditInRange edit → (branch : ℕ) → after_branch branch (edit_words edit) ≡ Ok (branch, command.Edit edit)
-unfolding after_branch command_of edit_of cost_of drop_link_of fail_link_of fail_net_of fail_router_of
+unfolding after_branch command_of edit_of route_edit_of cost_of drop_link_of fail_link_of fail_net_of fail_router_of
     add_stub_of summary_of add_summary_of add_external_of drop_external_of refresh_of router_of
 edit_again (Cost area router link metric) h branch =
     simp (

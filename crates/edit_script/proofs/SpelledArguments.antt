@@ -1,47 +1,15 @@
 -- Arguments of a command that were read: each is the text of its value, which is in range.
-use Rattle.std.proofs.Common.{◌≡◌, ℕ, ◌^◌, ◌<◌, ◌≤◌, cond, eqb, leb, List, [], ◌∷◌, Option, Some}
-use Rattle.std.proofs.Common.{None, Result, Ok, Err, refl, sym, ap, ◌∙◌, subst, arith, inl, inr}
-use Rattle.std.specs.Prelude.{decimal, ◌&&◌, codes, ok_or, bytes_eq}
-use Rattle.std.specs.List.{slice_split, join_with_byte}
-use Rattle.std.proofs.lemmas.List.Splits.{join_with_byte-slice_split}
-use Rattle.std.proofs.lemmas.Slice.Eq.{bytes_eq-Decides}
-use Rattle.std.proofs.lemmas.Bool.{cases_Bool, and_parts, cond-true, cond-false, leb-true}
+use Rattle.std.proofs.Common.{◌≡◌, ℕ, ◌^◌, ◌<◌, List, [], ◌∷◌, Result, Ok, refl, sym, ap, ◌∙◌, subst}
+use Rattle.std.specs.Prelude.{decimal}
 use Rattle.lsa_codec.specs.declared.address.RouterId.{RouterId}
-use Rattle.lsa_codec.specs.Prefix.{Net, IsNet, net_of, is_masked}
-use Rattle.lsa_codec.specs.Spelling.{address_text, prefix_text}
-use Rattle.text_words.specs.Numbers.{number_up_to}
-use Rattle.text_words.specs.Addresses.{address_of}
-use Rattle.text_words.proofs.OptionLemmas.{then_some}
-use Rattle.text_words.proofs.NumberLemmas.{number_spelled}
-use Rattle.text_words.proofs.AddressLemmas.{address_spelled}
-use Rattle.edit_script.specs.declared.edit.MetricType.{MetricType}
-use Rattle.edit_script.specs.declared.edit.MetricType.TheVariants.{Type1, Type2}
+use Rattle.lsa_codec.specs.Spelling.{address_text}
 use Rattle.edit_script.specs.declared.fault.ScriptFault.{ScriptFault}
-use Rattle.edit_script.specs.declared.fault.ScriptFault.TheVariants.{BadNumber, BadAddress, BadPrefix}
 use Rattle.edit_script.specs.Words.{Word}
-use Rattle.edit_script.specs.Arguments.{two_parts, prefix_of, prefix_of_parts}
-use Rattle.edit_script.specs.Reading.{◌>>=◌, one_of, two_of, three_of, four_of, six_of, number, address, prefix, metric_type, none_of}
-use Rattle.edit_script.specs.Reading.{count_of, router_of}
-use Rattle.edit_script.specs.Spelling.{type_text, IsPrefix}
-use Rattle.edit_script.proofs.Prefixes.{prefix_joined}
-
--- ---- what a result of several steps shows of each step
-
-pub then_ok : {A B : Type 0} (r : Result A ScriptFault) (f : A → Result B ScriptFault) (y : B) → (r >>= f) ≡ Ok y
-    → (x : A) × ((r ≡ Ok x) × (f x ≡ Ok y))
-then_ok (Ok x) f y h = (x, (refl, h))
-then_ok (Err fault) f y h = absurd cc
-
-abbrev pure : {A : Type 0} → A → Result A ScriptFault
-pure x = Ok x
-
-pub same_ok : {A : Type 0} (x y : A) → pure x ≡ pure y → x ≡ y
-same_ok x y h = cc
+use Rattle.edit_script.specs.Reading.{◌>>=◌, made, none_of, one_of, two_of, three_of, four_of, six_of}
+use Rattle.edit_script.specs.Reading.{one_as, two_as, three_as, four_as, six_as, count_of, router_of}
+use Rattle.edit_script.proofs.OneArgument.{then_ok, same_ok, two_same, Kind, numbers32, routers}
 
 -- ---- words, one by one
-
-pub two_same : (a b c d : Word) → a ≡ c → b ≡ d → a ∷ b ∷ [] ≡ c ∷ d ∷ []
-two_same a b c d first second = rw (first, second) refl
 
 pub three_same : (a b c d e f : Word) → a ≡ d → b ≡ e → c ≡ f → a ∷ b ∷ c ∷ [] ≡ d ∷ e ∷ f ∷ []
 three_same a b c d e f first second third = rw (first, second, third) refl
@@ -52,91 +20,6 @@ four_same a b c d e f g h first second third fourth = rw (first, second, third, 
 pub six_same : (a b c d e f g h i j k l : Word) → a ≡ g → b ≡ h → c ≡ i → d ≡ j → e ≡ k → f ≡ l
     → a ∷ b ∷ c ∷ d ∷ e ∷ f ∷ [] ≡ g ∷ h ∷ i ∷ j ∷ k ∷ l ∷ []
 six_same a b c d e f g h i j k l first second third fourth fifth sixth = rw (first, second, third, fourth, fifth, sixth) refl
-
--- ---- prefixes
-
-two_parts_are : (parts : List Word) (p : Word × Word) → two_parts parts ≡ Some p → parts ≡ p.0 ∷ p.1 ∷ []
-two_parts_are [] p h = absurd cc
-two_parts_are (a ∷ []) p h = absurd cc
-two_parts_are (a ∷ b ∷ []) p h = let same : (a, b) ≡ p = cc in ap (λ (q : Word × Word). q.0 ∷ q.1 ∷ []) same
-two_parts_are (a ∷ b ∷ c ∷ parts) p h = absurd cc
-
-abbrev some_net : Net → Option Net
-some_net net = Some net
-
-abbrev no_net : Option Net
-no_net = None
-
--- an address and a length that make a prefix
-record Makes (addr len : ℕ) (net : Net) : Type 0 where
-  is : (let made : Net = record { addr = record { 0 = addr }; len = len } in made) ≡ net
-  sound : IsNet net
-
-made_of : (addr len : ℕ) (net : Net) → net_of (record { 0 = addr }) len ≡ Some net → Makes addr len net
-made_of addr len net h =
-    elim (cases_Bool (leb len 32 && is_masked (record { 0 = addr }) len)) [
-      | inl holds ↦
-          let made : Net = record { addr = record { 0 = addr }; len = len } in
-          let both = and_parts (leb len 32) (is_masked (record { 0 = addr }) len) holds in
-          let found : some_net made ≡ some_net net = sym (cond-true _ _ _ holds) ∙ h in
-          let is : made ≡ net = cc in
-          record { is = is; sound = subst IsNet is (record { short = leb-true len 32 both.0; masked = both.1 }) }
-      | inr fails ↦ absurd (let found : no_net ≡ some_net net = sym (cond-false _ _ _ fails) ∙ h in cc)
-    ]
-
-text_of_parts : (addr len : ℕ) (net : Net) → net_of (record { 0 = addr }) len ≡ Some net
-    → join_with_byte 47 (address_text addr ∷ decimal len ∷ []) ≡ prefix_text net
-text_of_parts addr len net h = sym (prefix_joined (record { addr = record { 0 = addr }; len = len })) ∙ ap prefix_text (made_of addr len net h).is
-
-pub prefix_spelled : (word : Word) (net : Net) → prefix_of word ≡ Some net → (word ≡ prefix_text net) × IsPrefix net
-unfolding prefix_of_parts
-prefix_spelled word net h =
-    let parts = then_some (two_parts (slice_split (λ b. eqb b 47) word)) _ net h in
-    let p = parts.0 in
-    let addr = then_some (address_of p.0) _ net parts.1.1 in
-    let len = then_some (number_up_to 32 p.1) _ net addr.1.1 in
-    let a = address_spelled p.0 addr.0 addr.1.0 in
-    let l = number_spelled 32 p.1 len.0 (omega arith) len.1.0 in
-    let split : slice_split (λ b. eqb b 47) word ≡ address_text addr.0 ∷ decimal len.0 ∷ [] = two_parts_are _ p parts.1.0
-    ∙ two_same _ _ _ _ a.0 l.0 in
-    let made = made_of addr.0 len.0 net len.1.1 in
-    let small : net.addr.0 < 2 ^ 32 = subst (λ (m : Net). m.addr.0 < 2 ^ 32) made.is a.1 in (
-      sym (join_with_byte-slice_split 47 word) ∙ ap (join_with_byte 47) split ∙ text_of_parts addr.0 len.0 net len.1.1,
-      record { addr = small; prefix = made.sound },
-    )
-
--- ---- one argument, as the line is read
-
-pub of_ok : {A : Type 0} (o : Option A) (fault : ScriptFault) (x : A) → ok_or o fault ≡ Ok x → o ≡ Some x
-of_ok None fault x h = absurd cc
-of_ok {A} (Some y) fault x h = let same : y ≡ x = cc in ap (λ (z : A). Some z) same
-
-pub number_read : (max : ℕ) (word : Word) (n : ℕ) → max < 2 ^ 64 → number max word ≡ Ok n → (word ≡ decimal n) × (n ≤ max)
-number_read max word n small h = number_spelled max word n small (of_ok (number_up_to max word) BadNumber n h)
-
-pub address_read : (word : Word) (n : ℕ) → address word ≡ Ok n → (word ≡ address_text n) × (n < 2 ^ 32)
-address_read word n h = address_spelled word n (of_ok (address_of word) BadAddress n h)
-
-pub prefix_read : (word : Word) (net : Net) → prefix word ≡ Ok net → (word ≡ prefix_text net) × IsPrefix net
-prefix_read word net h = prefix_spelled word net (of_ok (prefix_of word) BadPrefix net h)
-
-abbrev found_type : MetricType → Result MetricType ScriptFault
-found_type type = Ok type
-
-type_named : (name word : Word) (this : MetricType) (others : Result MetricType ScriptFault) (type : MetricType) → name ≡ type_text this
-    → (others ≡ Ok type → word ≡ type_text type) → cond (bytes_eq word name) (found_type this) others ≡ Ok type → word ≡ type_text type
-type_named name word this others type is_name at_other h =
-    elim (cases_Bool (bytes_eq word name)) [
-      | inl holds ↦
-          let found : found_type this ≡ found_type type = sym (cond-true _ _ _ holds) ∙ h in
-          let same : this ≡ type = cc in
-          (bytes_eq-Decides word name).0 holds ∙ is_name ∙ ap type_text same
-      | inr fails ↦ at_other (sym (cond-false _ _ _ fails) ∙ h)
-    ]
-
-pub type_read : (word : Word) (type : MetricType) → metric_type word ≡ Ok type → word ≡ type_text type
-type_read word type h =
-    type_named (codes "1") word Type1 _ type refl (type_named (codes "2") word Type2 _ type refl (λ e. absurd cc)) h
 
 -- ---- a given number of arguments
 
@@ -182,21 +65,102 @@ six_are (a ∷ b ∷ c ∷ d ∷ e ∷ f ∷ []) w h = let same : (a, b, c, d, e
     ap (λ (q : Word × Word × Word × Word × Word × Word). q.0 ∷ q.1 ∷ q.2 ∷ q.3 ∷ q.4 ∷ q.5 ∷ []) same
 six_are (a ∷ b ∷ c ∷ d ∷ e ∷ f ∷ g ∷ arguments) w h = absurd cc
 
--- ---- one argument alone
+-- ---- arguments, each read as what it is
+
+then_read : {A B : Type 0} (kind : Kind A) (word : Word) (f : A → Result B ScriptFault) (y : B) → (kind.read word >>= f) ≡ Ok y
+    → (x : A) × ((word ≡ kind.text x) × kind.In x × (f x ≡ Ok y))
+then_read kind word f y h =
+    let found = then_ok (kind.read word) f y h in
+    let is = kind.spelled word found.0 found.1.0 in
+    (found.0, (is.0, is.1, found.1.1))
+
+pub one_read : {A : Type 0} (a : Kind A) (arguments : List Word) (x : A) → one_as a.read arguments ≡ Ok x
+    → (arguments ≡ a.text x ∷ []) × a.In x
+one_read a arguments x h =
+    let word = then_ok (one_of arguments) a.read x h in
+    let is = a.spelled word.0 x word.1.1 in
+    (one_is arguments word.0 word.1.0 ∙ ap (λ (w : Word). w ∷ []) is.0, is.1)
+
+pub two_read : {A B : Type 0} (a : Kind A) (b : Kind B) (arguments : List Word) (x : A × B)
+    → two_as a.read b.read arguments ≡ Ok x
+    → (arguments ≡ a.text x.0 ∷ b.text x.1 ∷ []) × (a.In x.0 × b.In x.1)
+two_read a b arguments x h =
+    let words = then_ok (two_of arguments) _ x h in
+    let first = then_read a words.0.0 _ x words.1.1 in
+    let second = then_read b words.0.1 _ x first.1.2 in
+    let same : (first.0, second.0) ≡ x = same_ok _ x second.1.2 in
+    rw (← same)
+    (two_are arguments words.0 words.1.0 ∙ two_same _ _ _ _ first.1.0 second.1.0, (first.1.1, second.1.1))
+
+pub three_read : {A B C : Type 0} (a : Kind A) (b : Kind B) (c : Kind C) (arguments : List Word) (x : A × B × C)
+    → three_as a.read b.read c.read arguments ≡ Ok x
+    → (arguments ≡ a.text x.0 ∷ b.text x.1 ∷ c.text x.2 ∷ []) × (a.In x.0 × b.In x.1 × c.In x.2)
+three_read a b c arguments x h =
+    let words = then_ok (three_of arguments) _ x h in
+    let first = then_read a words.0.0 _ x words.1.1 in
+    let second = then_read b words.0.1 _ x first.1.2 in
+    let third = then_read c words.0.2 _ x second.1.2 in
+    let same : (first.0, second.0, third.0) ≡ x = same_ok _ x third.1.2 in
+    rw (← same)
+    (three_are arguments words.0 words.1.0 ∙ three_same _ _ _ _ _ _ first.1.0 second.1.0 third.1.0, (first.1.1, second.1.1, third.1.1))
+
+pub four_read : {A B C D : Type 0} (a : Kind A) (b : Kind B) (c : Kind C) (d : Kind D) (arguments : List Word) (x : A × B × C × D)
+    → four_as a.read b.read c.read d.read arguments ≡ Ok x
+    → (arguments ≡ a.text x.0 ∷ b.text x.1 ∷ c.text x.2 ∷ d.text x.3 ∷ []) × (a.In x.0 × b.In x.1 × c.In x.2 × d.In x.3)
+four_read a b c d arguments x h =
+    let words = then_ok (four_of arguments) _ x h in
+    let first = then_read a words.0.0 _ x words.1.1 in
+    let second = then_read b words.0.1 _ x first.1.2 in
+    let third = then_read c words.0.2 _ x second.1.2 in
+    let fourth = then_read d words.0.3 _ x third.1.2 in
+    let same : (first.0, second.0, third.0, fourth.0) ≡ x = same_ok _ x fourth.1.2 in
+    rw (← same) (
+      four_are arguments words.0 words.1.0 ∙ four_same _ _ _ _ _ _ _ _ first.1.0 second.1.0 third.1.0 fourth.1.0,
+      (first.1.1, second.1.1, third.1.1, fourth.1.1),
+    )
+
+pub six_read : {A B C D E F : Type 0} (a : Kind A) (b : Kind B) (c : Kind C) (d : Kind D) (e : Kind E) (f : Kind F)
+    (arguments : List Word) (x : A × B × C × D × E × F) → six_as a.read b.read c.read d.read e.read f.read arguments ≡ Ok x
+    → (arguments ≡ a.text x.0 ∷ b.text x.1 ∷ c.text x.2 ∷ d.text x.3 ∷ e.text x.4 ∷ f.text x.5 ∷ [])
+    × (a.In x.0 × b.In x.1 × c.In x.2 × d.In x.3 × e.In x.4 × f.In x.5)
+six_read a b c d e f arguments x h =
+    let words = then_ok (six_of arguments) _ x h in
+    let first = then_read a words.0.0 _ x words.1.1 in
+    let second = then_read b words.0.1 _ x first.1.2 in
+    let third = then_read c words.0.2 _ x second.1.2 in
+    let fourth = then_read d words.0.3 _ x third.1.2 in
+    let fifth = then_read e words.0.4 _ x fourth.1.2 in
+    let sixth = then_read f words.0.5 _ x fifth.1.2 in
+    let same : (first.0, second.0, third.0, fourth.0, fifth.0, sixth.0) ≡ x = same_ok _ x sixth.1.2 in
+    rw (← same) (
+      six_are arguments words.0 words.1.0
+          ∙ six_same _ _ _ _ _ _ _ _ _ _ _ _ first.1.0 second.1.0 third.1.0 fourth.1.0 fifth.1.0 sixth.1.0,
+      (first.1.1, second.1.1, third.1.1, fourth.1.1, fifth.1.1, sixth.1.1),
+    )
 
 pub count_read : (arguments : List Word) (count : ℕ) → count_of arguments ≡ Ok count → (arguments ≡ decimal count ∷ []) × (count < 2 ^ 32)
 unfolding count_of
-count_read arguments count h =
-    let word = then_ok (one_of arguments) _ count h in
-    let spelled = number_read 4294967295 word.0 count (omega arith) word.1.1 in
-    (one_is arguments word.0 word.1.0 ∙ ap (λ (w : Word). w ∷ []) spelled.0, omega (arith, spelled.1))
+count_read = one_read numbers32
 
 pub router_read : (arguments : List Word) (router : RouterId) → router_of arguments ≡ Ok router
     → (arguments ≡ address_text router.0 ∷ []) × (router.0 < 2 ^ 32)
 unfolding router_of
-router_read arguments router h =
-    let word = then_ok (one_of arguments) _ router h in
-    let id = then_ok (address word.0) _ router word.1.1 in
-    let spelled = address_read word.0 id.0 id.1.0 in
-    let same : id.0 ≡ router.0 = ap (λ (r : RouterId). r.0) (same_ok (record { 0 = id.0 }) router id.1.1) in
-    (one_is arguments word.0 word.1.0 ∙ ap (λ (w : Word). w ∷ []) (spelled.0 ∙ ap address_text same), omega (arith, spelled.1, same))
+router_read = one_read routers
+
+-- ---- what is made of arguments
+
+-- the words are those of a value, which is in range
+pub record IsOf {B : Type 0} (texts : B → List Word) (In : B → Type 0) (line : List Word) (y : B) : Type 0 where
+  pub words : line ≡ texts y
+  pub range : In y
+
+-- a value that is made of what its arguments spell
+pub of_spelled : {A B : Type 0} {texts : B → List Word} {In : B → Type 0} (name : Word) (make : A → B) (own : A → List Word)
+    (read : Result A ScriptFault) (arguments : List Word) (y : B) → ((x : A) → read ≡ Ok x → (arguments ≡ own x) × In (make x))
+    → ((x : A) → texts (make x) ≡ name ∷ own x) → made make read ≡ Ok y → IsOf texts In (name ∷ arguments) y
+of_spelled {texts = texts} {In = In} name make own read arguments y spelled words h =
+    let found = then_ok read _ y h in
+    let same : make found.0 ≡ y = same_ok _ y found.1.1 in
+    let is = spelled found.0 found.1.0 in
+    subst (IsOf texts In (name ∷ arguments)) same
+    (record { words = ap (λ (ws : List Word). name ∷ ws) is.0 ∙ sym (words found.0); range = is.1 })

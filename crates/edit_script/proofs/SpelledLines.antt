@@ -12,31 +12,21 @@ use Rattle.edit_script.specs.declared.fault.ScriptFault.{ScriptFault}
 use Rattle.edit_script.specs.declared.fault.ScriptFault.TheVariants.{BadBranch}
 use Rattle.edit_script.specs.Words.{Word}
 use Rattle.text_words.specs.Numbers.{number_up_to}
-use Rattle.edit_script.specs.Reading.{◌>>=◌, made, edit_of, none_of, count_of, router_of, command_of}
+use Rattle.edit_script.specs.Reading.{◌>>=◌, made, edit_of, route_edit_of, none_of, count_of, router_of, command_of}
 use Rattle.edit_script.specs.Line.{branch_of, in_branch, after_branch, meaning_of_words}
 use Rattle.edit_script.specs.Spelling.{command_words, branch_word, Says}
 use Rattle.edit_script.specs.Spelling.{IsInRange}
 use Rattle.text_words.proofs.NumberLemmas.{number_spelled}
-use Rattle.edit_script.proofs.SpelledArguments.{then_ok, same_ok, of_ok, none_are, count_read, router_read}
+use Rattle.edit_script.proofs.SpelledArguments.{IsOf, of_spelled, none_are, count_read, router_read}
+use Rattle.edit_script.proofs.OneArgument.{then_ok, same_ok, of_ok}
 use Rattle.edit_script.proofs.SpelledEdits.{IsEdit, cost_read, drop_link_read, fail_link_read, fail_net_read, fail_router_read, add_stub_read}
 use Rattle.edit_script.proofs.SpelledEdits.{summary_read, add_summary_read, add_external_read, drop_external_read, refresh_read}
 
 -- ---- the commands
 
 -- words that are a command's, whose numbers are in range
-record IsCommand (line : List Word) (c : Command) : Type 0 where
-  words : line ≡ command_words c
-  range : IsInRange c
-
--- a command that is made of what its arguments spell
-of_spelled : {A : Type 0} (name : Word) (make : A → Command) (texts : A → List Word) (read : Result A ScriptFault) (arguments : List Word) (c : Command)
-    → ((x : A) → read ≡ Ok x → (arguments ≡ texts x) × IsInRange (make x)) → ((x : A) → command_words (make x) ≡ name ∷ texts x)
-    → made make read ≡ Ok c → IsCommand (name ∷ arguments) c
-of_spelled name make texts read arguments c spelled words h =
-    let found = then_ok read _ c h in
-    let same : make found.0 ≡ c = same_ok _ c found.1.1 in
-    let is = spelled found.0 found.1.0 in
-    subst (IsCommand (name ∷ arguments)) same (record { words = ap (λ (ws : List Word). name ∷ ws) is.0 ∙ sym (words found.0); range = is.1 })
+abbrev IsCommand : List Word → Command → Type 0
+IsCommand = IsOf command_words IsInRange
 
 counted : (name : Word) (make : ℕ → Command) (arguments : List Word) (c : Command) → ((n : ℕ) → n < 2 ^ 32 → IsInRange (make n))
     → ((n : ℕ) → command_words (make n) ≡ name ∷ decimal n ∷ []) → made make (count_of arguments) ≡ Ok c → IsCommand (name ∷ arguments) c
@@ -76,6 +66,17 @@ by_name Is name word arguments this others x at_name at_other h =
       | inr fails ↦ at_other (sym (cond-false _ this others fails) ∙ h)
     ]
 
+route_edit_read : (word : Word) (arguments : List Word) (edit : Edit) → route_edit_of word arguments ≡ Ok edit → IsEdit (word ∷ arguments) edit
+unfolding route_edit_of
+route_edit_read word arguments edit h =
+    by_name IsEdit (codes "summary") word arguments _ _ edit (summary_read arguments edit)
+    (by_name IsEdit (codes "add-summary") word arguments _ _ edit (add_summary_read arguments edit)
+    (by_name IsEdit (codes "add-external") word arguments _ _ edit (add_external_read arguments edit)
+    (by_name IsEdit (codes "drop-external") word arguments _ _ edit (drop_external_read arguments edit)
+    (by_name IsEdit (codes "refresh") word arguments _ _ edit (refresh_read arguments edit)
+    (λ e. absurd cc)))))
+    h
+
 edit_word_read : (word : Word) (arguments : List Word) (edit : Edit) → edit_of word arguments ≡ Ok edit → IsEdit (word ∷ arguments) edit
 unfolding edit_of
 edit_word_read word arguments edit h =
@@ -85,12 +86,7 @@ edit_word_read word arguments edit h =
     (by_name IsEdit (codes "fail-net") word arguments _ _ edit (fail_net_read arguments edit)
     (by_name IsEdit (codes "fail-router") word arguments _ _ edit (fail_router_read arguments edit)
     (by_name IsEdit (codes "add-stub") word arguments _ _ edit (add_stub_read arguments edit)
-    (by_name IsEdit (codes "summary") word arguments _ _ edit (summary_read arguments edit)
-    (by_name IsEdit (codes "add-summary") word arguments _ _ edit (add_summary_read arguments edit)
-    (by_name IsEdit (codes "add-external") word arguments _ _ edit (add_external_read arguments edit)
-    (by_name IsEdit (codes "drop-external") word arguments _ _ edit (drop_external_read arguments edit)
-    (by_name IsEdit (codes "refresh") word arguments _ _ edit (refresh_read arguments edit)
-    (λ e. absurd cc)))))))))))
+    (route_edit_read word arguments edit))))))
     h
 
 command_read : (word : Word) (arguments : List Word) (c : Command) → command_of word arguments ≡ Ok c → IsCommand (word ∷ arguments) c

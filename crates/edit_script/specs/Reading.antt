@@ -1,5 +1,7 @@
 -- What a command word and its arguments mean: a command, or their first fault.
 use Rattle.std.specs.Prelude.{◌≡◌, ℕ, nat_lt, List, [], ◌∷◌, length, Result, Ok, Err, if◌then◌else◌, ok_or, codes, bytes_eq}
+use Rattle.lsa_codec.specs.declared.address.Addr.{Addr}
+use Rattle.lsa_codec.specs.declared.address.AreaId.{AreaId}
 use Rattle.lsa_codec.specs.declared.address.RouterId.{RouterId}
 use Rattle.lsa_codec.specs.Views.{ls_infinity}
 use Rattle.lsa_codec.specs.Prefix.{Net}
@@ -32,17 +34,49 @@ Gives view (Err fault) given = given ≡ Err fault
 
 -- ---- one argument
 
-abbrev pub number : ℕ → Word → Result ℕ ScriptFault
+-- how the word of an argument is read
+abbrev pub Reads : Type 0 → Type 0
+Reads A = Word → Result A ScriptFault
+
+abbrev pub number : ℕ → Reads ℕ
 number max word = ok_or (number_up_to max word) BadNumber
 
-abbrev pub address : Word → Result ℕ ScriptFault
+-- the greatest number of 16 bits, for the number of a link and its metric (RFC 2328, A.4.2)
+abbrev pub greatest_number16 : ℕ
+greatest_number16 = 65535
+
+abbrev pub number16 : Reads ℕ
+number16 = number greatest_number16
+
+abbrev pub metric24 : Reads ℕ
+metric24 = number ls_infinity
+
+abbrev pub number32 : Reads ℕ
+number32 = number 4294967295
+
+abbrev pub address : Reads ℕ
 address word = ok_or (address_of word) BadAddress
 
-abbrev pub prefix : Word → Result Net ScriptFault
+abbrev pub area_id : Reads AreaId
+area_id word = do
+  area ← address word
+  Ok (record { 0 = area })
+
+abbrev pub router_id : Reads RouterId
+router_id word = do
+  router ← address word
+  Ok (record { 0 = router })
+
+abbrev pub addr : Reads Addr
+addr word = do
+  addr ← address word
+  Ok (record { 0 = addr })
+
+abbrev pub prefix : Reads Net
 prefix word = ok_or (prefix_of word) BadPrefix
 
 -- the type of an external metric
-abbrev pub metric_type : Word → Result MetricType ScriptFault
+abbrev pub metric_type : Reads MetricType
 metric_type word =
     if bytes_eq word (codes "1") then Ok Type1
     else if bytes_eq word (codes "2") then Ok Type2
@@ -78,124 +112,127 @@ abbrev pub six_of : List Word → Result (Word × Word × Word × Word × Word �
 six_of (a ∷ b ∷ c ∷ d ∷ e ∷ f ∷ []) = Ok (a, b, c, d, e, f)
 six_of arguments = Err (miscount 6 arguments)
 
--- ---- one argument alone
+-- ---- arguments, each read as what it is, from left to right
+
+abbrev pub one_as : {A : Type 0} → Reads A → List Word → Result A ScriptFault
+one_as only arguments = one_of arguments >>= only
+
+abbrev pub two_as : {A B : Type 0} → Reads A → Reads B → List Word → Result (A × B) ScriptFault
+two_as first second arguments = do
+  word ← two_of arguments
+  a ← first word.0
+  b ← second word.1
+  Ok (a, b)
+
+abbrev pub three_as : {A B C : Type 0} → Reads A → Reads B → Reads C → List Word → Result (A × B × C) ScriptFault
+three_as first second third arguments = do
+  word ← three_of arguments
+  a ← first word.0
+  b ← second word.1
+  c ← third word.2
+  Ok (a, b, c)
+
+abbrev pub four_as : {A B C D : Type 0} → Reads A → Reads B → Reads C → Reads D → List Word → Result (A × B × C × D) ScriptFault
+four_as first second third fourth arguments = do
+  word ← four_of arguments
+  a ← first word.0
+  b ← second word.1
+  c ← third word.2
+  d ← fourth word.3
+  Ok (a, b, c, d)
+
+abbrev pub six_as : {A B C D E F : Type 0} → Reads A → Reads B → Reads C → Reads D → Reads E → Reads F → List Word → Result (A × B × C × D × E × F) ScriptFault
+six_as first second third fourth fifth sixth arguments = do
+  word ← six_of arguments
+  a ← first word.0
+  b ← second word.1
+  c ← third word.2
+  d ← fourth word.3
+  e ← fifth word.4
+  f ← sixth word.5
+  Ok (a, b, c, d, e, f)
 
 -- COUNT
 unfoldable pub count_of : List Word → Result ℕ ScriptFault
-count_of arguments = do
-  word ← one_of arguments
-  number 4294967295 word
+count_of = one_as number32
 
 -- ROUTER
 unfoldable pub router_of : List Word → Result RouterId ScriptFault
-router_of arguments = do
-  word ← one_of arguments
-  router ← address word
-  Ok (record { 0 = router })
+router_of = one_as router_id
 
 -- ---- the edits, by their arguments
-
--- the greatest number of 16 bits, for the number of a link and its metric (RFC 2328, A.4.2)
-abbrev pub greatest_number16 : ℕ
-greatest_number16 = 65535
 
 -- cost AREA ROUTER LINK METRIC
 unfoldable pub cost_of : List Word → Result Edit ScriptFault
 cost_of arguments = do
-  word ← four_of arguments
-  area ← address word.0
-  router ← address word.1
-  link ← number greatest_number16 word.2
-  metric ← number greatest_number16 word.3
-  Ok (Cost (record { 0 = area }) (record { 0 = router }) link metric)
+  x ← four_as area_id router_id number16 number16 arguments
+  Ok (Cost x.0 x.1 x.2 x.3)
 
 -- drop-link AREA ROUTER LINK
 unfoldable pub drop_link_of : List Word → Result Edit ScriptFault
 drop_link_of arguments = do
-  word ← three_of arguments
-  area ← address word.0
-  router ← address word.1
-  link ← number greatest_number16 word.2
-  Ok (DropLink (record { 0 = area }) (record { 0 = router }) link)
+  x ← three_as area_id router_id number16 arguments
+  Ok (DropLink x.0 x.1 x.2)
 
 -- fail-link AREA ROUTER NEIGHBOR
 unfoldable pub fail_link_of : List Word → Result Edit ScriptFault
 fail_link_of arguments = do
-  word ← three_of arguments
-  area ← address word.0
-  router ← address word.1
-  neighbor ← address word.2
-  Ok (FailLink (record { 0 = area }) (record { 0 = router }) (record { 0 = neighbor }))
+  x ← three_as area_id router_id router_id arguments
+  Ok (FailLink x.0 x.1 x.2)
 
 -- fail-net AREA ADDRESS
 unfoldable pub fail_net_of : List Word → Result Edit ScriptFault
 fail_net_of arguments = do
-  word ← two_of arguments
-  area ← address word.0
-  network ← address word.1
-  Ok (FailNet (record { 0 = area }) (record { 0 = network }))
+  x ← two_as area_id addr arguments
+  Ok (FailNet x.0 x.1)
 
 -- fail-router ROUTER
 unfoldable pub fail_router_of : List Word → Result Edit ScriptFault
-fail_router_of arguments = do
-  router ← router_of arguments
-  Ok (FailRouter router)
+fail_router_of arguments = made FailRouter (router_of arguments)
 
 -- add-stub AREA ROUTER PREFIX METRIC
 unfoldable pub add_stub_of : List Word → Result Edit ScriptFault
 add_stub_of arguments = do
-  word ← four_of arguments
-  area ← address word.0
-  router ← address word.1
-  prefix ← prefix word.2
-  metric ← number greatest_number16 word.3
-  Ok (AddStub (record { 0 = area }) (record { 0 = router }) prefix metric)
+  x ← four_as area_id router_id prefix number16 arguments
+  Ok (AddStub x.0 x.1 x.2 x.3)
 
 -- summary AREA ROUTER PREFIX METRIC
 unfoldable pub summary_of : List Word → Result Edit ScriptFault
 summary_of arguments = do
-  word ← four_of arguments
-  area ← address word.0
-  router ← address word.1
-  prefix ← prefix word.2
-  metric ← number ls_infinity word.3
-  Ok (Summary (record { 0 = area }) (record { 0 = router }) prefix metric)
+  x ← four_as area_id router_id prefix metric24 arguments
+  Ok (Summary x.0 x.1 x.2 x.3)
 
 -- add-summary AREA ROUTER PREFIX METRIC
 unfoldable pub add_summary_of : List Word → Result Edit ScriptFault
 add_summary_of arguments = do
-  word ← four_of arguments
-  area ← address word.0
-  router ← address word.1
-  prefix ← prefix word.2
-  metric ← number ls_infinity word.3
-  Ok (AddSummary (record { 0 = area }) (record { 0 = router }) prefix metric)
+  x ← four_as area_id router_id prefix metric24 arguments
+  Ok (AddSummary x.0 x.1 x.2 x.3)
 
 -- add-external ROUTER PREFIX TYPE METRIC FORWARD TAG
 unfoldable pub add_external_of : List Word → Result Edit ScriptFault
 add_external_of arguments = do
-  word ← six_of arguments
-  router ← address word.0
-  prefix ← prefix word.1
-  type ← metric_type word.2
-  metric ← number ls_infinity word.3
-  forward ← address word.4
-  tag ← number 4294967295 word.5
-  Ok (AddExternal (record { 0 = router }) prefix type metric (record { 0 = forward }) tag)
+  x ← six_as router_id prefix metric_type metric24 addr number32 arguments
+  Ok (AddExternal x.0 x.1 x.2 x.3 x.4 x.5)
 
 -- drop-external ROUTER PREFIX
 unfoldable pub drop_external_of : List Word → Result Edit ScriptFault
 drop_external_of arguments = do
-  word ← two_of arguments
-  router ← address word.0
-  prefix ← prefix word.1
-  Ok (DropExternal (record { 0 = router }) prefix)
+  x ← two_as router_id prefix arguments
+  Ok (DropExternal x.0 x.1)
 
 -- refresh
 unfoldable pub refresh_of : List Word → Result Edit ScriptFault
-refresh_of arguments = do
-  _ ← none_of arguments
-  Ok Refresh
+refresh_of arguments = made (λ _. Refresh) (none_of arguments)
+
+-- the command word of an edit of summary-LSAs or AS-external-LSAs, and its arguments
+unfoldable pub route_edit_of : Word → List Word → Result Edit ScriptFault
+route_edit_of word arguments =
+    if bytes_eq word (codes "summary") then summary_of arguments
+    else if bytes_eq word (codes "add-summary") then add_summary_of arguments
+    else if bytes_eq word (codes "add-external") then add_external_of arguments
+    else if bytes_eq word (codes "drop-external") then drop_external_of arguments
+    else if bytes_eq word (codes "refresh") then refresh_of arguments
+    else Err UnknownWord
 
 -- the command word of an edit, and its arguments
 unfoldable pub edit_of : Word → List Word → Result Edit ScriptFault
@@ -206,12 +243,7 @@ edit_of word arguments =
     else if bytes_eq word (codes "fail-net") then fail_net_of arguments
     else if bytes_eq word (codes "fail-router") then fail_router_of arguments
     else if bytes_eq word (codes "add-stub") then add_stub_of arguments
-    else if bytes_eq word (codes "summary") then summary_of arguments
-    else if bytes_eq word (codes "add-summary") then add_summary_of arguments
-    else if bytes_eq word (codes "add-external") then add_external_of arguments
-    else if bytes_eq word (codes "drop-external") then drop_external_of arguments
-    else if bytes_eq word (codes "refresh") then refresh_of arguments
-    else Err UnknownWord
+    else route_edit_of word arguments
 
 -- ---- the commands
 

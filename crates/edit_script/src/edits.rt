@@ -2,14 +2,15 @@
 
 ghost use Rattle.std.specs.Prelude.{◌≡◌};
 ghost use Rattle.edit_script.specs.Words.{words};
-ghost use Rattle.edit_script.specs.Reading.{cost_of, drop_link_of, fail_link_of, fail_net_of, fail_router_of, add_stub_of, summary_of, add_summary_of, add_external_of, drop_external_of, refresh_of, edit_of};
+ghost use Rattle.edit_script.specs.Reading.{area_id, router_id, prefix, metric24, four_as};
+ghost use Rattle.edit_script.specs.Reading.{cost_of, drop_link_of, fail_link_of, fail_net_of, add_stub_of, add_external_of, drop_external_of, route_edit_of, edit_of};
 
 use crate::edit::Edit;
 use crate::fault::ScriptFault;
 use crate::reading::{
     address, four, metric_type, metric24, none, number, number16, prefix, router, six, three, two,
 };
-use lsa_codec::{Addr, AreaId, RouterId};
+use lsa_codec::{Addr, AreaId, Metric, Prefix, RouterId};
 
 /// `cost AREA ROUTER LINK METRIC`.
 #[tactic(auto, unfolding(crate::specs::Reading::cost_of))]
@@ -68,15 +69,6 @@ fn fail_net(arguments: &[u8]) -> Result<Edit, ScriptFault>
     Ok(Edit::FailNet { area, network })
 }
 
-/// `fail-router ROUTER`.
-#[tactic(auto, unfolding(crate::specs::Reading::fail_router_of))]
-fn fail_router(arguments: &[u8]) -> Result<Edit, ScriptFault>
-    ensures { result ≡ fail_router_of (words arguments.now) }
-{
-    let router = router(arguments)?;
-    Ok(Edit::FailRouter { router })
-}
-
 /// `add-stub AREA ROUTER PREFIX METRIC`.
 #[tactic(auto, unfolding(crate::specs::Reading::add_stub_of))]
 fn add_stub(arguments: &[u8]) -> Result<Edit, ScriptFault>
@@ -95,40 +87,16 @@ fn add_stub(arguments: &[u8]) -> Result<Edit, ScriptFault>
     })
 }
 
-/// `summary AREA ROUTER PREFIX METRIC`.
-#[tactic(auto, unfolding(crate::specs::Reading::summary_of))]
-fn summary(arguments: &[u8]) -> Result<Edit, ScriptFault>
-    ensures { result ≡ summary_of (words arguments.now) }
+/// AREA ROUTER PREFIX METRIC, the arguments of `summary` and `add-summary`.
+fn summary(arguments: &[u8]) -> Result<(AreaId, RouterId, Prefix, Metric), ScriptFault>
+    ensures { result ≡ four_as area_id router_id prefix metric24 (words arguments.now) }
 {
     let (area, router, network, metric) = four(arguments)?;
     let area = AreaId(address(area)?);
     let router = RouterId(address(router)?);
     let prefix = prefix(network)?;
     let metric = metric24(metric)?;
-    Ok(Edit::Summary {
-        area,
-        router,
-        prefix,
-        metric,
-    })
-}
-
-/// `add-summary AREA ROUTER PREFIX METRIC`.
-#[tactic(auto, unfolding(crate::specs::Reading::add_summary_of))]
-fn add_summary(arguments: &[u8]) -> Result<Edit, ScriptFault>
-    ensures { result ≡ add_summary_of (words arguments.now) }
-{
-    let (area, router, network, metric) = four(arguments)?;
-    let area = AreaId(address(area)?);
-    let router = RouterId(address(router)?);
-    let prefix = prefix(network)?;
-    let metric = metric24(metric)?;
-    Ok(Edit::AddSummary {
-        area,
-        router,
-        prefix,
-        metric,
-    })
+    Ok((area, router, prefix, metric))
 }
 
 /// `add-external ROUTER PREFIX TYPE METRIC FORWARD TAG`.
@@ -164,17 +132,41 @@ fn drop_external(arguments: &[u8]) -> Result<Edit, ScriptFault>
     Ok(Edit::DropExternal { router, prefix })
 }
 
-/// `refresh`.
-#[tactic(auto, unfolding(crate::specs::Reading::refresh_of))]
-fn refresh(arguments: &[u8]) -> Result<Edit, ScriptFault>
-    ensures { result ≡ refresh_of (words arguments.now) }
+/// The edit of summary-LSAs or AS-external-LSAs of a command word and its arguments.
+#[tactic(auto, unfolding(crate::specs::Reading::route_edit_of, crate::specs::Reading::summary_of, crate::specs::Reading::add_summary_of, crate::specs::Reading::refresh_of,))]
+fn route_edit(word: &[u8], arguments: &[u8]) -> Result<Edit, ScriptFault>
+    ensures { result ≡ route_edit_of word.now (words arguments.now) }
 {
-    none(arguments)?;
-    Ok(Edit::Refresh)
+    if word == b"summary".as_slice() {
+        let (area, router, prefix, metric) = summary(arguments)?;
+        Ok(Edit::Summary {
+            area,
+            router,
+            prefix,
+            metric,
+        })
+    } else if word == b"add-summary".as_slice() {
+        let (area, router, prefix, metric) = summary(arguments)?;
+        Ok(Edit::AddSummary {
+            area,
+            router,
+            prefix,
+            metric,
+        })
+    } else if word == b"add-external".as_slice() {
+        add_external(arguments)
+    } else if word == b"drop-external".as_slice() {
+        drop_external(arguments)
+    } else if word == b"refresh".as_slice() {
+        none(arguments)?;
+        Ok(Edit::Refresh)
+    } else {
+        Err(ScriptFault::UnknownWord)
+    }
 }
 
 /// The edit of a command word and its arguments.
-#[tactic(auto, unfolding(crate::specs::Reading::edit_of))]
+#[tactic(auto, unfolding(crate::specs::Reading::edit_of, crate::specs::Reading::fail_router_of,))]
 pub(crate) fn edit(word: &[u8], arguments: &[u8]) -> Result<Edit, ScriptFault>
     ensures { result ≡ edit_of word.now (words arguments.now) }
 {
@@ -187,20 +179,11 @@ pub(crate) fn edit(word: &[u8], arguments: &[u8]) -> Result<Edit, ScriptFault>
     } else if word == b"fail-net".as_slice() {
         fail_net(arguments)
     } else if word == b"fail-router".as_slice() {
-        fail_router(arguments)
+        let router = router(arguments)?;
+        Ok(Edit::FailRouter { router })
     } else if word == b"add-stub".as_slice() {
         add_stub(arguments)
-    } else if word == b"summary".as_slice() {
-        summary(arguments)
-    } else if word == b"add-summary".as_slice() {
-        add_summary(arguments)
-    } else if word == b"add-external".as_slice() {
-        add_external(arguments)
-    } else if word == b"drop-external".as_slice() {
-        drop_external(arguments)
-    } else if word == b"refresh".as_slice() {
-        refresh(arguments)
     } else {
-        Err(ScriptFault::UnknownWord)
+        route_edit(word, arguments)
     }
 }
