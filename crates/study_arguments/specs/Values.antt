@@ -2,7 +2,6 @@
 use Rattle.std.specs.Prelude.{ℕ, Option, Some, None, Result, Ok, ok_or}
 use Rattle.std.specs.Option.{option_or}
 use Rattle.lsa_codec.specs.Prefix.{Net}
-use Rattle.lsa_codec.specs.Views.{ls_infinity}
 use Rattle.lsa_codec.specs.declared.address.Addr.{Addr}
 use Rattle.lsa_codec.specs.declared.address.AreaId.{AreaId}
 use Rattle.lsa_codec.specs.declared.address.RouterId.{RouterId}
@@ -58,13 +57,13 @@ dotted names word = of_script (plan.address word) >>= λ address. Ok (record { 0
 -- ---- numbers
 
 abbrev pub number16 : Means ℕ
-number16 names word = of_script (plan.number plan.greatest_number16 word)
+number16 names word = of_script (plan.number16 word)
 
 abbrev pub metric24 : Means ℕ
-metric24 names word = of_script (plan.number ls_infinity word)
+metric24 names word = of_script (plan.metric24 word)
 
 abbrev pub number32 : Means ℕ
-number32 names word = of_script (plan.number 4294967295 word)
+number32 names word = of_script (plan.number32 word)
 
 abbrev pub metric_type : Means MetricType
 metric_type names word = of_script (plan.metric_type word)

@@ -32,8 +32,9 @@ use Rattle.study_arguments.proofs.ArgumentLemmas.{addr_again, kind_again, neighb
 use Rattle.study_script.specs.declared.condition.Bound.{Bound}
 use Rattle.study_script.specs.declared.condition.Passing.TheVariants as passing
 use Rattle.study_script.specs.Expected.{Expected, route, no_route, hops, path, lost, gone, no_microloops, same, few_changes, only_findings, PairsAllowed, nothing, at_most, only}
-use Rattle.study_script.specs.Conditions.{allowed_of, audit_of, begins_with_digit, bound_of, changes_of, condition_by, condition_of, cost_part, entry_of, expectation_of, hops_of, kind_part, last_number}
-use Rattle.study_script.specs.Conditions.{microloops_of, no_route_of, none_of, not_part, passing_of, path_of, route_of, same_of, via_part}
+use Rattle.study_script.specs.Conditions.{allowed_of, audit_of, begins_with_digit, bound_of, changes_of, condition_by, condition_of, cost_part}
+use Rattle.study_script.specs.Conditions.{entry_of, expectation_of, hops_of, kind_part, last_number, microloops_of, no_route_of, none_of}
+use Rattle.study_script.specs.Conditions.{not_part, passing_of, path_of, route_of, same_of, via_part}
 use Rattle.study_script.specs.Line.{asked_of, expect}
 use Rattle.study_script.specs.Spelling.{AllowedInRange, BoundInRange, IsExpectedInRange, NeighborsInRange, allowed_words, bound_words, condition_rest, condition_word, cost_words, if_given, not_words, via_words}
 
@@ -57,7 +58,8 @@ kind_last last None = last
 kind_last last (Some kind) = route_kind_text kind
 
 kind_part_again : (last : Word) (kind : Option RouteKind) (via : Option (List RouterId)) (cost : Option Bound)
-    → kind_part (last, if_given route_kind_text kind ++ (via_words via ++ cost_words cost)) ≡ (kind, (kind_last last kind, via_words via ++ cost_words cost))
+    → kind_part (last, if_given route_kind_text kind ++ (via_words via ++ cost_words cost))
+    ≡ (kind, (kind_last last kind, via_words via ++ cost_words cost))
 unfolding kind_part among written
 kind_part_again last None None None = refl
 kind_part_again last None None (Some bound) = refl

@@ -53,8 +53,8 @@ module _ (names : Lookup) (first : Word) (rest : List Word) (what : Asked) (unkn
             ∙ ap (λ (n : ℕ). Ok (Some (n, what))) (sym bare.0)
       ]
 
-pub question_read_back : (names : Lookup) (line : List ℕ) (branch : ℕ) (q : Question) → IsQuestionInRange q → Spells (words line) branch (question_words q)
-    → meaning names line ≡ Ok (Some (branch, see q))
+pub question_read_back : (names : Lookup) (line : List ℕ) (branch : ℕ) (q : Question) → IsQuestionInRange q
+    → Spells (words line) branch (question_words q) → meaning names line ≡ Ok (Some (branch, see q))
 question_read_back names line branch q h spelled =
     line_again names (see_text (word_of q)) (question_rest q) (see q) (question_unknown (word_of q) (question_rest q))
     (is_plain (word_of q)).0 (is_plain (word_of q)).1 (question_again names q h) line branch spelled
