@@ -1,0 +1,5 @@
+pub mod OneMore
+pub mod NameSteps
+pub mod LineSteps
+pub mod FileSteps
+pub mod OneAddress

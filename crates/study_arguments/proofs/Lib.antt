@@ -1,0 +1,2 @@
+pub mod EachWord
+pub mod ArgumentLemmas

@@ -1,0 +1,37 @@
+//! What a word means as one of the language.
+
+use crate::argument::Argument;
+use crate::fault::FaultKind;
+use network_names::Names;
+use std::alloc::Allocator;
+use study_words::{AuditKind, Comparison, StudyWord, Word};
+
+impl Argument for AuditKind {
+    ghost use Rattle.study_arguments.specs.Values.{audit_kind};
+
+    ghost means = { audit_kind };
+
+    fn read<A: Allocator + Copy>(_names: &Names<'_, A>, word: &[u8]) -> Result<Self, FaultKind> {
+        AuditKind::of(word).ok_or(FaultKind::BadWord)
+    }
+}
+
+impl Argument for Comparison {
+    ghost use Rattle.study_arguments.specs.Values.{comparison};
+
+    ghost means = { comparison };
+
+    fn read<A: Allocator + Copy>(_names: &Names<'_, A>, word: &[u8]) -> Result<Self, FaultKind> {
+        Comparison::of(word).ok_or(FaultKind::BadWord)
+    }
+}
+
+impl Argument for StudyWord {
+    ghost use Rattle.study_arguments.specs.Values.{study_word};
+
+    ghost means = { study_word };
+
+    fn read<A: Allocator + Copy>(_names: &Names<'_, A>, word: &[u8]) -> Result<Self, FaultKind> {
+        StudyWord::of(word).ok_or(FaultKind::BadWord)
+    }
+}

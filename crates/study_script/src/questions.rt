@@ -1,0 +1,51 @@
+//! Reading a question.
+
+ghost use Rattle.std.specs.Prelude.{◌≡◌};
+ghost use Rattle.network_names.specs.Names.{stands_for};
+ghost use Rattle.study_arguments.specs.Fault.{Is};
+ghost use Rattle.study_arguments.specs.Positions.{words_at};
+ghost use Rattle.study_script.specs.Questions.{question_of};
+
+use crate::plan_lines::alone;
+use crate::question::Question;
+use network_names::Names;
+use std::alloc::Allocator;
+use study_arguments::{Fault, Position, one_or_two, optional, two};
+use study_words::SeeWord;
+
+/// What a command word of a question and the words after it mean.
+#[tactic(auto, unfolding(crate::specs::Questions::question_of))]
+pub(crate) fn question<'a, A: Allocator + Copy>(
+    names: &Names<'_, A>,
+    word: SeeWord,
+    line: Position<'a>,
+) -> Result<Question, Fault<'a>>
+    ensures { Is result (question_of (stands_for names.now) word (words_at line.entry)) }
+{
+    match word {
+        SeeWord::Routers => alone(Question::Routers, line),
+        SeeWord::Links => Ok(Question::Links(optional(names, line)?)),
+        SeeWord::Networks => alone(Question::Networks, line),
+        SeeWord::Routes => {
+            let (router, address) = one_or_two(names, line)?;
+            Ok(Question::Routes { router, address })
+        }
+        SeeWord::Path => {
+            let (router, address) = two(names, line)?;
+            Ok(Question::Path { router, address })
+        }
+        SeeWord::Explain => {
+            let (router, prefix) = two(names, line)?;
+            Ok(Question::Explain { router, prefix })
+        }
+        SeeWord::Changes => Ok(Question::Changes(optional(names, line)?)),
+        SeeWord::Differences => alone(Question::Differences, line),
+        SeeWord::Lost => alone(Question::Lost, line),
+        SeeWord::Gone => alone(Question::Gone, line),
+        SeeWord::Loops => alone(Question::Loops, line),
+        SeeWord::Microloops => Ok(Question::Microloops(optional(names, line)?)),
+        SeeWord::Audit => Ok(Question::Audit(optional(names, line)?)),
+        SeeWord::Log => alone(Question::Log, line),
+        SeeWord::Help => Ok(Question::Help(optional(names, line)?)),
+    }
+}

@@ -1,0 +1,2 @@
+pub mod OneOf
+pub mod TextLemmas

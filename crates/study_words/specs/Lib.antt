@@ -1,0 +1,10 @@
+pub mod Named
+pub mod Written
+pub mod PlanWords
+pub mod SeeWords
+pub mod StudyWords
+pub mod ConditionWords
+pub mod RouteKinds
+pub mod AuditKinds
+pub mod Comparisons
+pub mod Reserved

@@ -1,0 +1,77 @@
+//! The words of conditions, which stand after `expect`.
+#![tactic(auto, unfolding(crate::specs::Written::written))]
+
+use crate::word::Word;
+
+/// The first word of a condition.
+#[derive(Clone, Copy, Debug, PartialEq, Eq)]
+pub enum ConditionWord {
+    /// `route ROUTER PREFIX [KIND] [via NEIGHBOR,..] [cost OP NUMBER]`: the router has such a
+    /// route.
+    Route,
+    /// `no-route ROUTER PREFIX`: the router has no route for exactly this prefix.
+    NoRoute,
+    /// `hops ROUTER PREFIX OP NUMBER`: the number of ways of a route.
+    Hops,
+    /// `path ROUTER ADDRESS via ROUTER`, `avoids ROUTER` or `delivered`: where packets pass and
+    /// end.
+    Path,
+    /// `lost none`, `<= NUMBER` or `only PREFIX..`: which pairs are lost.
+    Lost,
+    /// `gone none`, `<= NUMBER` or `only PREFIX..`: which pairs are gone.
+    Gone,
+    /// `loops none`: there is no forwarding loop.
+    Loops,
+    /// `microloops [COUNT] none`: nothing may loop while routers change over.
+    Microloops,
+    /// `blackholes none`: there is no new blackhole.
+    Blackholes,
+    /// `same [ROUTER]`: nothing differs from the baseline.
+    Same,
+    /// `changes <= NUMBER`: at most this number of changes.
+    Changes,
+    /// `audit clean` or `only KIND..`: which findings that make answers wrong there are.
+    Audit,
+}
+
+impl Word for ConditionWord {
+    ghost use Rattle.study_words.specs.ConditionWords.{condition_text, condition_words};
+
+    ghost all = { condition_words };
+
+    ghost spelled = { condition_text };
+
+    fn all() -> &'static [ConditionWord] {
+        &[
+            ConditionWord::Route,
+            ConditionWord::NoRoute,
+            ConditionWord::Hops,
+            ConditionWord::Path,
+            ConditionWord::Lost,
+            ConditionWord::Gone,
+            ConditionWord::Loops,
+            ConditionWord::Microloops,
+            ConditionWord::Blackholes,
+            ConditionWord::Same,
+            ConditionWord::Changes,
+            ConditionWord::Audit,
+        ]
+    }
+
+    fn text(self) -> &'static str {
+        match self {
+            ConditionWord::Route => "route",
+            ConditionWord::NoRoute => "no-route",
+            ConditionWord::Hops => "hops",
+            ConditionWord::Path => "path",
+            ConditionWord::Lost => "lost",
+            ConditionWord::Gone => "gone",
+            ConditionWord::Loops => "loops",
+            ConditionWord::Microloops => "microloops",
+            ConditionWord::Blackholes => "blackholes",
+            ConditionWord::Same => "same",
+            ConditionWord::Changes => "changes",
+            ConditionWord::Audit => "audit",
+        }
+    }
+}
