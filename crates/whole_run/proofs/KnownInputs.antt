@@ -62,12 +62,20 @@ of_texts wanted left (Some bytes) (Some known) s loads ends = record {
   session = λ given. ends.session given ∙ sym (session_is bytes known s loads);
 }
 
--- what follows from what is known of both texts
-pub from_both : (P Q : List ℕ → List ℕ → Type 0) → ((bytes known : List ℕ) → P bytes known → Q bytes known) → (dump script : Option (List ℕ))
-    → IfBoth dump script P → IfBoth dump script Q
-from_both P Q f None script holds = tt
-from_both P Q f (Some bytes) None holds = tt
-from_both P Q f (Some bytes) (Some known) holds = f bytes known holds
+-- each of them, where it is wanted
+module _ {A : Type 0} (wanted : Wanted) (left : Left A) where
+  pub wanted_dump : (dump script : Option (List ℕ)) → IfBoth dump script (λ bytes known. HasTexts wanted left (final_dump bytes known) (final_session bytes known))
+      → wanted.dump ≡ true → IfBoth dump script (λ bytes known. left.dump.items ≡ final_dump bytes known)
+  wanted_dump None script texts given = tt
+  wanted_dump (Some bytes) None texts given = tt
+  wanted_dump (Some bytes) (Some known) texts given = texts.dump given
+
+  pub wanted_session : (dump script : Option (List ℕ))
+      → IfBoth dump script (λ bytes known. HasTexts wanted left (final_dump bytes known) (final_session bytes known))
+      → wanted.session ≡ true → IfBoth dump script (λ bytes known. left.session.items ≡ final_session bytes known)
+  wanted_session None script texts given = tt
+  wanted_session (Some bytes) None texts given = tt
+  wanted_session (Some bytes) (Some known) texts given = texts.session given
 
 -- how the run ends, where carrying out the script ends it
 pub of_end : (dump script : Option (List ℕ)) → IfSome dump IsAccepted → (fault : RunFault) → IsRunEnd (IsLonger script longest_script) fault
