@@ -1,7 +1,7 @@
 -- Lists of findings, area after area.
 use Rattle.std.proofs.Common.{◌≡◌, ◌∙◌, sym, ap, subst, refl, ℕ, ◌+◌, List, [], ◌∷◌, ◌++◌, take, map, Some}
 use Rattle.std.specs.List.{AllZip, flat_map, slice_get}
-use Rattle.std.proofs.lemmas.List.{flat_map_more, take_more}
+use Rattle.std.proofs.lemmas.List.{take_more}
 use Rattle.std.proofs.lemmas.Option.{get_or_from_slice_get, slice_get_within}
 use Rattle.lsdb.specs.Lists.{AreaHead}
 
@@ -21,13 +21,6 @@ module _ (areas : List AreaHead) (i : ℕ) (area : AreaHead) (here : slice_get a
   one_more =
       take_more areas i area (slice_get_within areas i area here)
       ∙ ap (λ a. take i areas ++ a ∷ []) (get_or_from_slice_get areas i area area here)
-
-  -- what all areas give, with one more area
-  pub given_more : {X : Type 0} (f : AreaHead → List X) (old new more : List X) → old ≡ flat_map f (take i areas) → more ≡ f area
-      → new ≡ old ++ more → new ≡ flat_map f (take (i + 1) areas)
-  given_more f old new more before one pushed =
-      pushed ∙ ap (λ xs. xs ++ more) before ∙ ap (λ xs. flat_map f (take i areas) ++ xs) one
-      ∙ flat_map_more f [] (take i areas) area ∙ sym (ap (flat_map f) one_more)
 
   pub zip_more : {Y : Type 0} (R : AreaHead → Y → Type 0) (old new : List Y) (y : Y) → AllZip R (take i areas) old → R area y
       → new ≡ old ++ y ∷ [] → AllZip R (take (i + 1) areas) new

@@ -9,6 +9,8 @@ use Rattle.lsa_codec.specs.Key.{is_at_max_age}
 use Rattle.lsa_codec.specs.Links.{links_of}
 use Rattle.lsa_codec.specs.LsTypes.{router_lsa, network_lsa, summary_lsa, asbr_summary_lsa, external_lsa}
 use Rattle.lsa_codec.specs.Views.{attached_of}
+use Rattle.capture_report.specs.declared.naming.Node.{Node}
+use Rattle.capture_report.specs.declared.naming.Node.TheVariants.{Router, Network}
 
 -- ---- links (A.4.2)
 
@@ -58,6 +60,11 @@ reported_networks lsa = if kind_of lsa == router_lsa then filter_map network_of_
 abbrev pub networks_named : List ℕ → List ℕ
 networks_named lsa = if is_at_max_age lsa then [] else reported_networks lsa
 
+-- one of both
+abbrev pub named_by : Node → List ℕ → List ℕ
+named_by Router lsa = routers_named lsa
+named_by Network lsa = networks_named lsa
+
 -- the AS boundary router that originated an AS-external-LSA
 abbrev pub asbr_named : List ℕ → Option ℕ
 asbr_named lsa =
@@ -77,3 +84,8 @@ router_described lsa = described_by router_lsa lsa
 -- that of a network-LSA is the address of the Designated Router (12.1.4)
 abbrev pub network_described : List ℕ → Option ℕ
 network_described lsa = described_by network_lsa lsa
+
+-- the type of the LSAs that describe these
+abbrev pub ls_type_of : Node → ℕ
+ls_type_of Router = router_lsa
+ls_type_of Network = network_lsa

@@ -1,11 +1,14 @@
-//! The areas in a file.
+//! The areas in a file, and those of a database.
 
 ghost use Rattle.std.specs.Prelude.{◌≡◌, IfOk, map};
 ghost use Rattle.std.specs.List.{filter_map};
+ghost use Rattle.lsdb.specs.Slots.{lists_of};
 ghost use Rattle.capture_report.specs.Areas.{area_in, reported_areas};
+ghost use Rattle.capture_report.specs.NoKind.{areas_in};
 
 use lsa_codec::AreaId;
 use lsa_instances::{AreaReport, Observation, Scope};
+use lsdb::Database;
 use network_files::ParsedFile;
 use std::alloc::{AllocError, Allocator};
 
@@ -54,4 +57,19 @@ pub(crate) fn reported_areas<A: Allocator + Copy>(
     let of_lsas = areas_of_lsas(alloc, &file.observations)?;
     areas.extend_from_slice(&of_lsas)?;
     Ok(areas)
+}
+
+/// The areas of a database, in rising order.
+pub(crate) fn areas_in<A: Allocator + Copy>(
+    alloc: A,
+    database: &Database<A>,
+) -> Result<Vec<AreaId, A>, AllocError>
+    ensures { IfOk result (λ ids. ids.items ≡ areas_in (lists_of database.now)) }
+{
+    let mut ids = Vec::new(alloc);
+    for i in 0..database.area_count() {
+        let (id, _is_stub) = database.area(i);
+        ids.push(id)?;
+    }
+    Ok(ids)
 }

@@ -8,47 +8,34 @@ ghost use Rattle.lsdb.specs.Slots.{lists_of};
 ghost use Rattle.lsdb.specs.declared.section.Section.TheVariants.{Area, AsWide};
 ghost use Rattle.capture_report.specs.DatabaseFindings.{AreDatabaseFindings, AreFindingsOfArea, AreFindingsOfAs, IsPartOf, routers_anywhere};
 ghost use Rattle.capture_report.specs.Sets.{AreMissing};
-ghost use Rattle.capture_report.specs.Naming.{asbr_named, network_described, networks_named, router_described, routers_named};
+ghost use Rattle.capture_report.specs.Naming.{asbr_named, described_by, ls_type_of, named_by};
 
+use crate::areas::areas_in;
 use crate::each::put_each;
 use crate::left_out::put_all_left_out;
-use crate::naming::{asbrs_named, described, networks_named, routers_named};
+use crate::naming::{Node, asbrs_named, described, named};
 use crate::sets::missing;
 use findings::Finding;
-use lsa_codec::{Addr, AreaId, NETWORK_LSA, ROUTER_LSA, RouterId};
+use lsa_codec::{Addr, AreaId, RouterId};
 use lsa_instances::Scope;
 use lsdb::{Database, Section};
 use std::alloc::{AllocError, Allocator};
 
-/// The routers that LSAs of an area name, and that no LSA of the area describes.
-fn missing_routers<A: Allocator + Copy>(
+/// The routers or transit networks that LSAs of an area name, and that no LSA of the area
+/// describes.
+fn missing_nodes<A: Allocator + Copy>(
     alloc: A,
     database: &Database<A>,
     area: AreaId,
+    node: Node,
 ) -> Result<Vec<u32, A>, AllocError>
-    ensures { IfOk result (λ routers. AreMissing nat_cmp
-        (flat_map routers_named (lsas_of (Area area) (lists_of database.now)))
-        (filter_map router_described (lsas_of (Area area) (lists_of database.now)))
-        routers.items) }
+    ensures { IfOk result (λ ids. AreMissing nat_cmp
+        (flat_map (named_by node) (lsas_of (Area area) (lists_of database.now)))
+        (filter_map (described_by (ls_type_of node)) (lsas_of (Area area) (lists_of database.now)))
+        ids.items) }
 {
-    let named = routers_named(alloc, database.lsas(Section::Area(area)))?;
-    let described = described(alloc, ROUTER_LSA, database.lsas(Section::Area(area)))?;
-    missing(alloc, &named, &described)
-}
-
-/// The networks that LSAs of an area name, and that no LSA of the area describes.
-fn missing_networks<A: Allocator + Copy>(
-    alloc: A,
-    database: &Database<A>,
-    area: AreaId,
-) -> Result<Vec<u32, A>, AllocError>
-    ensures { IfOk result (λ networks. AreMissing nat_cmp
-        (flat_map networks_named (lsas_of (Area area) (lists_of database.now)))
-        (filter_map network_described (lsas_of (Area area) (lists_of database.now)))
-        networks.items) }
-{
-    let named = networks_named(alloc, database.lsas(Section::Area(area)))?;
-    let described = described(alloc, NETWORK_LSA, database.lsas(Section::Area(area)))?;
+    let named = named(alloc, node, database.lsas(Section::Area(area)))?;
+    let described = described(alloc, node, database.lsas(Section::Area(area)))?;
     missing(alloc, &named, &described)
 }
 
@@ -59,11 +46,11 @@ fn routers_anywhere<A: Allocator + Copy>(
 ) -> Result<Vec<u32, A>, AllocError>
     ensures { IfOk result (λ ids. ids.items ≡ routers_anywhere (lists_of database.now)) }
 {
+    let areas = areas_in(alloc, database)?;
     let mut found = Vec::new(alloc);
-    for i in 0..database.area_count() {
-        let (area, _is_stub) = database.area(i);
-        let described = described(alloc, ROUTER_LSA, database.lsas(Section::Area(area)))?;
-        found.extend_from_slice(&described)?;
+    for area in &areas {
+        let lsas = database.lsas(Section::Area(*area));
+        found.extend_from_slice(&described(alloc, Node::Router, lsas)?)?;
     }
     Ok(found)
 }
@@ -91,8 +78,8 @@ fn findings_of_area<A: Allocator + Copy>(
     ensures { IfOk result (λ findings.
         AreFindingsOfArea area (lsas_of (Area area) (lists_of database.now)) findings.items) }
 {
-    let routers = missing_routers(alloc, database, area)?;
-    let networks = missing_networks(alloc, database, area)?;
+    let routers = missing_nodes(alloc, database, area, Node::Router)?;
+    let networks = missing_nodes(alloc, database, area, Node::Network)?;
     let mut findings = Vec::new(alloc);
     put_each(&mut findings, &routers, |id| {
         Finding::MissingRouter(area, RouterId(id))

@@ -3,13 +3,33 @@
 ghost use Rattle.std.specs.Prelude.{◌≡◌, IfOk, map};
 ghost use Rattle.std.specs.List.{filter_map, flat_map};
 ghost use Rattle.lsa_codec.specs.Views.{attached_of};
-ghost use Rattle.capture_report.specs.Naming.{router_of_link, network_of_link, routers_named, networks_named, asbr_named, described_by};
+ghost use Rattle.capture_report.specs.Naming.{router_of_link, network_of_link, routers_named, networks_named, asbr_named, ls_type_of, named_by, described_by};
 
 use lsa_codec::{
-    ASBR_SUMMARY_LSA, Attached, EXTERNAL_LSA, Link, LinkKind, Links, Lsa, SUMMARY_LSA,
+    ASBR_SUMMARY_LSA, Attached, EXTERNAL_LSA, Link, LinkKind, Links, Lsa, NETWORK_LSA, ROUTER_LSA,
+    SUMMARY_LSA,
 };
 use lsdb::Lsas;
 use std::alloc::{AllocError, Allocator};
+
+/// What LSAs name and describe.
+#[derive(Clone, Copy)]
+pub(crate) enum Node {
+    /// Routers.
+    Router,
+    /// Transit networks.
+    Network,
+}
+
+/// The type of the LSAs that describe routers, or transit networks.
+fn ls_type_of(node: Node) -> u8
+    ensures { result ≡ ls_type_of node }
+{
+    match node {
+        Node::Router => ROUTER_LSA,
+        Node::Network => NETWORK_LSA,
+    }
+}
 
 /// The router that a link leads to.
 fn router_of_link(link: Link) -> Option<u32>
@@ -96,30 +116,31 @@ fn networks_of_lsa<A: Allocator + Copy>(alloc: A, lsa: &Lsa<A>) -> Result<Vec<u3
     }
 }
 
-/// The routers that LSAs name, each as often as it is named.
-pub(crate) fn routers_named<A: Allocator + Copy>(
+/// What an LSA names: routers, or transit networks.
+fn named_by<A: Allocator + Copy>(
     alloc: A,
-    lsas: Lsas<'_, A>,
+    node: Node,
+    lsa: &Lsa<A>,
 ) -> Result<Vec<u32, A>, AllocError>
-    ensures { IfOk result (λ ids. ids.items ≡ flat_map routers_named lsas.entry) }
+    ensures { IfOk result (λ ids. ids.items ≡ named_by node lsa.now) }
 {
-    let mut named = Vec::new(alloc);
-    for lsa in lsas {
-        named.extend_from_slice(&routers_of_lsa(alloc, lsa)?)?;
+    match node {
+        Node::Router => routers_of_lsa(alloc, lsa),
+        Node::Network => networks_of_lsa(alloc, lsa),
     }
-    Ok(named)
 }
 
-/// The transit networks that LSAs name, each as often as it is named.
-pub(crate) fn networks_named<A: Allocator + Copy>(
+/// The routers or transit networks that LSAs name, each as often as it is named.
+pub(crate) fn named<A: Allocator + Copy>(
     alloc: A,
+    node: Node,
     lsas: Lsas<'_, A>,
 ) -> Result<Vec<u32, A>, AllocError>
-    ensures { IfOk result (λ ids. ids.items ≡ flat_map networks_named lsas.entry) }
+    ensures { IfOk result (λ ids. ids.items ≡ flat_map (named_by node) lsas.entry) }
 {
     let mut named = Vec::new(alloc);
     for lsa in lsas {
-        named.extend_from_slice(&networks_of_lsa(alloc, lsa)?)?;
+        named.extend_from_slice(&named_by(alloc, node, lsa)?)?;
     }
     Ok(named)
 }
@@ -145,25 +166,26 @@ pub(crate) fn asbrs_named<A: Allocator + Copy>(
     lsas.filter_map(|lsa| asbr_named(lsa)).collect(alloc)
 }
 
-/// What an LSA of this type describes: its Link State ID.
-fn described_by<A: Allocator + Copy>(kind: u8, lsa: &Lsa<A>) -> Option<u32>
-    ensures { result ≡ described_by kind lsa.now }
+/// The Link State ID of an LSA that describes a router, or a transit network.
+fn described_by<A: Allocator + Copy>(node: Node, lsa: &Lsa<A>) -> Option<u32>
+    ensures { result ≡ described_by (ls_type_of node) lsa.now }
 {
     let key = lsa.key();
-    if key.kind != kind {
+    if key.kind != ls_type_of(node) {
         return None;
     }
     Some(key.id.0)
 }
 
-/// What LSAs of this type describe, one for each LSA.
+/// The routers or transit networks that LSAs describe, one for each LSA.
 pub(crate) fn described<A: Allocator + Copy>(
     alloc: A,
-    kind: u8,
+    node: Node,
     lsas: Lsas<'_, A>,
 ) -> Result<Vec<u32, A>, AllocError>
-    ensures { IfOk result (λ ids. ids.items ≡ filter_map (described_by kind) lsas.entry) }
+    ensures { IfOk result (λ ids. ids.items
+        ≡ filter_map (described_by (ls_type_of node)) lsas.entry) }
 {
-    lsas.filter_map(|lsa| described_by(kind, lsa))
+    lsas.filter_map(|lsa| described_by(node, lsa))
         .collect(alloc)
 }

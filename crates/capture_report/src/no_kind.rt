@@ -8,28 +8,13 @@ ghost use Rattle.lsdb.specs.Slots.{lists_of};
 ghost use Rattle.network_files.specs.Dumps.{areas_of};
 ghost use Rattle.capture_report.specs.NoKind.{areas_in, ids_of, without_kind};
 
-use crate::areas::areas_of_kinds;
+use crate::areas::{areas_in, areas_of_kinds};
 use crate::sets::set_of;
 use lsa_codec::AreaId;
 use lsdb::Database;
 use network_files::{ParsedFile, areas_of};
 use std::alloc::{AllocError, Allocator};
 use std::collections::BTreeSet;
-
-/// The areas of a database, in rising order.
-fn areas_in<A: Allocator + Copy>(
-    alloc: A,
-    database: &Database<A>,
-) -> Result<Vec<AreaId, A>, AllocError>
-    ensures { IfOk result (λ ids. ids.items ≡ areas_in (lists_of database.now)) }
-{
-    let mut ids = Vec::new(alloc);
-    for i in 0..database.area_count() {
-        let (id, _is_stub) = database.area(i);
-        ids.push(id)?;
-    }
-    Ok(ids)
-}
 
 /// The areas whose kind the files report, one for each report.
 fn kind_areas<A: Allocator + Copy>(

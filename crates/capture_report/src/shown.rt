@@ -45,32 +45,22 @@ fn shown_in<A: Allocator + Copy>(
         .collect(alloc)
 }
 
-/// The LSAs that the headers of all files name, one file after another.
-fn all_named<A: Allocator + Copy>(
+/// The LSAs that the headers of all files name, and those of which the files show instances, one
+/// file after another.
+fn all_places<A: Allocator + Copy>(
     alloc: A,
     files: &[ParsedFile<A>],
-) -> Result<Vec<Place, A>, AllocError>
-    ensures { IfOk result (λ lsas. lsas.items ≡ all_named files.now) }
+) -> Result<(Vec<Place, A>, Vec<Place, A>), AllocError>
+    ensures { IfOk result (λ places. (places.0.items ≡ all_named files.now)
+        × (places.1.items ≡ all_shown files.now)) }
 {
-    let mut lsas = Vec::new(alloc);
+    let mut named = Vec::new(alloc);
+    let mut shown = Vec::new(alloc);
     for file in files {
-        lsas.append(&mut named_in(alloc, &file.headers)?)?;
+        named.append(&mut named_in(alloc, &file.headers)?)?;
+        shown.append(&mut shown_in(alloc, &file.observations)?)?;
     }
-    Ok(lsas)
-}
-
-/// The LSAs of which the files show instances, one file after another.
-fn all_shown<A: Allocator + Copy>(
-    alloc: A,
-    files: &[ParsedFile<A>],
-) -> Result<Vec<Place, A>, AllocError>
-    ensures { IfOk result (λ lsas. lsas.items ≡ all_shown files.now) }
-{
-    let mut lsas = Vec::new(alloc);
-    for file in files {
-        lsas.append(&mut shown_in(alloc, &file.observations)?)?;
-    }
-    Ok(lsas)
+    Ok((named, shown))
 }
 
 /// The LSAs that the headers of the files name, and of which no file shows an instance, each once,
@@ -87,7 +77,6 @@ pub(crate) fn unseen_lsas<A: Allocator + Copy>(
     ensures { IfOk result (λ lsas. AreMissing place_cmp
         (all_named files.now) (all_shown files.now) lsas.items) }
 {
-    let named = all_named(alloc, files)?;
-    let shown = all_shown(alloc, files)?;
+    let (named, shown) = all_places(alloc, files)?;
     missing(alloc, &named, &shown)
 }

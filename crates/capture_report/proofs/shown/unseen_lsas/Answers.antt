@@ -15,5 +15,5 @@ returns g c =
     let P : (Place → Place → Ordering) → Type 0 = λ cmp. AreMissing cmp c.deref.result.now c.deref-2.result.now lsas.items in
     let Q : List Place → Type 0 = λ named. AreMissing place_cmp named c.deref-2.result.now lsas.items in
     let R : List Place → Type 0 = λ shown. AreMissing place_cmp (all_named c.args.files.now) shown lsas.items in
-    subst R (c.deref-2.ensures.value ∙ c.in_ok-shown.ensures) (subst Q (c.deref.ensures.value ∙ c.in_ok-named.ensures) (subst P same_cmp h)))
+    subst R (c.deref-2.ensures.value ∙ c.in_ok-named.ensures.1) (subst Q (c.deref.ensures.value ∙ c.in_ok-named.ensures.0) (subst P same_cmp h)))
     c.missing.ensures

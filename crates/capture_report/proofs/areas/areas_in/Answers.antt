@@ -5,8 +5,8 @@ use Rattle.std.proofs.lemmas.Option.{get_or_from_slice_get, slice_get_within}
 use Rattle.lsa_codec.specs.declared.address.AreaId.{AreaId}
 use Rattle.lsdb.specs.Lists.{AreaHead, areas_of}
 use Rattle.lsdb.specs.Slots.{lists_of}
-use Rattle.capture_report.proofs.no_kind.areas_in.Goals as goal
-use Rattle.capture_report.proofs.no_kind.areas_in.Invariants.{id_of}
+use Rattle.capture_report.proofs.areas.areas_in.Goals as goal
+use Rattle.capture_report.proofs.areas.areas_in.Invariants.{id_of}
 
 -- one more area
 one_more : (areas : List AreaHead) (i : ℕ) (area : AreaHead) (old : List AreaId) → slice_get areas i ≡ Some area → old ≡ map id_of (take i areas)

@@ -1,7 +1,0 @@
-use Rattle.std.proofs.Common.{◌≡◌, map}
-use Rattle.std.specs.List.{flat_map}
-use Rattle.capture_report.specs.Naming.{routers_named}
-use Rattle.capture_report.proofs.naming.routers_named.Given as goal
-
-abbrev pub invariant-loop-lsa : goal.invariant-loop-lsa
-invariant-loop-lsa g l = l.named.items ≡ flat_map routers_named (map (λ lsa. lsa.now) l.yielded)
