@@ -1,5 +1,5 @@
 -- The names of objects, as lists of numbers (X.660): their arcs. In place of numbers, names may have words of the MIB.
-use Rattle.std.specs.Prelude.{ℕ, ◌+◌, List, [], ◌∷◌, ◌++◌, codes, bytes_eq, Option, Some, None, is_some, if◌then◌else◌}
+use Rattle.std.specs.Prelude.{ℕ, ◌+◌, List, [], ◌∷◌, ◌++◌, codes, bytes_eq, Option, Some, None, is_some, position, if◌then◌else◌}
 pub use Rattle.text_words.specs.Options.{◌>>=◌}
 use Rattle.text_words.specs.Numbers.{decimal_up_to}
 use Rattle.snmp_walk.specs.Text.{after}
@@ -32,19 +32,15 @@ unfoldable pub arcs_after : List ℕ → List (List ℕ) → Option (List ℕ)
 arcs_after arcs [] = Some arcs
 arcs_after arcs (word ∷ words) = arc_of word >>= (λ arc. arcs_after (arcs ++ arc ∷ []) words)
 
--- what the columns of the tables of LSAs are called after the name of the table, by their numbers in the tables that
--- are not of areas; those of ospfLsdbTable have one more, since ospfLsdbAreaId is the first
+-- what the columns of the tables of LSAs are called after the name of the table, in the order of the tables that are not
+-- of areas; those of ospfLsdbTable have one more, since ospfLsdbAreaId is the first
+abbrev pub columns : List (List ℕ)
+columns =
+    codes "AreaId" ∷ codes "Type" ∷ codes "Lsid" ∷ codes "RouterId" ∷ codes "Sequence" ∷ codes "Age" ∷ codes "Checksum"
+    ∷ codes "Advertisement" ∷ []
+
 unfoldable pub column_named : List ℕ → Option ℕ
-column_named word =
-    if bytes_eq word (codes "AreaId") then Some 0
-    else if bytes_eq word (codes "Type") then Some 1
-    else if bytes_eq word (codes "Lsid") then Some 2
-    else if bytes_eq word (codes "RouterId") then Some 3
-    else if bytes_eq word (codes "Sequence") then Some 4
-    else if bytes_eq word (codes "Age") then Some 5
-    else if bytes_eq word (codes "Checksum") then Some 6
-    else if bytes_eq word (codes "Advertisement") then Some 7
-    else None
+column_named word = position (bytes_eq word) columns
 
 -- a table and a column; what is not needed here counts as table 0, which does not exist
 abbrev pub in_table : ℕ → ℕ → Option ℕ → ℕ × ℕ

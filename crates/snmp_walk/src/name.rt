@@ -1,6 +1,6 @@
 //! The names of objects.
 
-ghost use Rattle.std.specs.Prelude.{◌≡◌, ◌<◌, ◌≤◌, IfOk, IfSome, option_map, MatchOption, [], ◌∷◌, length};
+ghost use Rattle.std.specs.Prelude.{◌≡◌, ◌<◌, ◌≤◌, IfOk, IfSome, option_map, MatchOption, [], ◌∷◌, bytes_eq, length, position};
 ghost use Rattle.std.specs.List.{slice_split};
 ghost use Rattle.snmp_walk.specs.Text.{is_dot};
 ghost use Rattle.snmp_walk.specs.Names.{type_named, arc_of, arcs_after, column_named, in_table, object_named, head_of};
@@ -82,41 +82,44 @@ pub(crate) fn arcs_after<A: Allocator + Copy>(
     Ok(Some(arcs))
 }
 
+/// What the columns of the tables of LSAs are called, in the order of the tables that are not of
+/// areas.
+const COLUMNS: &[&str] = &[
+    "AreaId",
+    "Type",
+    "Lsid",
+    "RouterId",
+    "Sequence",
+    "Age",
+    "Checksum",
+    "Advertisement",
+];
+
+/// The place of a word among words.
+fn place_among(words: &[&str], word: &[u8]) -> Option<usize>
+    ensures value { result ≡ position (λ one. bytes_eq word.now one.now) words.now }
+    ensures small { IfSome result (λ place. place < length words.now) }
+{
+    words.iter().position(|one| word == one.as_bytes())
+}
+
 /// The columns of the tables of LSAs, by their numbers in the tables that are not of areas.
 #[tactic(auto, unfolding(crate::specs::Names::column_named))]
-fn column_named(word: &[u8]) -> Option<u32>
+fn column_named(word: &[u8]) -> Option<usize>
     ensures value { result ≡ column_named word.now }
     ensures small { IfSome result (λ column. column < 8) }
 {
-    if word == b"AreaId".as_slice() {
-        Some(0)
-    } else if word == b"Type".as_slice() {
-        Some(1)
-    } else if word == b"Lsid".as_slice() {
-        Some(2)
-    } else if word == b"RouterId".as_slice() {
-        Some(3)
-    } else if word == b"Sequence".as_slice() {
-        Some(4)
-    } else if word == b"Age".as_slice() {
-        Some(5)
-    } else if word == b"Checksum".as_slice() {
-        Some(6)
-    } else if word == b"Advertisement".as_slice() {
-        Some(7)
-    } else {
-        None
-    }
+    place_among(COLUMNS, word)
 }
 
 /// A table and a column of it. What is not needed here counts as table 0.
-fn in_table(table: u32, before: u32, column: Option<u32>) -> (u32, u32)
+fn in_table(table: u32, before: u32, column: Option<usize>) -> (u32, u32)
     requires { (before ≤ 1) × IfSome column (λ column. column < 8) }
     ensures { result ≡ in_table table before column }
 {
     match column {
         None => (0, 0),
-        Some(column) => (table, column + before),
+        Some(column) => (table, column as u32 + before),
     }
 }
 
