@@ -1,5 +1,5 @@
 -- The names of objects, as lists of numbers (X.660): their arcs. In place of numbers, names may have words of the MIB.
-use Rattle.std.specs.Prelude.{ℕ, ◌+◌, List, [], ◌∷◌, ◌++◌, codes, bytes_eq, Option, Some, None, is_some, position, if◌then◌else◌}
+use Rattle.std.specs.Prelude.{ℕ, ◌+◌, List, [], ◌∷◌, ◌++◌, codes, bytes_eq, Option, Some, None, is_some, option_map, position, if◌then◌else◌}
 pub use Rattle.text_words.specs.Options.{◌>>=◌}
 use Rattle.text_words.specs.Numbers.{decimal_up_to}
 use Rattle.snmp_walk.specs.Text.{after}
@@ -8,20 +8,23 @@ use Rattle.snmp_walk.specs.Text.{after}
 abbrev pub number_of : List ℕ → Option ℕ
 number_of word = decimal_up_to 0xffffffff word
 
--- the words of the OSPF-MIB for LS types (ospfLsdbType, ospfAsLsdbType and ospfLocalLsdbType of RFC 4750)
+-- the words of the OSPF-MIB for LS types (ospfLsdbType, ospfAsLsdbType and ospfLocalLsdbType of RFC 4750): from 1 on, and
+-- from 9 on
+abbrev pub links : List (List ℕ)
+links =
+    codes "routerLink" ∷ codes "networkLink" ∷ codes "summaryLink" ∷ codes "asSummaryLink" ∷ codes "asExternalLink"
+    ∷ codes "multicastLink" ∷ codes "nssaExternalLink" ∷ []
+
+abbrev pub opaque_links : List (List ℕ)
+opaque_links = codes "localOpaqueLink" ∷ codes "areaOpaqueLink" ∷ codes "asOpaqueLink" ∷ []
+
+-- the LS type of a place among the first words, else of a place among the others
+abbrev pub type_at : Option ℕ → Option ℕ → Option ℕ
+type_at (Some place) other = Some (place + 1)
+type_at None other = option_map (λ place. place + 9) other
+
 unfoldable pub type_named : List ℕ → Option ℕ
-type_named word =
-    if bytes_eq word (codes "routerLink") then Some 1
-    else if bytes_eq word (codes "networkLink") then Some 2
-    else if bytes_eq word (codes "summaryLink") then Some 3
-    else if bytes_eq word (codes "asSummaryLink") then Some 4
-    else if bytes_eq word (codes "asExternalLink") then Some 5
-    else if bytes_eq word (codes "multicastLink") then Some 6
-    else if bytes_eq word (codes "nssaExternalLink") then Some 7
-    else if bytes_eq word (codes "localOpaqueLink") then Some 9
-    else if bytes_eq word (codes "areaOpaqueLink") then Some 10
-    else if bytes_eq word (codes "asOpaqueLink") then Some 11
-    else None
+type_named word = type_at (position (bytes_eq word) links) (position (bytes_eq word) opaque_links)
 
 -- a number, or the word for an LS type
 abbrev pub arc_of : List ℕ → Option ℕ

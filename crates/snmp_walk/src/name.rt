@@ -8,33 +8,39 @@ ghost use Rattle.snmp_walk.specs.Names.{type_named, arc_of, arcs_after, column_n
 use std::alloc::{AllocError, Allocator};
 use text_words::{cut_at, decimal_up_to};
 
+/// The words of the OSPF-MIB for the LS types from 1 on.
+const LINKS: &[&str] = &[
+    "routerLink",
+    "networkLink",
+    "summaryLink",
+    "asSummaryLink",
+    "asExternalLink",
+    "multicastLink",
+    "nssaExternalLink",
+];
+
+/// The words of the OSPF-MIB for the LS types from 9 on.
+const OPAQUE_LINKS: &[&str] = &["localOpaqueLink", "areaOpaqueLink", "asOpaqueLink"];
+
+/// The place of a word among words.
+fn place_among(words: &[&str], word: &[u8]) -> Option<usize>
+    ensures value { result ≡ position (λ one. bytes_eq word.now one.now) words.now }
+    ensures small { IfSome result (λ place. place < length words.now) }
+{
+    words.iter().position(|one| word == one.as_bytes())
+}
+
 /// The LS type that a word of the OSPF-MIB names.
 #[tactic(auto, unfolding(crate::specs::Names::type_named))]
 fn type_named(word: &[u8]) -> Option<u32>
     ensures { result ≡ type_named word.now }
 {
-    if word == b"routerLink".as_slice() {
-        Some(1)
-    } else if word == b"networkLink".as_slice() {
-        Some(2)
-    } else if word == b"summaryLink".as_slice() {
-        Some(3)
-    } else if word == b"asSummaryLink".as_slice() {
-        Some(4)
-    } else if word == b"asExternalLink".as_slice() {
-        Some(5)
-    } else if word == b"multicastLink".as_slice() {
-        Some(6)
-    } else if word == b"nssaExternalLink".as_slice() {
-        Some(7)
-    } else if word == b"localOpaqueLink".as_slice() {
-        Some(9)
-    } else if word == b"areaOpaqueLink".as_slice() {
-        Some(10)
-    } else if word == b"asOpaqueLink".as_slice() {
-        Some(11)
-    } else {
-        None
+    if let Some(place) = place_among(LINKS, word) {
+        return Some(place as u32 + 1);
+    }
+    match place_among(OPAQUE_LINKS, word) {
+        Some(place) => Some(place as u32 + 9),
+        None => None,
     }
 }
 
@@ -94,14 +100,6 @@ const COLUMNS: &[&str] = &[
     "Checksum",
     "Advertisement",
 ];
-
-/// The place of a word among words.
-fn place_among(words: &[&str], word: &[u8]) -> Option<usize>
-    ensures value { result ≡ position (λ one. bytes_eq word.now one.now) words.now }
-    ensures small { IfSome result (λ place. place < length words.now) }
-{
-    words.iter().position(|one| word == one.as_bytes())
-}
 
 /// The columns of the tables of LSAs, by their numbers in the tables that are not of areas.
 #[tactic(auto, unfolding(crate::specs::Names::column_named))]
