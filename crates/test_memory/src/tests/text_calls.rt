@@ -8,7 +8,7 @@ use edit_script::parse;
 use std::alloc::{AllocError, Global};
 use std::test::*;
 use table_report::{compare_text, table_text};
-use test_support::{Answer, CallOn, FailingAlloc, FallibleCall, Outcome, first_wrong, outcome_of};
+use test_support::{FailingAlloc, FallibleCall, Outcome, first_wrong};
 
 /// What is called.
 #[derive(Clone, Copy)]
@@ -76,15 +76,19 @@ fn text_of<'a>(
     }
 }
 
-impl<'a> CallOn<'a, Reply<&'a FailingAlloc>> for Call {
-    fn answer(
-        &self,
-        alloc: Global,
-        failing: &'a FailingAlloc,
-        reply: &mut Reply<&'a FailingAlloc>,
-    ) -> Result<Answer, Fail> {
-        of_bytes(alloc, text_of(failing, reply, *self))
-    }
+/// What is seen of a call on a reply.
+fn outcome_on<'a>(
+    alloc: Global,
+    failing: &'a FailingAlloc,
+    reply: &Reply<&'a FailingAlloc>,
+    call: Call,
+    growths: u64,
+) -> Result<Outcome, Fail> {
+    failing.set_remaining(growths);
+    let first = of_bytes(alloc, text_of(failing, reply, call))?;
+    failing.set_remaining(u64::MAX);
+    let then = of_bytes(alloc, text_of(failing, reply, call))?;
+    Ok(Outcome::of_answers(alloc, first, then))
 }
 
 /// What is seen of a call on the reply to its line, after the edits. No function hands the reply
@@ -99,7 +103,7 @@ fn outcome_after<'a>(
     carry_out(branches, EDITS)?;
     let (branch, command) = parse(line_of(call).as_bytes())?;
     let reply = branches.step(branch, &command)?;
-    outcome_of(alloc, failing, reply, call, growths)
+    outcome_on(alloc, failing, &reply, call, growths)
 }
 
 impl FallibleCall for Call {
