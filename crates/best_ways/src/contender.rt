@@ -45,6 +45,7 @@ impl<'a, K> Model for Contender<'a, K> {
 
 impl<'a, K> Contender<'a, K> {
     /// A list of its next hops, after the way goes on.
+    #[inline(always)]
     pub(crate) fn hop_list<A: Allocator + Copy>(&self, alloc: A) -> Result<HopList<A>, AllocError>
         ensures { IfOk result (λ hops. hops ≡ rising hop_cmp self.now.hops) }
     {

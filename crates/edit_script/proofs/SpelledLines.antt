@@ -13,16 +13,20 @@ use Rattle.edit_script.specs.declared.fault.ScriptFault.TheVariants.{BadBranch}
 use Rattle.edit_script.specs.Words.{Word}
 use Rattle.text_words.specs.Numbers.{number_up_to}
 use Rattle.edit_script.specs.Reading.{◌>>=◌, made, edit_of, route_edit_of, none_of, count_of, router_of, command_of}
+use Rattle.edit_script.specs.Reading.{cost_of, drop_link_of, fail_link_of, fail_net_of, fail_router_of, add_stub_of, summary_of, add_summary_of}
+use Rattle.edit_script.specs.Reading.{add_external_of, drop_external_of, refresh_of}
 use Rattle.edit_script.specs.Line.{branch_of, in_branch, after_branch, meaning_of_words}
 use Rattle.edit_script.specs.Spelling.{command_words, branch_word, Says}
-use Rattle.edit_script.specs.Spelling.{IsInRange}
+use Rattle.edit_script.specs.Spelling.{IsInRange, edit_words, IsEditInRange}
 use Rattle.text_words.proofs.NumberLemmas.{number_spelled}
-use Rattle.edit_script.proofs.SpelledArguments.{IsOf, of_spelled, none_are, count_read, router_read}
-use Rattle.edit_script.proofs.OneArgument.{then_ok, same_ok, of_ok}
-use Rattle.edit_script.proofs.SpelledEdits.{IsEdit, cost_read, drop_link_read, fail_link_read, fail_net_read, fail_router_read, add_stub_read}
-use Rattle.edit_script.proofs.SpelledEdits.{summary_read, add_summary_read, add_external_read, drop_external_read, refresh_read}
+use Rattle.edit_script.proofs.SpelledArguments.{IsOf, of_spelled, none_are, two_read, three_read, four_read, six_read, count_read, router_read}
+use Rattle.edit_script.proofs.OneArgument.{then_ok, same_ok, of_ok, areas, routers, addrs, prefixes, types, numbers16, metrics24, numbers32}
 
 -- ---- the commands
+
+-- words that are an edit's, whose numbers are in range
+abbrev IsEdit : List Word → Edit → Type 0
+IsEdit = IsOf edit_words IsEditInRange
 
 -- words that are a command's, whose numbers are in range
 abbrev IsCommand : List Word → Command → Type 0
@@ -56,9 +60,9 @@ edit_read words given c spelled h =
 
 -- where the command word is `name`, what it reads; otherwise what the other names read
 by_name : {A : Type 0} (Is : List Word → A → Type 0) (name word : Word) (arguments : List Word) (this others : Result A ScriptFault) (x : A)
-    → (this ≡ Ok x → Is (name ∷ arguments) x) → (others ≡ Ok x → Is (word ∷ arguments) x) → cond (bytes_eq word name) this others ≡ Ok x
+    → cond (bytes_eq word name) this others ≡ Ok x → (this ≡ Ok x → Is (name ∷ arguments) x) → (others ≡ Ok x → Is (word ∷ arguments) x)
     → Is (word ∷ arguments) x
-by_name Is name word arguments this others x at_name at_other h =
+by_name Is name word arguments this others x h at_name at_other =
     elim (cases_Bool (bytes_eq word name)) [
       | inl holds ↦
           let same : word ≡ name = (bytes_eq-Decides word name).0 holds in
@@ -67,39 +71,50 @@ by_name Is name word arguments this others x at_name at_other h =
     ]
 
 route_edit_read : (word : Word) (arguments : List Word) (edit : Edit) → route_edit_of word arguments ≡ Ok edit → IsEdit (word ∷ arguments) edit
-unfolding route_edit_of
+unfolding route_edit_of summary_of add_summary_of add_external_of drop_external_of refresh_of
 route_edit_read word arguments edit h =
-    by_name IsEdit (codes "summary") word arguments _ _ edit (summary_read arguments edit)
-    (by_name IsEdit (codes "add-summary") word arguments _ _ edit (add_summary_read arguments edit)
-    (by_name IsEdit (codes "add-external") word arguments _ _ edit (add_external_read arguments edit)
-    (by_name IsEdit (codes "drop-external") word arguments _ _ edit (drop_external_read arguments edit)
-    (by_name IsEdit (codes "refresh") word arguments _ _ edit (refresh_read arguments edit)
-    (λ e. absurd cc)))))
-    h
+    by_name IsEdit (codes "summary") word arguments _ _ edit h
+    (of_spelled (codes "summary") _ _ _ arguments edit (four_read areas routers prefixes metrics24 arguments) (λ x. refl)) λ h.
+    by_name IsEdit (codes "add-summary") word arguments _ _ edit h
+    (of_spelled (codes "add-summary") _ _ _ arguments edit (four_read areas routers prefixes metrics24 arguments) (λ x. refl)) λ h.
+    by_name IsEdit (codes "add-external") word arguments _ _ edit h
+    (of_spelled (codes "add-external") _ _ _ arguments edit
+    (λ x is. let read = six_read routers prefixes types metrics24 addrs numbers32 arguments x is in
+    (read.0, (read.1.0, read.1.1, read.1.3, read.1.4, read.1.5))) (λ x. refl)) λ h.
+    by_name IsEdit (codes "drop-external") word arguments _ _ edit h
+    (of_spelled (codes "drop-external") _ _ _ arguments edit (two_read routers prefixes arguments) (λ x. refl)) λ h.
+    by_name IsEdit (codes "refresh") word arguments _ _ edit h
+    (of_spelled (codes "refresh") _ _ _ arguments edit (λ x is. (none_are arguments x is, tt)) (λ x. refl)) λ h.
+    absurd cc
 
 edit_word_read : (word : Word) (arguments : List Word) (edit : Edit) → edit_of word arguments ≡ Ok edit → IsEdit (word ∷ arguments) edit
-unfolding edit_of
+unfolding edit_of cost_of drop_link_of fail_link_of fail_net_of fail_router_of add_stub_of
 edit_word_read word arguments edit h =
-    by_name IsEdit (codes "cost") word arguments _ _ edit (cost_read arguments edit)
-    (by_name IsEdit (codes "drop-link") word arguments _ _ edit (drop_link_read arguments edit)
-    (by_name IsEdit (codes "fail-link") word arguments _ _ edit (fail_link_read arguments edit)
-    (by_name IsEdit (codes "fail-net") word arguments _ _ edit (fail_net_read arguments edit)
-    (by_name IsEdit (codes "fail-router") word arguments _ _ edit (fail_router_read arguments edit)
-    (by_name IsEdit (codes "add-stub") word arguments _ _ edit (add_stub_read arguments edit)
-    (route_edit_read word arguments edit))))))
-    h
+    by_name IsEdit (codes "cost") word arguments _ _ edit h
+    (of_spelled (codes "cost") _ _ _ arguments edit (four_read areas routers numbers16 numbers16 arguments) (λ x. refl)) λ h.
+    by_name IsEdit (codes "drop-link") word arguments _ _ edit h
+    (of_spelled (codes "drop-link") _ _ _ arguments edit (three_read areas routers numbers16 arguments) (λ x. refl)) λ h.
+    by_name IsEdit (codes "fail-link") word arguments _ _ edit h
+    (of_spelled (codes "fail-link") _ _ _ arguments edit (three_read areas routers routers arguments) (λ x. refl)) λ h.
+    by_name IsEdit (codes "fail-net") word arguments _ _ edit h
+    (of_spelled (codes "fail-net") _ _ _ arguments edit (two_read areas addrs arguments) (λ x. refl)) λ h.
+    by_name IsEdit (codes "fail-router") word arguments _ _ edit h
+    (of_spelled (codes "fail-router") _ _ _ arguments edit (router_read arguments) (λ x. refl)) λ h.
+    by_name IsEdit (codes "add-stub") word arguments _ _ edit h
+    (of_spelled (codes "add-stub") _ _ _ arguments edit (four_read areas routers prefixes numbers16 arguments) (λ x. refl)) λ h.
+    route_edit_read word arguments edit h
 
 command_read : (word : Word) (arguments : List Word) (c : Command) → command_of word arguments ≡ Ok c → IsCommand (word ∷ arguments) c
 unfolding command_of
 command_read word arguments c h =
-    by_name IsCommand (codes "undo") word arguments _ _ c (counted (codes "undo") command.Undo arguments c (λ n small. small) (λ n. refl))
-    (by_name IsCommand (codes "redo") word arguments _ _ c (counted (codes "redo") command.Redo arguments c (λ n small. small) (λ n. refl))
-    (by_name IsCommand (codes "table") word arguments _ _ c (of_router (codes "table") command.Table arguments c (λ r small. small) (λ r. refl))
-    (by_name IsCommand (codes "tables") word arguments _ _ c (alone (codes "tables") command.Tables arguments c tt refl)
-    (by_name IsCommand (codes "compare") word arguments _ _ c (of_router (codes "compare") command.Compare arguments c (λ r small. small) (λ r. refl))
-    (by_name IsCommand (codes "info") word arguments _ _ c (alone (codes "info") command.Info arguments c tt refl)
-    (edit_read (word ∷ arguments) (edit_of word arguments) c (edit_word_read word arguments)))))))
-    h
+    by_name IsCommand (codes "undo") word arguments _ _ c h (counted (codes "undo") command.Undo arguments c (λ n small. small) (λ n. refl)) λ h.
+    by_name IsCommand (codes "redo") word arguments _ _ c h (counted (codes "redo") command.Redo arguments c (λ n small. small) (λ n. refl)) λ h.
+    by_name IsCommand (codes "table") word arguments _ _ c h (of_router (codes "table") command.Table arguments c (λ r small. small) (λ r. refl)) λ h.
+    by_name IsCommand (codes "tables") word arguments _ _ c h (alone (codes "tables") command.Tables arguments c tt refl) λ h.
+    by_name IsCommand (codes "compare") word arguments _ _ c h
+    (of_router (codes "compare") command.Compare arguments c (λ r small. small) (λ r. refl)) λ h.
+    by_name IsCommand (codes "info") word arguments _ _ c h (alone (codes "info") command.Info arguments c tt refl) λ h.
+    edit_read (word ∷ arguments) (edit_of word arguments) c (edit_word_read word arguments) h
 
 -- ---- the line
 

@@ -66,9 +66,9 @@ pub between_fields : (low high key : Key) → low.kind ≤ key.kind → key.kind
 between_fields low high key k l i j a b = and_from _ _ (upto low key k i a) (upto key high l j b)
 
 -- any router may have originated the network-LSAs of a network
-pub keys_of_network : (network : Addr) → let low : Key = record { kind = 2; id = network; adv = record { 0 = 0 } } in
+pub network_keys_cover : (network : Addr) → let low : Key = record { kind = 2; id = network; adv = record { 0 = 0 } } in
     let high : Key = record { kind = 2; id = network; adv = record { 0 = 2 ^ 32 - 1 } } in HaveKeysBetween (λ lsa. is_network network lsa ≡ true) low high
-keys_of_network network lsa widths is =
+network_keys_cover network lsa widths is =
     let parts = and_parts _ _ is in
     let kinds : kind_of lsa ≡ 2 = eqb-true _ _ parts.0 in
     let ids : link_state_id_of lsa ≡ network.0 = eqb-true _ _ parts.1 in

@@ -28,12 +28,12 @@ fault_texts TooManyAreas = (codes "L5", codes "TooManyAreas")
 fault_texts AreaOrder = (codes "L6", codes "AreaOrder")
 fault_texts BadAreaKind = (codes "L7", codes "BadAreaKind")
 fault_texts TooManyLsas = (codes "L8", codes "TooManyLsas")
+fault_texts (Lsa fault) = (codes "L9", lsa_fault_name fault)
 fault_texts WrongSection = (codes "L10", codes "WrongSection")
 fault_texts DuplicateLsa = (codes "L11", codes "DuplicateLsa")
 fault_texts BackboneStub = (codes "L12", codes "BackboneStub")
 fault_texts TooLarge = (codes "L13", codes "TooLarge")
 fault_texts OutOfMemory = (codes "L14", codes "OutOfMemory")
-fault_texts (Lsa fault) = (codes "L9", lsa_fault_name fault)
 fault_texts (BadHistory index) = (codes "L15", codes "BadHistory")
 
 abbrev pub fault_code : DumpFaultKind → List ℕ

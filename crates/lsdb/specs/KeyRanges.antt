@@ -1,8 +1,9 @@
 -- The keys of a section's LSAs in order, and those from one key to another.
-use Rattle.std.specs.Prelude.{◌≡◌, ◌^◌, ◌<◌, ◌&&◌, ℕ, Bool, true, List, Some, All, Contains}
+use Rattle.std.specs.Prelude.{◌≡◌, ◌^◌, ◌-◌, ◌<◌, ◌&&◌, ℕ, Bool, true, List, Some, All, Contains}
 use Rattle.std.specs.List.Sorted.{IsStrictlySortedBy}
 use Rattle.std.specs.Ordering.{is_le, nat_cmp, ordering_then}
 use Rattle.std.specs.declared.cmp.Ordering.{Ordering}
+use Rattle.lsa_codec.specs.declared.address.Addr.{Addr}
 use Rattle.lsa_codec.specs.declared.key.Key.{Key}
 use Rattle.lsa_codec.specs.Fields.{kind_of, link_state_id_of, advertising_router_of}
 use Rattle.lsa_codec.specs.Key.{key_of}
@@ -31,6 +32,10 @@ pub record HaveWidths (lsa : List ℕ) : Type 0 where
 -- each LSA of which something holds has a key from one to another
 abbrev pub HaveKeysBetween : (List ℕ → Type 0) → Key → Key → Type 0
 HaveKeysBetween Holds low high = (lsa : List ℕ) → HaveWidths lsa → Holds lsa → is_between low high (key_of lsa) ≡ true
+
+-- the least and the greatest key of a network-LSA of a network (RFC 2328, 12.1.4): its Link State ID is the address of the Designated Router
+abbrev pub keys_of_network : Addr → Key × Key
+keys_of_network network = (record { kind = 2; id = network; adv = record { 0 = 0 } }, record { kind = 2; id = network; adv = record { 0 = 2 ^ 32 - 1 } })
 
 -- keys of a section from one key to another, in order and each once with one index, among them that of each LSA there, with the index of its slot
 pub record AreKeysBetween (slots : List Slot) (low high : Key) (keys : List KeyAt) : Type 0 where

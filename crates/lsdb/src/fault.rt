@@ -61,12 +61,12 @@ impl DumpFaultKind {
             DumpFaultKind::AreaOrder => ("L6", "AreaOrder"),
             DumpFaultKind::BadAreaKind => ("L7", "BadAreaKind"),
             DumpFaultKind::TooManyLsas => ("L8", "TooManyLsas"),
+            DumpFaultKind::Lsa(fault) => ("L9", lsa_fault_name(*fault)),
             DumpFaultKind::WrongSection => ("L10", "WrongSection"),
             DumpFaultKind::DuplicateLsa => ("L11", "DuplicateLsa"),
             DumpFaultKind::BackboneStub => ("L12", "BackboneStub"),
             DumpFaultKind::TooLarge => ("L13", "TooLarge"),
             DumpFaultKind::OutOfMemory => ("L14", "OutOfMemory"),
-            DumpFaultKind::Lsa(fault) => ("L9", lsa_fault_name(*fault)),
             DumpFaultKind::BadHistory(_) => ("L15", "BadHistory"),
         }
     }

@@ -2,7 +2,7 @@
 
 ghost use Rattle.std.specs.Prelude.{◌≡◌, true, None, IsSome, MatchOption, option_map};
 ghost use Rattle.std.specs.List.{find};
-ghost use Rattle.lsdb.specs.KeyRanges.{AreKeysBetween, HaveKeysBetween};
+ghost use Rattle.lsdb.specs.KeyRanges.{AreKeysBetween, HaveKeysBetween, keys_of_network};
 ghost use Rattle.lsdb.specs.Lists.{is_head_of, is_network, is_section, has_key, lsas_of};
 ghost use Rattle.lsdb.specs.Slots.{item_at, lists_of, lsas_in, slots_in, IsFirstSlot, IsNamed, IsSlotOf};
 ghost use Rattle.lsdb.specs.PrefixSlots.{AreSlotsOfPrefix};
@@ -111,7 +111,8 @@ impl<A: Allocator + Copy> Database<A> {
 /// The least and the greatest key of the network-LSAs of a network, whose Link State ID is the
 /// address of its Designated Router (RFC 2328, 12.1.4): any router may have originated them.
 pub fn network_keys(network: Addr) -> (Key, Key)
-    ensures { HaveKeysBetween (λ lsa. is_network network lsa ≡ true) result.0 result.1 }
+    ensures keys { result ≡ keys_of_network network }
+    ensures covers { HaveKeysBetween (λ lsa. is_network network lsa ≡ true) result.0 result.1 }
 {
     let least = Key {
         kind: NETWORK_LSA,

@@ -13,4 +13,4 @@ returns-in-Router c =
 pub returns-in-Network : goal.returns-in-Network
 returns-in-Network c =
     subst (λ (v : Vertex). HaveKeysBetween (IsOfVertex v) c.network_keys.result.0 c.network_keys.result.1) (sym c.in-Network.is)
-    (network_keys c.in-Network.network c.network_keys.result.0 c.network_keys.result.1 c.network_keys.ensures)
+    (network_keys c.in-Network.network c.network_keys.result.0 c.network_keys.result.1 c.network_keys.ensures.covers)

@@ -1,5 +1,5 @@
-use Rattle.lsdb.proofs.KeyLemmas.{keys_of_network}
+use Rattle.lsdb.proofs.KeyLemmas.{network_keys_cover}
 use Rattle.lsdb.proofs.lookup.network_keys.Goals as goal
 
-pub returns : goal.returns
-returns c = keys_of_network c.args.network
+pub returns-clause-covers : goal.returns-clause-covers
+returns-clause-covers c = network_keys_cover c.args.network
