@@ -5,3 +5,4 @@ mod counting;
 mod inner;
 mod made;
 mod texts;
+mod wrong_calls;
