@@ -1,7 +1,7 @@
 //! The kinds of audit findings.
 #![tactic(auto, unfolding(crate::specs::Written::written))]
 
-use crate::word::Word;
+use crate::word::{Word, list_of, text_of};
 
 /// A kind of finding of `audit`: what the answers may not be trusted for.
 #[derive(Clone, Copy, Debug, PartialEq, Eq)]
@@ -58,6 +58,39 @@ pub enum AuditKind {
     MaxAge,
 }
 
+/// The words in their order and how each is written, handed to a macro.
+macro_rules! audit_kinds {
+    ($take:ident $($word:tt)?) => {
+        $take!($($word)? AuditKind
+            Nssa "nssa"
+            AreaKind "area-kind"
+            VirtualLink "virtual-link"
+            AreaMissing "area-missing"
+            AbrWithoutBackbone "abr-without-backbone"
+            AbrWithoutBitB "abr-without-bit-b"
+            SplitArea "split-area"
+            SummaryRaised "summary-raised"
+            SummaryNotDue "summary-not-due"
+            SummaryMissing "summary-missing"
+            Rfc1583 "rfc1583"
+            ExternalWithoutBitE "external-without-bit-e"
+            UndescribedRouter "undescribed-router"
+            SeveralNetworks "several-networks"
+            DuplicateAddress "duplicate-address"
+            OwnExternal "own-external"
+            ForwardUnreached "forward-unreached"
+            OneWayLink "one-way-link"
+            UnequalCost "unequal-cost"
+            PointToMultipoint "point-to-multipoint"
+            Drained "drained"
+            UnreachedRouter "unreached-router"
+            OrphanLsa "orphan-lsa"
+            Opaque "opaque"
+            MaxAge "max-age"
+        )
+    };
+}
+
 impl Word for AuditKind {
     ghost use Rattle.study_words.specs.AuditKinds.{audit_kind_text, audit_kinds};
 
@@ -66,62 +99,10 @@ impl Word for AuditKind {
     ghost spelled = { audit_kind_text };
 
     fn all() -> &'static [AuditKind] {
-        &[
-            AuditKind::Nssa,
-            AuditKind::AreaKind,
-            AuditKind::VirtualLink,
-            AuditKind::AreaMissing,
-            AuditKind::AbrWithoutBackbone,
-            AuditKind::AbrWithoutBitB,
-            AuditKind::SplitArea,
-            AuditKind::SummaryRaised,
-            AuditKind::SummaryNotDue,
-            AuditKind::SummaryMissing,
-            AuditKind::Rfc1583,
-            AuditKind::ExternalWithoutBitE,
-            AuditKind::UndescribedRouter,
-            AuditKind::SeveralNetworks,
-            AuditKind::DuplicateAddress,
-            AuditKind::OwnExternal,
-            AuditKind::ForwardUnreached,
-            AuditKind::OneWayLink,
-            AuditKind::UnequalCost,
-            AuditKind::PointToMultipoint,
-            AuditKind::Drained,
-            AuditKind::UnreachedRouter,
-            AuditKind::OrphanLsa,
-            AuditKind::Opaque,
-            AuditKind::MaxAge,
-        ]
+        audit_kinds!(list_of)
     }
 
     fn text(self) -> &'static str {
-        match self {
-            AuditKind::Nssa => "nssa",
-            AuditKind::AreaKind => "area-kind",
-            AuditKind::VirtualLink => "virtual-link",
-            AuditKind::AreaMissing => "area-missing",
-            AuditKind::AbrWithoutBackbone => "abr-without-backbone",
-            AuditKind::AbrWithoutBitB => "abr-without-bit-b",
-            AuditKind::SplitArea => "split-area",
-            AuditKind::SummaryRaised => "summary-raised",
-            AuditKind::SummaryNotDue => "summary-not-due",
-            AuditKind::SummaryMissing => "summary-missing",
-            AuditKind::Rfc1583 => "rfc1583",
-            AuditKind::ExternalWithoutBitE => "external-without-bit-e",
-            AuditKind::UndescribedRouter => "undescribed-router",
-            AuditKind::SeveralNetworks => "several-networks",
-            AuditKind::DuplicateAddress => "duplicate-address",
-            AuditKind::OwnExternal => "own-external",
-            AuditKind::ForwardUnreached => "forward-unreached",
-            AuditKind::OneWayLink => "one-way-link",
-            AuditKind::UnequalCost => "unequal-cost",
-            AuditKind::PointToMultipoint => "point-to-multipoint",
-            AuditKind::Drained => "drained",
-            AuditKind::UnreachedRouter => "unreached-router",
-            AuditKind::OrphanLsa => "orphan-lsa",
-            AuditKind::Opaque => "opaque",
-            AuditKind::MaxAge => "max-age",
-        }
+        audit_kinds!(text_of self)
     }
 }

@@ -1,9 +1,11 @@
 //! The words of conditions, which stand after `expect`.
 #![tactic(auto, unfolding(crate::specs::Written::written))]
 
+use crate::see_word::SeeWord;
 use crate::word::Word;
 
-/// The first word of a condition.
+/// The first word of a condition. Where a question shows what the condition is of, it is the word
+/// of the question.
 #[derive(Clone, Copy, Debug, PartialEq, Eq)]
 pub enum ConditionWord {
     /// `route ROUTER PREFIX [KIND] [via NEIGHBOR,..] [cost OP NUMBER]`: the router has such a
@@ -63,15 +65,15 @@ impl Word for ConditionWord {
             ConditionWord::Route => "route",
             ConditionWord::NoRoute => "no-route",
             ConditionWord::Hops => "hops",
-            ConditionWord::Path => "path",
-            ConditionWord::Lost => "lost",
-            ConditionWord::Gone => "gone",
-            ConditionWord::Loops => "loops",
-            ConditionWord::Microloops => "microloops",
+            ConditionWord::Path => SeeWord::Path.text(),
+            ConditionWord::Lost => SeeWord::Lost.text(),
+            ConditionWord::Gone => SeeWord::Gone.text(),
+            ConditionWord::Loops => SeeWord::Loops.text(),
+            ConditionWord::Microloops => SeeWord::Microloops.text(),
             ConditionWord::Blackholes => "blackholes",
             ConditionWord::Same => "same",
-            ConditionWord::Changes => "changes",
-            ConditionWord::Audit => "audit",
+            ConditionWord::Changes => SeeWord::Changes.text(),
+            ConditionWord::Audit => SeeWord::Audit.text(),
         }
     }
 }

@@ -1,7 +1,7 @@
 //! The command words of `ospf-plan`.
 #![tactic(auto, unfolding(crate::specs::Written::written))]
 
-use crate::word::Word;
+use crate::word::{Word, list_of, text_of};
 
 /// A command word that `ospf-plan` has, too.
 #[derive(Clone, Copy, Debug, PartialEq, Eq)]
@@ -43,6 +43,31 @@ pub enum PlanWord {
     Info,
 }
 
+/// The words in their order and how each is written, handed to a macro.
+macro_rules! plan_words {
+    ($take:ident $($word:tt)?) => {
+        $take!($($word)? PlanWord
+            Cost "cost"
+            DropLink "drop-link"
+            FailLink "fail-link"
+            FailNet "fail-net"
+            FailRouter "fail-router"
+            AddStub "add-stub"
+            Summary "summary"
+            AddSummary "add-summary"
+            AddExternal "add-external"
+            DropExternal "drop-external"
+            Refresh "refresh"
+            Undo "undo"
+            Redo "redo"
+            Table "table"
+            Tables "tables"
+            Compare "compare"
+            Info "info"
+        )
+    };
+}
+
 impl Word for PlanWord {
     ghost use Rattle.study_words.specs.PlanWords.{plan_text, plan_words};
 
@@ -51,46 +76,10 @@ impl Word for PlanWord {
     ghost spelled = { plan_text };
 
     fn all() -> &'static [PlanWord] {
-        &[
-            PlanWord::Cost,
-            PlanWord::DropLink,
-            PlanWord::FailLink,
-            PlanWord::FailNet,
-            PlanWord::FailRouter,
-            PlanWord::AddStub,
-            PlanWord::Summary,
-            PlanWord::AddSummary,
-            PlanWord::AddExternal,
-            PlanWord::DropExternal,
-            PlanWord::Refresh,
-            PlanWord::Undo,
-            PlanWord::Redo,
-            PlanWord::Table,
-            PlanWord::Tables,
-            PlanWord::Compare,
-            PlanWord::Info,
-        ]
+        plan_words!(list_of)
     }
 
     fn text(self) -> &'static str {
-        match self {
-            PlanWord::Cost => "cost",
-            PlanWord::DropLink => "drop-link",
-            PlanWord::FailLink => "fail-link",
-            PlanWord::FailNet => "fail-net",
-            PlanWord::FailRouter => "fail-router",
-            PlanWord::AddStub => "add-stub",
-            PlanWord::Summary => "summary",
-            PlanWord::AddSummary => "add-summary",
-            PlanWord::AddExternal => "add-external",
-            PlanWord::DropExternal => "drop-external",
-            PlanWord::Refresh => "refresh",
-            PlanWord::Undo => "undo",
-            PlanWord::Redo => "redo",
-            PlanWord::Table => "table",
-            PlanWord::Tables => "tables",
-            PlanWord::Compare => "compare",
-            PlanWord::Info => "info",
-        }
+        plan_words!(text_of self)
     }
 }

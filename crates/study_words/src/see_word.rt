@@ -1,7 +1,7 @@
 //! The command words of questions that only studies have.
 #![tactic(auto, unfolding(crate::specs::Written::written))]
 
-use crate::word::Word;
+use crate::word::{Word, list_of, text_of};
 
 /// A command word of a question that only studies have.
 #[derive(Clone, Copy, Debug, PartialEq, Eq)]
@@ -39,6 +39,29 @@ pub enum SeeWord {
     Help,
 }
 
+/// The words in their order and how each is written, handed to a macro.
+macro_rules! see_words {
+    ($take:ident $($word:tt)?) => {
+        $take!($($word)? SeeWord
+            Routers "routers"
+            Links "links"
+            Networks "networks"
+            Routes "routes"
+            Path "path"
+            Explain "explain"
+            Changes "changes"
+            Differences "differences"
+            Lost "lost"
+            Gone "gone"
+            Loops "loops"
+            Microloops "microloops"
+            Audit "audit"
+            Log "log"
+            Help "help"
+        )
+    };
+}
+
 impl Word for SeeWord {
     ghost use Rattle.study_words.specs.SeeWords.{see_text, see_words};
 
@@ -47,42 +70,10 @@ impl Word for SeeWord {
     ghost spelled = { see_text };
 
     fn all() -> &'static [SeeWord] {
-        &[
-            SeeWord::Routers,
-            SeeWord::Links,
-            SeeWord::Networks,
-            SeeWord::Routes,
-            SeeWord::Path,
-            SeeWord::Explain,
-            SeeWord::Changes,
-            SeeWord::Differences,
-            SeeWord::Lost,
-            SeeWord::Gone,
-            SeeWord::Loops,
-            SeeWord::Microloops,
-            SeeWord::Audit,
-            SeeWord::Log,
-            SeeWord::Help,
-        ]
+        see_words!(list_of)
     }
 
     fn text(self) -> &'static str {
-        match self {
-            SeeWord::Routers => "routers",
-            SeeWord::Links => "links",
-            SeeWord::Networks => "networks",
-            SeeWord::Routes => "routes",
-            SeeWord::Path => "path",
-            SeeWord::Explain => "explain",
-            SeeWord::Changes => "changes",
-            SeeWord::Differences => "differences",
-            SeeWord::Lost => "lost",
-            SeeWord::Gone => "gone",
-            SeeWord::Loops => "loops",
-            SeeWord::Microloops => "microloops",
-            SeeWord::Audit => "audit",
-            SeeWord::Log => "log",
-            SeeWord::Help => "help",
-        }
+        see_words!(text_of self)
     }
 }

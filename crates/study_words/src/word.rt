@@ -1,4 +1,22 @@
-//! Kinds of words.
+//! Kinds of words, and what is made of a table of their words.
+
+/// The list of all words of a table.
+macro_rules! list_of {
+    ($kind:ident $($name:ident $text:literal)*) => { &[$($kind::$name),*] };
+}
+
+pub(crate) use list_of;
+
+/// The text of a word in a table.
+macro_rules! text_of {
+    ($word:tt $kind:ident $($name:ident $text:literal)*) => {
+        match $word {
+            $($kind::$name => $text),*
+        }
+    };
+}
+
+pub(crate) use text_of;
 
 /// A kind of words of the language: each value is written as one word.
 pub trait Word: Copy + 'static {

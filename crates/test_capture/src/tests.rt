@@ -20,4 +20,6 @@ mod lists;
 mod growths;
 
 // What the tests make, and what they compare.
+mod contents;
 mod observed;
+mod parts;

@@ -5,8 +5,8 @@ use super::pieces::{
     ROUTER_BYTES, SUMMARY, SUMMARY_BYTES, SUMMARY_KEY, TYPE_1, TYPE_1_BYTES, TYPE_2, TYPE_2_BYTES,
     UNREADABLE,
 };
+use crate::tests::contents::has;
 use crate::tests::observed::Expected;
-use crate::tests::printed::parsed::has;
 use findings::{Finding, ReportedLsa, UnusedReason};
 use frr_json::{JsonFault, is_printed_json, read_printed_json};
 use lsa_codec::{AreaId, LsaFault};

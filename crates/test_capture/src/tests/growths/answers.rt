@@ -1,7 +1,7 @@
 //! What calls answer, as bytes that say all of it.
 
+use crate::tests::contents::has;
 use crate::tests::documents::pieces::LINKS_BYTES;
-use crate::tests::printed::parsed::has;
 use capture_files::{Capture, CaptureFault};
 use findings::Content;
 use frr_json::JsonFault;

@@ -5,35 +5,12 @@ use super::pieces::{
     OTHER_METRIC, ROUTER, ROUTER_BYTES, SUMMARY, SUMMARY_BYTES, SUMMARY_KEY, TYPE_1_BYTES,
     TYPE_2_BYTES,
 };
-use crate::tests::observed::{Expected, are_of};
-use findings::{Content, Finding, ReportedLsa, UnusedReason};
-use frr_text::{is_printed, read_printed};
+use crate::tests::contents::{Format, Row, first_other};
+use findings::{Finding, ReportedLsa, UnusedReason};
+use frr_text::is_printed;
 use lsa_codec::{AreaId, LsaFault};
 use lsa_instances::{AreaKind, AreaReport, Scope};
-use std::alloc::{Allocator, Global};
 use std::test::*;
-
-/// Whether what is printed has these LSAs and kinds of areas, and these findings.
-pub(in crate::tests) fn has<A: Allocator + Copy>(
-    printed: &Content<A>,
-    lsas: &[Expected],
-    kinds: &[AreaReport],
-    findings: &[Finding],
-) -> bool {
-    let is_parsed = are_of(&printed.observations, lsas) && printed.kinds.as_slice() == kinds;
-    is_parsed && printed.findings.as_slice() == findings
-}
-
-/// The same of a text.
-fn contains(
-    alloc: Global,
-    text: &[u8],
-    lsas: &[Expected],
-    kinds: &[AreaReport],
-    findings: &[Finding],
-) -> Result<bool, Fail> {
-    Ok(has(&read_printed(alloc, text)?, lsas, kinds, findings))
-}
 
 const BACKBONE: AreaReport = AreaReport {
     id: AreaId(0),
@@ -62,7 +39,7 @@ const SUMMARY_LSA: ReportedLsa = ReportedLsa {
 };
 
 /// Texts, their LSAs, the kinds of areas in their headings, and their findings.
-const TEXTS: &[(&str, &[u8], &[Expected], &[AreaReport], &[Finding])] = &[
+const TEXTS: &[Row] = &[
     (
         "a summary-LSA",
         SUMMARY,
@@ -124,12 +101,7 @@ const TEXTS: &[(&str, &[u8], &[Expected], &[AreaReport], &[Finding])] = &[
 
 #[test]
 fn contents_of_texts(rt: HostRuntime) -> Result<(), Fail> {
-    for (name, text, lsas, kinds, findings) in TEXTS {
-        assert!(rt;
-            contains(rt.alloc(), text, lsas, kinds, findings)?,
-            "{name}"
-        );
-    }
+    assert_eq!(rt; first_other(rt.alloc(), Format::Printed, TEXTS)?, None);
     Ok(())
 }
 

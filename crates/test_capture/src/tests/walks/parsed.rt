@@ -4,26 +4,12 @@ use super::pieces::{
     CUT_ROW, DEFAULT, END_OF_VIEW, EXTERNAL, EXTERNAL_KEY, KINDS, NAMED, NETWORK, NUMERIC,
     OTHER_INDEX,
 };
-use crate::tests::observed::{Expected, are_of};
+use crate::tests::contents::{Format, Row, first_other};
 use findings::{Finding, ReportedLsa, UnusedReason};
 use lsa_codec::{Addr, AreaId, Key, RouterId};
 use lsa_instances::{AreaKind, AreaReport, Scope};
 use snmp_walk::{WalkFault, read_walk};
-use std::alloc::Global;
 use std::test::*;
-
-/// Whether a walk contains these LSAs and kinds of areas, and gives these findings.
-fn contains(
-    alloc: Global,
-    text: &[u8],
-    lsas: &[Expected],
-    kinds: &[AreaReport],
-    findings: &[Finding],
-) -> Result<bool, Fail> {
-    let walk = read_walk(alloc, text)?;
-    let is_parsed = are_of(&walk.observations, lsas) && walk.kinds.as_slice() == kinds;
-    Ok(is_parsed && walk.findings.as_slice() == findings)
-}
 
 const OTHER_AREA: Scope = Scope::Area(AreaId(1));
 
@@ -58,7 +44,7 @@ const STUB: AreaReport = AreaReport {
 };
 
 /// Walks, their LSAs, kinds of areas and findings.
-const WALKS: &[(&str, &[u8], &[Expected], &[AreaReport], &[Finding])] = &[
+const WALKS: &[Row] = &[
     (
         "an LSA of an area",
         NUMERIC,
@@ -100,12 +86,7 @@ const WALKS: &[(&str, &[u8], &[Expected], &[AreaReport], &[Finding])] = &[
 
 #[test]
 fn contents_of_walks(rt: HostRuntime) -> Result<(), Fail> {
-    for (name, text, lsas, kinds, findings) in WALKS {
-        assert!(rt;
-            contains(rt.alloc(), text, lsas, kinds, findings)?,
-            "{name}"
-        );
-    }
+    assert_eq!(rt; first_other(rt.alloc(), Format::Walk, WALKS)?, None);
     Ok(())
 }
 
