@@ -32,7 +32,7 @@ impl Behavior {
     }
 }
 
-/// One byte, which tells whether something is other than it should be.
+/// One byte: 1 where something is other than it should be.
 fn byte_of(alloc: Global, is_other: bool) -> Result<Vec<u8>, Fail> {
     Ok(Vec::from_slice(alloc, &[u8::from(is_other)])?)
 }
