@@ -10,7 +10,7 @@ ghost use Rattle.best_ways.specs.Candidate.{Candidate};
 ghost use Rattle.best_ways.specs.steps.Merge.{contender_cmp, key_cmp};
 
 use crate::contender::Contender;
-use crate::merge::next_way;
+use crate::merge::next_alike;
 use crate::rank::Rank;
 use crate::way::Way;
 use lsa_codec::{Addr, AreaId};
@@ -157,9 +157,10 @@ fn ways_in_order<K: Ord + Copy + Drop, A: Allocator + Copy>(
     let mut ways = Vec::with_capacity(alloc, candidates.len())?;
     let mut place = 0;
     while place < candidates.len() {
-        let next = next_way(alloc, candidates, place)?;
-        ways.push((next.key, next.way))?;
-        place = next.end;
+        let (first, others, end) = next_alike(candidates, place);
+        let way = Way::of(alloc, first, others)?;
+        ways.push((first.key, way))?;
+        place = end;
     }
     Ok(ways)
 }

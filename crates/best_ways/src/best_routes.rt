@@ -1,22 +1,22 @@
 //! Routes by the best ways.
 
-ghost use Rattle.std.specs.Prelude.{◌≡◌, ◌<◌, ℕ, List, IfOk, None, Some, All, map};
+ghost use Rattle.std.specs.Prelude.{◌≡◌, ◌<◌, ◌∷◌, ℕ, List, IfOk, None, Some, All, map};
 ghost use Rattle.std.specs.List.Sorted.{IsSorted};
 ghost use Rattle.lsa_codec.specs.Order.{prefix_cmp};
 ghost use Rattle.lsa_codec.specs.Prefix.{Net};
-ghost use Rattle.best_ways.specs.Best.{Gathers, ways_of};
+ghost use Rattle.best_ways.specs.Best.{Gathers, way_of, ways_of};
 ghost use Rattle.best_ways.specs.Candidate.{Candidate};
 ghost use Rattle.best_ways.specs.Routes.{areas_through, route_through, routes_of};
-ghost use Rattle.best_ways.specs.Values.{RoutesBelow};
-ghost use Rattle.best_ways.specs.steps.Merge.{key_cmp};
+ghost use Rattle.best_ways.specs.Values.{RoutesBelow, WayValue};
+ghost use Rattle.best_ways.specs.steps.Merge.{fresh, key_cmp};
 
 use crate::areas::AreaList;
 use crate::best::BestWays;
 use crate::contender::Contender;
-use crate::merge::next_way;
+use crate::merge::next_alike;
 use crate::route::Route;
 use crate::route_list::Routes;
-use crate::way::Way;
+use crate::way::{Way, areas_of};
 use lsa_codec::{AreaId, Prefix};
 use std::alloc::{AllocError, Allocator};
 
@@ -66,11 +66,52 @@ fn routes_in_order<A: Allocator + Copy>(
     let mut routes = Vec::with_capacity(alloc, candidates.len())?;
     let mut place = 0;
     while place < candidates.len() {
-        let next = next_way(alloc, candidates, place)?;
-        routes.push(route_through(alloc, area, next.key, next.way))?;
-        place = next.end;
+        let (first, others, end) = next_alike(candidates, place);
+        let route = best_route(alloc, area, first, others)?;
+        routes.push(route)?;
+        place = end;
     }
     Ok(routes)
+}
+
+/// The route by the best way of candidates for one destination, through one area or through those
+/// of the way. Most destinations have one candidate, of which the route is made in place.
+#[inline(always)]
+fn best_route<A: Allocator + Copy>(
+    alloc: A,
+    area: Option<AreaId>,
+    first: &Contender<'_, Prefix>,
+    others: &[Contender<'_, Prefix>],
+) -> Result<Route<A>, AllocError>
+    ensures { IfOk result (λ route. (way : WayValue)
+        × (Some way ≡ way_of (first.now ∷ others.now))
+        × (route ≡ route_through area (first.now.key, way))) }
+{
+    if others.is_empty() {
+        return route_of_one(alloc, area, first);
+    }
+    let way = Way::of(alloc, first, others)?;
+    Ok(route_through(alloc, area, first.key, way))
+}
+
+/// The route by the way of one candidate, through one area or through its own.
+#[inline(always)]
+fn route_of_one<A: Allocator + Copy>(
+    alloc: A,
+    area: Option<AreaId>,
+    candidate: &Contender<'_, Prefix>,
+) -> Result<Route<A>, AllocError>
+    ensures { IfOk result
+        (λ route. route ≡ route_through area (candidate.now.key, fresh candidate.now)) }
+{
+    Ok(Route {
+        net: candidate.key,
+        kind: candidate.rank.path,
+        cost: candidate.rank.cost,
+        cost2: candidate.rank.cost2,
+        areas: areas_through(alloc, area, areas_of(alloc, candidate.area)),
+        hops: candidate.hop_list(alloc)?,
+    })
 }
 
 /// The route to a prefix by the best way, through one area or through those of the way.

@@ -1,27 +1,14 @@
-//! The best way of candidates that are in order of their destinations, one destination after
-//! another.
+//! Candidates that are in order of their destinations, one destination after another.
 
-ghost use Rattle.std.specs.Prelude.{◌≡◌, ◌<◌, ◌≤◌, ◌∷◌, All, true, false, not, drop, IfOk, IfSome, length, position, slice_get, take};
+ghost use Rattle.std.specs.Prelude.{◌≡◌, ◌<◌, ◌≤◌, ◌∷◌, All, true, false, not, drop, IfSome, Some, length, position, slice_get, take};
 ghost use Rattle.std.specs.List.Sorted.{IsSorted};
 ghost use Rattle.std.specs.Ordering.{eq_by_cmp};
 ghost use Rattle.std.proofs.lemmas.Map.Lookups.{CmpEqualImpliesEq};
-ghost use Rattle.best_ways.specs.Best.{ways_of};
+ghost use Rattle.best_ways.specs.Best.{way_of, ways_of};
+ghost use Rattle.best_ways.specs.Values.{WayValue};
 ghost use Rattle.best_ways.specs.steps.Merge.{key_cmp};
 
 use crate::contender::Contender;
-use crate::way::Way;
-use std::alloc::{AllocError, Allocator};
-
-/// The best way to a destination.
-#[derive(Drop)]
-pub(crate) struct NextWay<K, A: Allocator> {
-    /// The destination.
-    pub(crate) key: K,
-    /// The best way to it.
-    pub(crate) way: Way<A>,
-    /// The place after the candidates for it.
-    pub(crate) end: usize,
-}
 
 /// The place of the first candidate that is not for a destination.
 fn first_other<K: Ord + Copy>(key: K, candidates: &[Contender<'_, K>]) -> Option<usize>
@@ -45,29 +32,25 @@ fn count_alike<K: Ord + Copy>(key: K, candidates: &[Contender<'_, K>]) -> usize
     }
 }
 
-/// The best way to the destination of the candidate at a place, of all candidates from there on.
-/// They are in order of their destinations.
+/// The candidate at a place, the others for its destination, and the place after them, where
+/// candidates are in order of their destinations. The best way of these is the first of the best
+/// ways of all candidates from the place on.
 #[inline(always)]
-pub(crate) fn next_way<K: Ord + Copy + Drop, A: Allocator + Copy>(
-    alloc: A,
-    candidates: &[Contender<'_, K>],
+pub(crate) fn next_alike<'c, 'a, K: Ord + Copy + Drop>(
+    candidates: &'c [Contender<'a, K>],
     place: usize,
-) -> Result<NextWay<K, A>, AllocError>
+) -> (&'c Contender<'a, K>, &'c [Contender<'a, K>], usize)
     requires exact { CmpEqualImpliesEq K.cmp }
     requires order { IsSorted (key_cmp K.cmp) candidates.now }
     requires within { place < length candidates.now }
-    ensures way { IfOk result (λ next. ways_of K.cmp (drop place candidates.now)
-        ≡ (next.key, next.way) ∷ ways_of K.cmp (drop next.end candidates.now)) }
-    ensures end { IfOk result (λ next. (place < next.end) × (next.end ≤ length candidates.now)) }
+    ensures ways { (way : WayValue) → Some way ≡ way_of (result.0.now ∷ result.1.now)
+        → ways_of K.cmp (drop place candidates.now)
+        ≡ (result.0.now.key, way) ∷ ways_of K.cmp (drop result.2 candidates.now) }
+    ensures end { (place < result.2) × (result.2 ≤ length candidates.now) }
 {
     let first = &candidates[place];
     let (_, others) = candidates.split_at(place + 1);
     let count = count_alike(first.key, others);
     let (alike, _) = others.split_at(count);
-    let way = Way::of(alloc, first, alike)?;
-    Ok(NextWay {
-        key: first.key,
-        way,
-        end: place + 1 + count,
-    })
+    (first, alike, place + 1 + count)
 }

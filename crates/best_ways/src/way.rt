@@ -92,7 +92,7 @@ impl<A: Allocator + Copy> Way<A> {
 
 /// The list of the one area that a way leads through; empty where it does not lead through one
 /// area.
-fn areas_of<A: Allocator + Copy>(alloc: A, area: Option<AreaId>) -> AreaList<A>
+pub(crate) fn areas_of<A: Allocator + Copy>(alloc: A, area: Option<AreaId>) -> AreaList<A>
     ensures { result ≡ add_area [] area }
 {
     match area {

@@ -13,9 +13,11 @@ pub loop-place-preserved : goal.loop-place-preserved
 loop-place-preserved g c =
     let R = g.K.Ord.cmp in
     let ways = c.loop-place.ways.items in
-    let e : g.row.K.Denot × WayValue = (c.in_ok-next.next.key, c.in_ok-next.next.way) in
-    let left = ways_of R (drop c.in_ok-next.next.end c.args.candidates.now) in
-    c.loop-place.invariant ∙ ap (λ (l : List (g.row.K.Denot × WayValue)). ways ++ l) c.in_ok-next.ensures.way
+    let left = ways_of R (drop c.next_alike-end.result.2 c.args.candidates.now) in
+    let way = c.in_ok-way.way in
+    let e : g.row.K.Denot × WayValue = (c.first.inside.key, way) in
+    c.loop-place.invariant ∙ ap (λ (l : List (g.row.K.Denot × WayValue)). ways ++ l) (c.next_alike-end.ensures.ways way c.in_ok-way.ensures)
+    ∙ ap (λ (k : g.row.K.Denot). ways ++ (k, way) ∷ left) (sym (ap (λ d. d.key) c.first.view_is))
     ∙ sym (append_assoc ways (e ∷ []) left) ∙ ap (λ (l : List (g.row.K.Denot × WayValue)). l ++ left) (sym c.in_ok-push.ensures.items)
 
 pub returns : goal.returns

@@ -16,11 +16,12 @@ pub loop-place-preserved : goal.loop-place-preserved
 loop-place-preserved g c =
     let through = route_through c.args.area in
     let routes = c.loop-place.routes.items in
-    let left = map through (ways_of prefix_cmp (drop c.in_ok-next.next.end c.args.candidates.now)) in
+    let left = map through (ways_of prefix_cmp (drop c.next_alike-end.result.2 c.args.candidates.now)) in
+    let best = c.in_ok-route.ensures in
     c.loop-place.invariant
-    ∙ ap (λ (l : List (Net × WayValue)). routes ++ map through l) c.in_ok-next.ensures.way
-    ∙ ap (λ (r : RouteValue). routes ++ r ∷ left) (sym c.route_through.ensures)
-    ∙ sym (append_assoc routes (c.route_through.result ∷ []) left) ∙ ap (λ (l : List RouteValue). l ++ left) (sym c.in_ok-push.ensures.items)
+    ∙ ap (λ (l : List (Net × WayValue)). routes ++ map through l) (c.next_alike-end.ensures.ways best.0 best.1)
+    ∙ ap (λ (r : RouteValue). routes ++ r ∷ left) (sym best.2)
+    ∙ sym (append_assoc routes (c.in_ok-route.route ∷ []) left) ∙ ap (λ (l : List RouteValue). l ++ left) (sym c.in_ok-push.ensures.items)
 
 pub returns : goal.returns
 returns g c =

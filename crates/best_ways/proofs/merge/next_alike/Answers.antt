@@ -4,10 +4,10 @@ use Rattle.std.specs.Ordering.{eq_by_cmp}
 use Rattle.best_ways.specs.Best.{way_of, ways_of}
 use Rattle.best_ways.specs.Candidate.{Candidate}
 use Rattle.best_ways.proofs.Fronts.{next_ways}
-use Rattle.best_ways.proofs.merge.next_way.Goals as goal
+use Rattle.best_ways.proofs.merge.next_alike.Goals as goal
 
-pub returns-clause-way : goal.returns-clause-way
-returns-clause-way g c =
+pub returns-clause-ways : goal.returns-clause-ways
+returns-clause-ways g c way is =
     let R = g.K.Ord.cmp in
     let cs = c.args.candidates.now in
     let x = c.index-candidates-place.result in
@@ -23,6 +23,4 @@ returns-clause-way g c =
     (subst (λ (l : List (Candidate g.row.K.Denot)). IfSome (slice_get (drop n l) 0) (λ (d : Candidate g.row.K.Denot). eq_by_cmp R c.first.inside.key d.key ≡ false)) others
     c.count_alike-count.ensures.other) in
     next_ways g.met.K.Ord.total c.requires.exact cs c.args.place n x c.requires.within c.index-candidates-place.is c.requires.order alike other
-    c.in_ok-way.way
-    (c.in_ok-way.ensures ∙ ap (λ (l : List (Candidate g.row.K.Denot)). way_of (x ∷ l)) (c.split_at-2.ensures.front ∙ ap (take n) others))
-    ∙ ap (λ (k : g.row.K.Denot). (k, c.in_ok-way.way) ∷ ways_of R (drop (c.args.place + 1 + n) cs)) (sym key)
+    way (is ∙ ap (λ (l : List (Candidate g.row.K.Denot)). way_of (x ∷ l)) (c.split_at-2.ensures.front ∙ ap (take n) others))
