@@ -1,0 +1,10 @@
+mod SameKinds
+mod Ways
+mod Costs
+mod Words
+mod Having
+mod Nets
+mod Listed
+mod Counted
+mod Swapped
+mod Matching

@@ -1,0 +1,4 @@
+pub mod Entries
+pub mod Changes
+pub mod InWords
+pub mod Swapping
