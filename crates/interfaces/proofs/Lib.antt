@@ -1,0 +1,3 @@
+mod FarEnds
+mod Lists
+mod RouterLsas
