@@ -54,7 +54,7 @@ module _ (router : RouterId) (own : Interface) (theirs : List Interface) where
   in_back : (x : Interface) → Contains theirs x → leads_to router x.link ≡ true → In back x
   in_back x there leads = In-filter (λ y. leads_to router y.link) theirs x (In-from_Contains theirs x there) leads
 
-  end_back : (x : Interface) → In (far_ends router own theirs) x → Contains theirs x × (leads_to router x.link ≡ true)
+  pub end_back : (x : Interface) → In (far_ends router own theirs) x → Contains theirs x × (leads_to router x.link ≡ true)
   end_back x i = by (is_point_to_point own.link.kind) i
     where
       from_back : In back x → Contains theirs x × (leads_to router x.link ≡ true)

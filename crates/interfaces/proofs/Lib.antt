@@ -1,3 +1,6 @@
 mod FarEnds
-mod Lists
+mod Finding
+mod FoundInterfaces
+mod GraphEnds
+mod RisingNumbers
 mod RouterLsas

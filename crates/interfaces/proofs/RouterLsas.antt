@@ -1,6 +1,8 @@
 -- What is found by its key.
-use Rattle.std.proofs.Common.{◌≡◌, ℕ, Bool, true, false, cond, List, [], ◌∷◌, Option, Some, None, refl, sym, ap, ◌∙◌, inl, inr}
+use Rattle.std.proofs.Common.{◌≡◌, ◌≢◌, ℕ, Bool, true, false, cond, List, [], ◌∷◌, Option, Some, None, refl, sym, ap, ◌∙◌, inl, inr}
 use Rattle.std.specs.List.{find}
+use Rattle.std.specs.Prelude.{MatchOption}
+use Rattle.lsa_codec.specs.Accepted.{IsAccepted}
 use Rattle.std.proofs.lemmas.Option.{cond_some}
 use Rattle.lsa_codec.specs.declared.address.AreaId.{AreaId}
 use Rattle.lsa_codec.specs.declared.address.RouterId.{RouterId}
@@ -40,3 +42,10 @@ pub kind_of_router_lsa : (db : Lists) (area : AreaId) (router : RouterId) (lsa :
 kind_of_router_lsa db area router lsa e =
     kind_by_key router (lsas_of (Area area) db) lsa
     (live-Some (find (has_key (router_key router)) (lsas_of (Area area) db)) lsa e).0
+
+-- a router-LSA has a view
+pub viewed : (view : Option (List ℕ)) (lsa : List ℕ)
+    → MatchOption view (kind_of lsa ≢ router_lsa) (λ v. (v ≡ lsa) × (kind_of lsa ≡ router_lsa) × IsAccepted lsa) → kind_of lsa ≡ router_lsa
+    → view ≡ Some lsa
+viewed None lsa h kind = absurd (h kind)
+viewed (Some v) lsa h kind = ap Some h.0

@@ -2,10 +2,13 @@
 
 ghost use Rattle.std.specs.Prelude.{◌≡◌, IfOk, filter};
 ghost use Rattle.lsa_codec.specs.Making.{leads_to};
-ghost use Rattle.interfaces.specs.FarEnds.{faces, face_each_other, links_back, far_ends};
+ghost use Rattle.lsdb.specs.Slots.{lists_of};
+ghost use Rattle.interfaces.specs.FarEnds.{faces, face_each_other, links_back, far_ends, far_ends_in};
 
 use crate::interface::{Interface, has_addr};
-use lsa_codec::{LinkKind, RouterId};
+use crate::router_lsa::interfaces_in;
+use lsa_codec::{AreaId, LinkKind, RouterId};
+use lsdb::Database;
 use std::alloc::{AllocError, Allocator};
 
 /// Whether an interface has a point-to-point link to this router.
@@ -91,4 +94,25 @@ pub fn far_ends<A: Allocator + Copy>(
     } else {
         Ok(facing)
     }
+}
+
+/// The far ends of an interface of `router` in an area, among the interfaces of the router that its
+/// Link ID names. Whoever asks for several interfaces to one neighbor calls [`interfaces_in`] for it
+/// once, and [`far_ends`] for each.
+///
+/// # Errors
+///
+/// Memory ran out.
+pub fn far_ends_in<A: Allocator + Copy>(
+    alloc: A,
+    database: &Database<A>,
+    area: AreaId,
+    router: RouterId,
+    own: Interface,
+) -> Result<Vec<Interface, A>, AllocError>
+    ensures { IfOk result (λ ends. ends.items
+        ≡ far_ends_in (lists_of database.now) area router own) }
+{
+    let neighbor = interfaces_in(alloc, database, area, RouterId(own.link.id.0))?;
+    far_ends(alloc, router, own, &neighbor)
 }

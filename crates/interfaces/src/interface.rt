@@ -20,7 +20,7 @@ pub struct Interface {
 
 /// Whether the network of a stub link has an address: the address agrees with the Link ID in the
 /// bits of the mask. Other links have no network.
-pub fn has_addr(stub: Link, addr: Addr) -> bool
+pub(crate) fn has_addr(stub: Link, addr: Addr) -> bool
     ensures { result ≡ has_addr stub addr }
 {
     let mask = stub.link_data.0;

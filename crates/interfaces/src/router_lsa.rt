@@ -5,12 +5,12 @@ ghost use Rattle.lsdb.specs.Slots.{lists_of};
 ghost use Rattle.interfaces.specs.Routers.{router_lsa_of, interfaces_in};
 
 use crate::interface::{Interface, interfaces_of};
-use lsa_codec::{AreaId, Key, Lsa, RouterId};
+use lsa_codec::{AreaId, Key, Lsa, RouterId, RouterView};
 use lsdb::{Database, Section};
 use std::alloc::{AllocError, Allocator};
 
-/// The router-LSA of a router in an area, where there is one below MaxAge.
-pub fn router_lsa_of<A: Allocator + Copy>(
+/// The LSA below MaxAge with the key of a router in an area.
+fn live_lsa_of<A: Allocator + Copy>(
     database: &Database<A>,
     area: AreaId,
     router: RouterId,
@@ -24,6 +24,20 @@ pub fn router_lsa_of<A: Allocator + Copy>(
         return None;
     }
     Some(lsa)
+}
+
+/// The router-LSA of a router in an area, where there is one below MaxAge.
+///
+/// It takes no memory, and time logarithmic in the number of LSAs of the area.
+pub fn router_lsa_of<A: Allocator + Copy>(
+    database: &Database<A>,
+    area: AreaId,
+    router: RouterId,
+) -> Option<RouterView<'_>>
+    ensures { result ≡ router_lsa_of (lists_of database.now) area router }
+{
+    let lsa = live_lsa_of(database, area, router)?;
+    lsa.router()
 }
 
 /// The interfaces of a router in an area, one for each link of its router-LSA, in the order of the
@@ -41,11 +55,8 @@ pub fn interfaces_in<A: Allocator + Copy>(
     ensures { IfOk result (λ found. found.items
         ≡ interfaces_in (lists_of database.now) area router) }
 {
-    let Some(lsa) = router_lsa_of(database, area, router) else {
-        return Ok(Vec::new(alloc));
-    };
-    let Some(view) = lsa.router() else {
-        return Ok(Vec::new(alloc));
-    };
-    interfaces_of(alloc, &view)
+    match router_lsa_of(database, area, router) {
+        Some(lsa) => interfaces_of(alloc, &lsa),
+        None => Ok(Vec::new(alloc)),
+    }
 }

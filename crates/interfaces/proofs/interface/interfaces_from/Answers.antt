@@ -1,7 +1,7 @@
 use Rattle.std.proofs.Common.{List, ◌++◌, ◌+◌, drop, ap, ◌∙◌}
 use Rattle.interfaces.specs.declared.interface.Interface.{Interface}
 use Rattle.interfaces.specs.Interfaces.{interfaces_from}
-use Rattle.interfaces.proofs.Lists.{found_all, found_more}
+use Rattle.interfaces.proofs.FoundInterfaces.{found_all, found_more}
 use Rattle.interfaces.proofs.interface.interfaces_from.Goals as goal
 
 pub loop-i-preserved : goal.loop-i-preserved
