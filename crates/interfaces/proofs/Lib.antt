@@ -1,0 +1,6 @@
+mod FarEnds
+mod Finding
+mod FoundInterfaces
+mod GraphEnds
+mod RisingNumbers
+mod RouterLsas

@@ -1,0 +1,4 @@
+pub mod Interfaces
+pub mod FarEnds
+pub mod Routers
+pub mod Networks
