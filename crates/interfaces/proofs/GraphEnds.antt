@@ -1,7 +1,7 @@
 -- A point-to-point link has far ends where the neighbor's LSA in use links back.
-use Rattle.std.proofs.Common.{◌≡◌, ◌≢◌, ℕ, Bool, true, false, cond, List, [], ◌∷◌, Option, Some, None, refl, sym, ap, ◌∙◌, subst, inl, inr, eqb, eq-eqb, eqb-true}
+use Rattle.std.proofs.Common.{◌≡◌, ◌≢◌, ℕ, true, false, cond, List, [], ◌∷◌, Option, Some, None, refl, sym, ap, ◌∙◌, subst, inl, inr, eqb, eq-eqb, eqb-true}
 use Rattle.std.specs.Prelude.{◌&&◌, ◌||◌, ◌↔◌, not}
-use Rattle.std.specs.List.{AllPairs, Contains, find, list_any}
+use Rattle.std.specs.List.{AllPairs, find, list_any}
 use Rattle.std.specs.Option.{option_map_or}
 use Rattle.std.proofs.lemmas.Bool.{and_from, and_parts}
 use Rattle.std.proofs.lemmas.List.Elements.{All-contains}

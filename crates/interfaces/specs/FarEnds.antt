@@ -1,5 +1,5 @@
 -- The far ends of a point-to-point link: the neighbor's links back to the router (RFC 2328, 16.1, step 2 (b)). Parallel links
--- are told apart by the addresses of their interfaces, as far as the stub links give these (12.4.1.1).
+-- are distinguished by the addresses of their interfaces, as far as the stub links give these (12.4.1.1).
 use Rattle.std.specs.Prelude.{ℕ, ◌||◌, Bool, false, if◌then◌else◌, List, [], ◌∷◌, filter, map, Option, None, Some}
 use Rattle.std.specs.List.{list_any}
 use Rattle.std.specs.Option.{option_map_or}

@@ -96,9 +96,9 @@ pub fn far_ends<A: Allocator + Copy>(
     }
 }
 
-/// The far ends of an interface of `router` in an area, among the interfaces of the router that its
-/// Link ID names. Whoever asks for several interfaces to one neighbor calls [`interfaces_in`] for it
-/// once, and [`far_ends`] for each.
+/// The far ends of an interface of `router` in an area, among the interfaces of the router that
+/// its Link ID names. Whoever asks for several interfaces to one neighbor calls [`interfaces_in`]
+/// for it once, and [`far_ends`] for each.
 ///
 /// # Errors
 ///

@@ -18,7 +18,8 @@ ghost use Rattle.interfaces.specs.FarEnds.{face_each_other, far_ends, far_ends_i
 /// it are far ends, and no others. Other links have no far ends.
 pub fn far_ends_lead_back()
     ensures back { (router : AnyRouter) (own : AnyInterface) (theirs : List AnyInterface)
-        → All (λ x. Contains theirs x × (leads_to router x.link ≡ true)) (far_ends router own theirs) }
+        → All (λ x. Contains theirs x × (leads_to router x.link ≡ true))
+        (far_ends router own theirs) }
     ensures some { (router : AnyRouter) (own x : AnyInterface) (theirs : List AnyInterface)
         → own.link.kind ≡ PointToPoint → Contains theirs x → leads_to router x.link ≡ true
         → far_ends router own theirs ≢ [] }
@@ -30,11 +31,12 @@ pub fn far_ends_lead_back()
         → own.link.kind ≢ PointToPoint → far_ends router own theirs ≡ [] }
 {}
 
-/// A point-to-point link has far ends exactly where the neighbor, among the LSAs in use of the area,
-/// links back to the router, as an edge of the area's graph needs (RFC 2328, 16.1).
+/// A point-to-point link has far ends exactly where the neighbor, among the LSAs in use of the
+/// area, links back to the router, as an edge of the area's graph needs (RFC 2328, 16.1).
 pub fn links_with_far_ends_are_edges()
     ensures { (db : Lists) (area : AnyArea) (router : AnyRouter) (own : AnyInterface)
         → IsDatabase db → own.link.kind ≡ PointToPoint
         → (far_ends_in db area router own ≢ [])
-        ↔ HasLinkTo (used (lsas_of (Area area) db)) (record { 0 = own.link.id.0 }) (Router router) }
+        ↔ HasLinkTo (used (lsas_of (Area area) db)) (record { 0 = own.link.id.0 })
+        (Router router) }
 {}

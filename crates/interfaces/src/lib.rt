@@ -1,5 +1,5 @@
-//! The interfaces that router-LSAs describe, the far ends of point-to-point links, and the routers of
-//! transit networks (RFC 2328, 12.4.1, 12.4.2 and 16.1).
+//! The interfaces that router-LSAs describe, the far ends of point-to-point links, and the routers
+//! of transit networks (RFC 2328, 12.4.1, 12.4.2 and 16.1).
 //!
 //! A numbered point-to-point interface has two links in its router's LSA: one of type 1 to the
 //! neighbor, and right after it one of type 3. [`interfaces_of`] puts them together, and
