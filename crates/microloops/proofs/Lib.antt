@@ -1,0 +1,10 @@
+pub mod Walking
+pub mod Sets
+pub mod Members
+pub mod Paths
+pub mod Joining
+pub mod Settling
+pub mod Loops
+pub mod SameSteps
+pub mod Changing
+pub mod EitherGraph

@@ -1,0 +1,4 @@
+-- What the steps of the code do: only contracts within the crate cite these.
+pub mod Groups
+pub mod Searching
+pub mod Matched
