@@ -1,6 +1,6 @@
 //! Calls that answer something new: each of their growths refused in turn.
 
-use super::nets::{NETS, edit_of};
+use super::nets::{edit_of, nets};
 use super::samples::SUMMARY;
 use edit_script::{Edit, print};
 use lsa_codec::{Addr, Lsa, LsaFault, MakeFault, Prefix, RouterId};
@@ -77,7 +77,7 @@ fn lend(failing: &FailingAlloc) -> Result<Lent<'_>, Fail> {
     Ok(Lent {
         router: Lsa::decode(failing, ROUTER)?.0,
         summary: Lsa::decode(failing, SUMMARY)?.0,
-        database: Database::load(failing, NETS)?,
+        database: Database::load(failing, nets())?,
         edit: edit_of("add-external 2.2.2.2 10.9.0.0/16 2 20 10.5.0.3 7")?,
     })
 }
@@ -184,7 +184,7 @@ impl<'a> CallOn<'a, Lent<'a>> for Call {
                     .clone_of(failing)
                     .map_err(|_| LsaFault::OutOfMemory),
             ),
-            Call::Load => loaded(alloc, failing, Database::load(failing, NETS)),
+            Call::Load => loaded(alloc, failing, Database::load(failing, nets())),
             Call::LoadBase => loaded(
                 alloc,
                 failing,

@@ -1,7 +1,7 @@
 //! The one LSA that the last edit, or taking one back, has changed.
 
 use super::edited::{edited, move_by};
-use super::nets::NETS;
+use super::nets::nets;
 use crate::edited::Way;
 use edit_history::{Change, Moved};
 use std::alloc::Global;
@@ -59,7 +59,7 @@ fn are_reported(
     last: Option<&[u8]>,
     next: Option<&[u8]>,
 ) -> Result<bool, Fail> {
-    let (mut database, mut history) = edited(alloc, NETS, &[line])?;
+    let (mut database, mut history) = edited(alloc, nets(), &[line])?;
     move_by(&mut database, &mut history, Way::Back, count)?;
     Ok(
         is_change_so(history.one_change(Moved::On(1)), last)

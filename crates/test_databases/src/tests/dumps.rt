@@ -1,6 +1,6 @@
 //! Dumps by name, so that rows of tables name them.
 
-use super::nets::NETS;
+use super::nets::nets;
 use super::refreshes::STALE;
 use crate::filled::{area_of, as_list_of};
 use std::alloc::Global;
@@ -23,7 +23,7 @@ pub(super) enum Dump {
 /// The bytes of a dump.
 pub(super) fn bytes_of(alloc: Global, dump: Dump) -> Result<Vec<u8>, Fail> {
     Ok(match dump {
-        Dump::Nets => Vec::from_slice(alloc, NETS)?,
+        Dump::Nets => Vec::from_slice(alloc, nets())?,
         Dump::Stale => dump_of_text(alloc, STALE)?,
         Dump::Area(lsas) => area_of(alloc, lsas)?,
         Dump::AsList(lsas) => as_list_of(alloc, lsas)?,

@@ -1,6 +1,6 @@
 //! Filters of the transit networks of LSAs.
 
-use super::nets::NETS;
+use super::nets::nets;
 use lsa_codec::Addr;
 use lsdb::Database;
 use std::test::*;
@@ -33,7 +33,7 @@ const SLOTS: &[(usize, Option<bool>)] = &[
 
 #[test]
 fn each_slot_has_a_filter_of_the_networks_of_its_lsa(rt: HostRuntime) -> Result<(), Fail> {
-    let database = Database::load(rt.alloc(), NETS)?;
+    let database = Database::load(rt.alloc(), nets())?;
     for (index, is_of) in SLOTS {
         assert_eq!(rt; may_have(&database, *index, NETWORK), *is_of, "{index}");
     }

@@ -4,7 +4,7 @@
 ghost use Rattle.edit_history.specs.Journal.{Links};
 
 use super::edited::{apply_and_push, edited, move_by};
-use super::nets::{NETS, edit_of};
+use super::nets::{edit_of, nets};
 use crate::edited::Way;
 use edit_history::History;
 use lsa_codec::{Addr, Prefix, RouterId};
@@ -118,7 +118,7 @@ fn are_noted_after_edits<A: Allocator + Copy>(
 #[test]
 fn notes_the_slots_of_a_prefix(rt: HostRuntime) -> Result<(), Fail> {
     let failing = FailingAlloc::new(rt.alloc(), u64::MAX);
-    let (mut database, mut history) = edited(&failing, NETS, &[])?;
+    let (mut database, mut history) = edited(&failing, nets(), &[])?;
     let noted = are_noted_after_edits(rt.alloc(), &failing, &mut database, &mut history)?;
     assert_eq!(rt; noted, [true; 4]);
     Ok(())

@@ -4,7 +4,7 @@ ghost use Rattle.lsdb.specs.Lists.{IsDatabase};
 ghost use Rattle.lsdb.specs.Slots.{lists_of};
 ghost use Rattle.edit_history.specs.Exchange.{CanUndo};
 
-use super::nets::{NETS, edit_of, is_after};
+use super::nets::{edit_of, is_after, nets};
 use edit_history::{Record, apply, inverses, replay, revert};
 use lsa_codec::AreaId;
 use lsdb::Database;
@@ -68,7 +68,7 @@ fn takes_no_memory(
 ) -> Result<bool, Fail> {
     let edit = edit_of(line)?;
     let failing = FailingAlloc::new(alloc, u64::MAX);
-    let mut database = Database::load(&failing, NETS)?;
+    let mut database = Database::load(&failing, nets())?;
     let mut record = apply(&mut database, &edit)?;
     failing.set_remaining(0);
     let is_reported = record.edit() == edit

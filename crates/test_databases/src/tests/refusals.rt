@@ -2,7 +2,7 @@
 //! also a limit of LSAs.
 
 use super::dumps::{Dump, bytes_of};
-use super::nets::{NETS, edit_of};
+use super::nets::{edit_of, nets};
 use edit_history::{EditFault, apply};
 use lsdb::Database;
 use std::alloc::Global;
@@ -94,7 +94,7 @@ fn is_refused_so(alloc: Global, dump: &[u8], line: &str, fault: EditFault) -> Re
 #[test]
 fn a_refusal_comes_before_want_of_memory(rt: HostRuntime) -> Result<(), Fail> {
     for (line, fault) in REFUSED {
-        assert!(rt; is_refused_so(rt.alloc(), NETS, line, *fault)?, "{line}");
+        assert!(rt; is_refused_so(rt.alloc(), nets(), line, *fault)?, "{line}");
     }
     Ok(())
 }

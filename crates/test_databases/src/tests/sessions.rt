@@ -3,7 +3,7 @@
 ghost use Rattle.edit_history.specs.Journal.{Links};
 
 use super::edited::{apply_and_push, edited, move_by};
-use super::nets::{NETS, TEN_EDITS, edit_of, is_after};
+use super::nets::{TEN_EDITS, edit_of, is_after, nets};
 use crate::edited::Way;
 use edit_history::{EditFault, History};
 use lsa_codec::{Addr, Key, RouterId};
@@ -58,7 +58,7 @@ fn one_more_is_refused<A: Allocator + Copy>(
 /// Whether the ten edits, once they are done, are undone and redone where no growth is left.
 fn take_no_memory(alloc: Global) -> Result<bool, Fail> {
     let failing = FailingAlloc::new(alloc, u64::MAX);
-    let (mut database, mut history) = edited(&failing, NETS, TEN_EDITS)?;
+    let (mut database, mut history) = edited(&failing, nets(), TEN_EDITS)?;
     failing.set_remaining(0);
     Ok(
         is_after(alloc, &database, TEN_EDITS)?
@@ -104,7 +104,7 @@ fn indexes<A: Allocator + Copy>(
 
 #[test]
 fn a_removed_lsa_comes_back_to_its_slot(rt: HostRuntime) -> Result<(), Fail> {
-    let (mut database, mut history) = edited(rt.alloc(), NETS, &[])?;
+    let (mut database, mut history) = edited(rt.alloc(), nets(), &[])?;
     assert_eq!(rt; index(&database), Some(1));
     let indexes = indexes(&mut database, &mut history)?;
     assert_eq!(rt; indexes, [None, Some(3), Some(1)]);

@@ -21,12 +21,17 @@ pub(super) enum Network {
     AtMaxAge,
 }
 
+/// The bytes of the network. The function has no clauses, so that the prover knows nothing of them.
+pub(super) fn network_bytes() -> &'static [u8] {
+    NETWORK
+}
+
 /// Where the LS age of the AS-external-LSA of 3.3.3.3 begins in the network.
 const AGE_AT: usize = 366;
 
 /// The network, in which that LSA has age MaxAge, 3600 seconds. The checksum does not cover it.
 fn network_at_max_age(alloc: Global) -> Result<Vec<u8>, Fail> {
-    let mut dump = Vec::from_slice(alloc, NETWORK)?;
+    let mut dump = Vec::from_slice(alloc, network_bytes())?;
     let [high, low] = 3600u16.to_be_bytes();
     *dump.get_mut(AGE_AT).ok_or("the age")? = high;
     *dump.get_mut(AGE_AT + 1).ok_or("the age")? = low;
@@ -37,7 +42,7 @@ fn network_at_max_age(alloc: Global) -> Result<Vec<u8>, Fail> {
 fn dump_of(alloc: Global, network: Network) -> Result<Vec<u8>, Fail> {
     Ok(match network {
         Network::Text(text) => dump_of_text(alloc, text)?,
-        Network::TwoAreas => Vec::from_slice(alloc, NETWORK)?,
+        Network::TwoAreas => Vec::from_slice(alloc, network_bytes())?,
         Network::AtMaxAge => network_at_max_age(alloc)?,
     })
 }
@@ -51,7 +56,7 @@ pub(super) fn graph_of(alloc: Global, dump: &[u8], address: u32) -> Result<Forwa
 
 /// The graphs of the areas of the network.
 pub(super) fn area_graphs(alloc: Global) -> Result<AreaGraphs, Fail> {
-    let database = Database::load(alloc, NETWORK)?;
+    let database = Database::load(alloc, network_bytes())?;
     Ok(AreaGraphs::of(alloc, &database)?)
 }
 

@@ -3,6 +3,7 @@
 use super::answers::{
     of_area_graphs, of_forwarding, of_graph, of_loop, of_loops, of_match, of_routers, of_routes,
 };
+use super::built::network_bytes;
 use super::paths::BORDERS;
 use forwarding::{AreaGraphs, Forwarding, ForwardingGraph, RouterRoutes};
 use lsa_codec::{Addr, Prefix, RouterId};
@@ -11,8 +12,8 @@ use spf::Meter;
 use std::alloc::Global;
 use std::test::*;
 use test_support::{
-    Answer, CallOn, FailingAlloc, FallibleCall, NETWORK, Outcome, R1, R2, dump_of_text,
-    first_wrong, outcome_of,
+    Answer, CallOn, FailingAlloc, FallibleCall, Outcome, R1, R2, dump_of_text, first_wrong,
+    outcome_of,
 };
 
 /// What is called.
@@ -82,7 +83,7 @@ fn borders(alloc: Global, failing: &FailingAlloc) -> Result<ForwardingGraph<&Fai
 }
 
 fn lend(alloc: Global, failing: &FailingAlloc) -> Result<Lent<'_>, Fail> {
-    let database = Database::load(failing, NETWORK)?;
+    let database = Database::load(failing, network_bytes())?;
     let graphs = AreaGraphs::of(failing, &database)?;
     let routes = RouterRoutes::of(failing, &database, ROUTER, &mut Meter::new())?;
     let forwarding = Forwarding::of(failing, &database, &mut Meter::new())?;

@@ -1,5 +1,5 @@
 //! What is made on the network. These functions have no clauses, so that the prover knows nothing
-//! of what they answer.
+//! of what they answer, nor of the bytes that are loaded.
 
 use edit_script::Edit;
 use lsa_codec::{AreaId, RouterId};
@@ -14,9 +14,14 @@ pub(super) const ROUTER: RouterId = RouterId(R1);
 /// Another router of the backbone.
 pub(super) const OTHER: RouterId = RouterId(R2);
 
+/// The bytes of the network.
+pub(super) fn network() -> &'static [u8] {
+    NETWORK
+}
+
 /// The database of the network.
 pub(super) fn database_of(failing: &FailingAlloc) -> Result<Database<&FailingAlloc>, Fail> {
-    Ok(Database::load(failing, NETWORK)?)
+    Ok(Database::load(failing, network())?)
 }
 
 /// The database of an area with 24 routers without links, of which a tree reaches one.

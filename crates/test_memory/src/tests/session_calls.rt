@@ -1,6 +1,7 @@
 //! Opening sessions, and saving one of which one edit is done and one undone.
 
 use super::answers::of_bytes;
+use super::network::network;
 use super::outcomes::{Subject, outcome_on};
 use lsdb::{DumpFault, DumpFaultKind};
 use recalculate::Planner;
@@ -8,7 +9,7 @@ use saved_sessions::SavedSession;
 use std::alloc::{AllocError, Global};
 use std::test::*;
 use test_support::{
-    Answer, CallOn, FailingAlloc, FallibleCall, NETWORK, Outcome, first_wrong, outcome_of,
+    Answer, CallOn, FailingAlloc, FallibleCall, Outcome, first_wrong, outcome_of,
     session_of,
 };
 
@@ -27,7 +28,7 @@ const HISTORY: &[u8] = b"\0\x01\0\x01cost 0.0.0.0 1.1.1.1 1 11\ncost 0.0.0.0 1.1
 
 /// The bytes of a session on the network.
 fn session(alloc: Global) -> Result<Vec<u8>, AllocError> {
-    session_of(alloc, NETWORK, HISTORY)
+    session_of(alloc, network(), HISTORY)
 }
 
 /// The answer that is a session. One that is neither saved nor dumped as the bytes of which it was
@@ -102,7 +103,7 @@ impl FallibleCall for Call {
         match self {
             Call::Open => outcome_of(alloc, failing, session, *self, left),
             Call::OpenDump => {
-                let dump = Vec::from_slice(alloc, NETWORK)?;
+                let dump = Vec::from_slice(alloc, network())?;
                 outcome_of(alloc, failing, dump, *self, left)
             }
             Call::Save => outcome_of_saving(alloc, failing, &session, left),

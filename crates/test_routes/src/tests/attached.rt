@@ -17,9 +17,14 @@ const DUMP: &[u8] = &[
     0, 0,
 ];
 
+/// The bytes of the dump. The function has no clauses, so that the prover knows nothing of them.
+fn dump() -> &'static [u8] {
+    DUMP
+}
+
 /// Whether a router is attached to an area of the dump.
 fn attached(alloc: Global, area: u32, router: u32) -> Result<bool, Fail> {
-    let database = Database::load(alloc, DUMP)?;
+    let database = Database::load(alloc, dump())?;
     Ok(is_attached(&database, AreaId(area), RouterId(router)))
 }
 

@@ -59,6 +59,11 @@ fn takes_no_memory<A: Allocator + Copy>(branches: &mut Branches<A>, branch: u8) 
         && counts_no_edits(branches, branch)
 }
 
+/// The bytes of the sample. The function has no clauses, so that the prover knows nothing of them.
+fn sample() -> &'static [u8] {
+    SAMPLE
+}
+
 /// Whether memory runs out for an edit.
 fn wants_memory<A: Allocator + Copy>(branches: &mut Branches<A>) -> bool {
     branches.step(1, &Command::Edit(cost(7))).is_err()
@@ -69,7 +74,7 @@ fn undo_redo_and_info_in_any_branch_while_each_growth_is_refused(
     rt: HostRuntime,
 ) -> Result<(), Fail> {
     let failing = FailingAlloc::new(rt.alloc(), u64::MAX);
-    let database = Database::load(&failing, SAMPLE)?;
+    let database = Database::load(&failing, sample())?;
     failing.set_remaining(0);
     let mut branches = Branches::new(&failing, database);
     for branch in 0..8 {

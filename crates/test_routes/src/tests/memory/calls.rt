@@ -1,7 +1,7 @@
 //! Calls that answer something new: each of their growths refused in turn.
 
 use super::hops;
-use super::network::database_of;
+use super::network::{database_of, network};
 use super::texts::{graph_text, tree_text};
 use crate::tests::built::graph_of;
 use area_graph::{Graph, GraphFault};
@@ -11,7 +11,7 @@ use spf::{Meter, SpfFault, Tree};
 use std::alloc::Global;
 use std::test::*;
 use test_support::{
-    Answer, CallOn, FailingAlloc, FallibleCall, NETWORK, Outcome, R1, first_wrong, outcome_of,
+    Answer, CallOn, FailingAlloc, FallibleCall, Outcome, R1, first_wrong, outcome_of,
 };
 
 /// What is called.
@@ -60,8 +60,8 @@ impl FallibleCall for Call {
     fn outcome(&self, alloc: Global, failing: &FailingAlloc, left: u64) -> Result<Outcome, Fail> {
         match self {
             Call::Graph => outcome_of(alloc, failing, database_of(failing)?, *self, left),
-            Call::Tree => outcome_of(alloc, failing, graph_of(failing, NETWORK)?, *self, left),
-            Call::Hops => hops::outcome_in(alloc, failing, &graph_of(failing, NETWORK)?, left),
+            Call::Tree => outcome_of(alloc, failing, graph_of(failing, network())?, *self, left),
+            Call::Hops => hops::outcome_in(alloc, failing, &graph_of(failing, network())?, left),
         }
     }
 }

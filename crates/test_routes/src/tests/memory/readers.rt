@@ -3,7 +3,7 @@
 ghost use Rattle.std.specs.Prelude.{◌≤◌};
 
 use super::hops::of_hops;
-use super::network::database_of;
+use super::network::{database_of, network};
 use super::texts::{graph_text, tree_text};
 use crate::tests::built::graph_of;
 use area_graph::{Graph, Vertex};
@@ -12,7 +12,7 @@ use lsdb::{Database, Section};
 use spf::{Meter, Tree};
 use std::alloc::Global;
 use std::test::*;
-use test_support::{FailingAlloc, NETWORK, R1, R2};
+use test_support::{FailingAlloc, R1, R2};
 
 /// What is read.
 #[derive(Clone, Copy, Debug)]
@@ -222,7 +222,7 @@ fn read_graph(
     call: Call,
     growths: u64,
 ) -> Result<String, Fail> {
-    let graph = graph_of(failing, NETWORK)?;
+    let graph = graph_of(failing, network())?;
     match call {
         Call::Graph => read_vertices(alloc, failing, &graph, growths),
         _ => read_tree(alloc, failing, &graph, call, growths),
