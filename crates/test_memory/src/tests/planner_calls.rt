@@ -55,9 +55,9 @@ const CALLS: &[Call] = &[
     Call::CachedTable,
 ];
 
-/// Makes a table, whose trees are kept.
-fn keep_trees(planner: &mut Planner<&FailingAlloc>) -> Result<(), Fail> {
-    let _table = planner.table(ROUTER)?;
+/// Makes a table of a router, whose trees are kept.
+fn keep_trees(planner: &mut Planner<&FailingAlloc>, router: RouterId) -> Result<(), Fail> {
+    let _table = planner.table(router)?;
     Ok(())
 }
 
@@ -85,22 +85,22 @@ fn prepare(planner: &mut Planner<&FailingAlloc>, call: Call) -> Result<(), Fail>
     planner.undo(1)?;
     match call {
         Call::TableAfterEdit => {
-            keep_trees(planner)?;
+            keep_trees(planner, ROUTER)?;
             planner.edit(&cost(13))?;
         }
         Call::TableAfterUndo => {
-            keep_trees(planner)?;
+            keep_trees(planner, ROUTER)?;
             planner.undo(1)?;
         }
         Call::TableAfterRedo => {
-            keep_trees(planner)?;
+            keep_trees(planner, ROUTER)?;
             planner.redo(1)?;
         }
         Call::TableAfterRefusal => {
-            keep_trees(planner)?;
+            keep_trees(planner, ROUTER)?;
             refuse(planner)?;
         }
-        Call::EditThenTable => keep_trees(planner)?,
+        Call::EditThenTable => keep_trees(planner, ROUTER)?,
         Call::CopyForBaseTable => ask_for_base(planner, OTHER)?,
         Call::BaseTableOverCopy | Call::BaseOfCopy => {
             ask_for_base(planner, ROUTER)?;

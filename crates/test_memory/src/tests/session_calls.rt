@@ -9,8 +9,7 @@ use saved_sessions::SavedSession;
 use std::alloc::{AllocError, Global};
 use std::test::*;
 use test_support::{
-    Answer, CallOn, FailingAlloc, FallibleCall, Outcome, first_wrong, outcome_of,
-    session_of,
+    Answer, CallOn, FailingAlloc, FallibleCall, Outcome, first_wrong, outcome_of, session_of,
 };
 
 /// What is called.
