@@ -1,13 +1,15 @@
 -- How many prefixes have a change of each kind, and how many have none.
-use Rattle.std.proofs.Common.{◌≡◌, ℕ, ◌+◌, cond, List, [], ◌∷◌, length, Option, Some, None, refl, arith}
+use Rattle.std.proofs.Common.{◌≡◌, ℕ, ◌+◌, cond, List, [], ◌∷◌, length, Option, Some, None, refl, ap, ◌∙◌, arith}
 use Rattle.std.specs.Prelude.{is_none}
 use Rattle.std.specs.List.{cons_option, filter, filter_map}
 use Rattle.std.specs.Option.{option_map}
 use Rattle.lsa_codec.specs.Prefix.{Net}
+use Rattle.next_hops.specs.declared.hop.Hop.{Hop}
 use Rattle.table_changes.specs.declared.change.Change.{Change}
 use Rattle.table_changes.specs.declared.change.Change.TheVariants.{Missing, Gained, OtherKind, Costlier, Cheaper, Moved}
 use Rattle.table_changes.specs.declared.change.PrefixChange.{PrefixChange}
-use Rattle.table_changes.specs.Changes.{count_of, with_net}
+use Rattle.table_changes.specs.Changes.{change_at, change_for, changes, count_of, nets_of_both, unchanged, with_net}
+use Rattle.table_changes.specs.Entries.{EntriesValue}
 
 -- ---- changes of all kinds
 
@@ -50,3 +52,12 @@ module _ (for : Net → Option Change) where
 
   pub lengths : (nets : List Net) → length (listed nets) + length (others nets) ≡ length nets
   lengths nets = counted_by (λ found. length found) refl (λ c cs. omega arith) nets
+
+-- the changes of all prefixes, and how many have none
+module _ (rerouted : List Hop) (before now : EntriesValue) (nets seen : List Net) (found : List PrefixChange) where
+  module _ (all : nets ≡ nets_of_both before now) (same : seen ≡ nets) (is : found ≡ filter_map (change_at rerouted before now) seen) where
+    pub are_all : found ≡ changes rerouted before now
+    are_all = is ∙ ap (filter_map (change_at rerouted before now)) (same ∙ all)
+
+    pub number_of_all : length found + unchanged rerouted before now ≡ length nets
+    number_of_all = omega (arith, ap length all, ap length are_all, lengths (change_for rerouted before now) (nets_of_both before now))
