@@ -12,6 +12,7 @@ use Rattle.lsa_codec.specs.Order.{router_cmp}
 use Rattle.lsa_codec.specs.declared.address.RouterId.{RouterId}
 use Rattle.lsa_codec.proofs.OrderLemmas.{router_total}
 use Rattle.microloops.specs.steps.Groups.{GroupValue, Has, IsJoined}
+use Rattle.microloops.specs.steps.Searching.{SearchValue}
 use Rattle.microloops.proofs.Sets.{at_same, at_self}
 
 -- ---- two groups
@@ -100,3 +101,18 @@ last_first gs g = reverse-append gs (g ∷ [])
 pub nothing : {X : Type 0} (xs : List X) → length xs ≡ 0 → xs ≡ []
 nothing [] none = refl
 nothing (x ∷ xs) none = absurd (omega arith)
+
+-- ---- the state of a search
+
+abbrev pub with_groups : BTreeSet RouterId → BTreeSet RouterId → List GroupValue → List (RouterId × List RouterId) → SearchValue
+with_groups unseen on_path groups loops = record { unseen = unseen; on_path = on_path; path = groups; loops = loops }
+
+-- its path as the code has it, the last group at the end
+abbrev pub state : BTreeSet RouterId → BTreeSet RouterId → List GroupValue → List (RouterId × List RouterId) → SearchValue
+state unseen on_path groups loops = with_groups unseen on_path (reverse groups) loops
+
+pub removed_keys : (first after : BTreeSet RouterId) (routers keys : List RouterId) → routers ≡ keys
+    → ((v : RouterId) → contains router_cmp after v ≡ (contains router_cmp first v && not (list_any (eq_by_cmp router_cmp v) routers)))
+    → (v : RouterId) → contains router_cmp after v ≡ (contains router_cmp first v && not (list_any (eq_by_cmp router_cmp v) keys))
+removed_keys first after routers keys same removed v =
+    removed v ∙ ap (λ (rs : List RouterId). contains router_cmp first v && not (list_any (eq_by_cmp router_cmp v) rs)) same

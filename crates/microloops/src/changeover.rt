@@ -20,7 +20,8 @@ fn insert_routers<A: Allocator + Copy>(
     routers: &mut BTreeSet<RouterId, A>,
     graph: &ForwardingGraph<A>,
 ) -> Result<(), AllocError>
-    ensures kept { OnOk result ((router : AnyRouter) → Has routers.old router → Has routers.new router) }
+    ensures kept { OnOk result ((router : AnyRouter) → Has routers.old router
+        → Has routers.new router) }
     ensures all { OnOk result (All (λ step. Has routers.new step.router) graph.now) }
 {
     for step in graph.as_slice() {

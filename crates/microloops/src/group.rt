@@ -22,7 +22,11 @@ impl<A: Allocator> Model for Group<A> {
 
     ghost Value = { GroupValue };
 
-    ghost view = { λ g. record { routers = g.routers; pending = g.pending.items; is_loop = g.is_loop } };
+    ghost view = { λ g. record {
+      routers = g.routers;
+      pending = g.pending.items;
+      is_loop = g.is_loop;
+    } };
 }
 
 impl<A: Allocator + Copy> Group<A> {

@@ -40,13 +40,19 @@ impl<A: Allocator> Model for Search<A> {
 
     ghost Value = { SearchValue };
 
-    ghost view = { λ s. record { unseen = s.unseen; on_path = s.on_path; path = reverse s.path.items; loops = s.loops.entries } };
+    ghost view = { λ s. record {
+      unseen = s.unseen;
+      on_path = s.on_path;
+      path = reverse s.path.items;
+      loops = s.loops.entries;
+    } };
 }
 
 /// Takes routers out of a set.
 fn remove_all<A: Allocator + Copy>(set: &mut BTreeSet<RouterId, A>, routers: &[RouterId])
     ensures { (router : AnyRouter) → contains router_cmp set.new router
-        ≡ (contains router_cmp set.old router && not (list_any (eq_by_cmp router_cmp router) routers.now)) }
+        ≡ (contains router_cmp set.old router
+        && not (list_any (eq_by_cmp router_cmp router) routers.now)) }
 {
     for router in routers {
         set.remove(router);
@@ -67,7 +73,8 @@ impl<A: Allocator + Copy> Search<A> {
     /// The search of a graph of these routers: steps lead from these alone.
     pub(crate) fn new(alloc: A, routers: BTreeSet<RouterId, A>) -> Search<A>
         ensures { (next : AnyRouter → List AnyRouter)
-            → ((v w : AnyRouter) → Contains (next v) w → Has routers v) → IsSearch next None result }
+            → ((v w : AnyRouter) → Contains (next v) w → Has routers v)
+            → IsSearch next None result }
     {
         Search {
             alloc,
@@ -90,8 +97,8 @@ impl<A: Allocator + Copy> Search<A> {
     ) -> Result<(), AllocError>
         ensures fewer { OnOk result (Has self.old.unseen router
             → length self.new.unseen.keys + 1 ≡ length self.old.unseen.keys) }
-        ensures search { OnOk result ((next : AnyRouter → List AnyRouter) → targets.items ≡ next router
-            → IsNext next router self.old → IsSearch next None self.new) }
+        ensures search { OnOk result ((next : AnyRouter → List AnyRouter)
+            → targets.items ≡ next router → IsNext next router self.old → IsSearch next None self.new) }
     {
         self.unseen.remove(&router);
         self.on_path.insert(router)?;
@@ -109,7 +116,8 @@ impl<A: Allocator + Copy> Search<A> {
         ensures search { IfOk result (λ joined. (next : AnyRouter → List AnyRouter)
             → IsSearch next (Some target) (with_last last self.old) → Sends next last target
             → Lacks self.old.unseen target → IsSearch next None (with_last joined self.new)) }
-        ensures less { IfOk result (λ joined. work (joined ∷ self.new.path) ≤ work (last ∷ self.old.path)) }
+        ensures less { IfOk result (λ joined.
+            work (joined ∷ self.new.path) ≤ work (last ∷ self.old.path)) }
         ensures unseen { OnOk result (self.new.unseen ≡ self.old.unseen) }
     {
         let mut last = last;
@@ -157,8 +165,10 @@ impl<A: Allocator + Copy> Search<A> {
     fn follow(&mut self, last: Group<A>) -> Result<Option<RouterId>, AllocError>
         ensures found { IfOk result (λ found. (next : AnyRouter → List AnyRouter)
             → IsSearch next None (with_last last self.old)
-            → MatchOption found (IsSearch next None self.new) (λ router. IsNext next router self.new)) }
-        ensures less { IfOk result (λ found. IfNone found (work self.new.path < work (last ∷ self.old.path))) }
+            → MatchOption found (IsSearch next None self.new)
+            (λ router. IsNext next router self.new)) }
+        ensures less { IfOk result (λ found.
+            IfNone found (work self.new.path < work (last ∷ self.old.path))) }
         ensures unseen { OnOk result (self.new.unseen ≡ self.old.unseen) }
     {
         let mut last = last;
@@ -200,7 +210,8 @@ impl<A: Allocator + Copy> Search<A> {
     ///
     /// Memory ran out.
     pub(crate) fn into_loops(self) -> Result<Vec<Microloop<A>, A>, AllocError>
-        ensures { IfOk result (λ loops. (next : AnyRouter → List AnyRouter) (routers : List AnyRouter)
+        ensures { IfOk result (λ loops. (next : AnyRouter → List AnyRouter)
+            (routers : List AnyRouter)
             → ((v w : AnyRouter) → Contains (next v) w → Contains routers v)
             → IsDone next self → AreAllLoops next routers loops.items) }
     {

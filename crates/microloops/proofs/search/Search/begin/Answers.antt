@@ -2,21 +2,16 @@ use Rattle.std.proofs.Common.{◌≡◌, ◌+◌, ◌∙◌, Bool, true, false, 
 use Rattle.std.specs.Prelude.{reverse}
 use Rattle.microloops.specs.steps.Groups.{GroupValue, Has}
 use Rattle.microloops.specs.steps.Searching.{IsNext, IsSearch, SearchValue}
-use Rattle.microloops.proofs.Members.{has_one, last_first, only_one}
+use Rattle.microloops.proofs.Members.{has_one, last_first, only_one, state, with_groups}
 use Rattle.microloops.proofs.Paths.{search_begun}
 use Rattle.microloops.proofs.search.Search.begin.Goals as goal
 
 pub returns-clause-search : goal.returns-clause-search
 returns-clause-search g c = λ next pending is.
-    let before : SearchValue = record {
-      unseen = c.self.inside.unseen;
-      on_path = c.self.inside.on_path;
-      path = reverse c.self.inside.path.items;
-      loops = c.self.inside.loops.entries;
-    } in
+    let before = state c.self.inside.unseen c.self.inside.on_path c.self.inside.path.items c.self.inside.loops.entries in
     let alone : GroupValue = record { routers = c.in_ok-from_array.field-0; pending = c.args.targets.items; is_loop = false } in
     let now : IsNext next c.args.router before = subst (λ (s : SearchValue). IsNext next c.args.router s) (sym c.self.view_is) is in
-    subst (λ (gs : List GroupValue). IsSearch next None (record { unseen = c.remove.new.self; on_path = c.insert.new.self; path = gs; loops = c.self.inside.loops.entries }))
+    subst (λ (gs : List GroupValue). IsSearch next None (with_groups c.remove.new.self c.insert.new.self gs c.self.inside.loops.entries))
     (sym (ap (λ (gs : List GroupValue). reverse gs) c.in_ok-push.ensures.items ∙ last_first c.self.inside.path.items alone))
     (search_begun next before c.args.router c.remove.new.self c.insert.new.self alone c.remove.ensures.updates c.in_ok-insert.ensures.updates
     (only_one c.in_ok-from_array.field-0 c.args.router c.in_ok-from_array.ensures.ok.0)

@@ -3,7 +3,7 @@ use Rattle.std.specs.Prelude.{reverse}
 use Rattle.microloops.specs.steps.Groups.{GroupValue, Has, Lacks}
 use Rattle.microloops.specs.steps.Searching.{IsSearch, SearchValue, with_last}
 use Rattle.microloops.proofs.Joining.{closed_up, closing_first, closing_more, less_more, not_ended}
-use Rattle.microloops.proofs.Members.{last_first, nothing}
+use Rattle.microloops.proofs.Members.{last_first, nothing, state}
 use Rattle.microloops.proofs.Paths.{skipped}
 use Rattle.microloops.proofs.search.Search.close.Goals as goal
 
@@ -14,12 +14,7 @@ returns-then-not-contains-clause-search g c = λ next is sends seen.
 
 pub groups-preserved : goal.groups-preserved
 groups-preserved g c =
-    let s : SearchValue = record {
-      unseen = c.groups.self-inside.unseen;
-      on_path = c.groups.self-inside.on_path;
-      path = reverse c.groups.self-inside.path.items;
-      loops = c.groups.self-inside.loops.entries;
-    } in
+    let s = state c.groups.self-inside.unseen c.groups.self-inside.on_path c.groups.self-inside.path.items c.groups.self-inside.loops.entries in
     let path : s.path ≡ c.in-Some.below ∷ reverse c.pop.new.self.items =
     ap (λ (gs : List GroupValue). reverse gs) c.in-Some.ensures.items ∙ last_first c.pop.new.self.items c.in-Some.below in
     let lacks : Lacks c.groups.last.routers c.args.target =
@@ -33,18 +28,8 @@ groups-preserved g c =
 
 pub returns-in_default-clause-search : goal.returns-in_default-clause-search
 returns-in_default-clause-search g c = λ next is sends seen.
-    let before : SearchValue = record {
-      unseen = c.self.inside.unseen;
-      on_path = c.self.inside.on_path;
-      path = reverse c.self.inside.path.items;
-      loops = c.self.inside.loops.entries;
-    } in
-    let s : SearchValue = record {
-      unseen = c.groups.self-inside.unseen;
-      on_path = c.groups.self-inside.on_path;
-      path = reverse c.groups.self-inside.path.items;
-      loops = c.groups.self-inside.loops.entries;
-    } in
+    let before = state c.self.inside.unseen c.self.inside.on_path c.self.inside.path.items c.self.inside.loops.entries in
+    let s = state c.groups.self-inside.unseen c.groups.self-inside.on_path c.groups.self-inside.path.items c.groups.self-inside.loops.entries in
     let first = closing_first next c.args.target c.args.last before (subst (λ (x : SearchValue). IsSearch next (Some c.args.target) (with_last c.args.last x)) (sym c.self.view_is) is)
     sends (sym c.contains.ensures ∙ c.if-not-contains.false) in
     absurd (not_ended next c.args.target c.groups.last s
@@ -55,18 +40,8 @@ returns-in_default-clause-search g c = λ next is sends seen.
 
 pub returns-clause-search : goal.returns-clause-search
 returns-clause-search g c = λ next is sends seen.
-    let before : SearchValue = record {
-      unseen = c.self.inside.unseen;
-      on_path = c.self.inside.on_path;
-      path = reverse c.self.inside.path.items;
-      loops = c.self.inside.loops.entries;
-    } in
-    let s : SearchValue = record {
-      unseen = c.groups.self-inside.unseen;
-      on_path = c.groups.self-inside.on_path;
-      path = reverse c.groups.self-inside.path.items;
-      loops = c.groups.self-inside.loops.entries;
-    } in
+    let before = state c.self.inside.unseen c.self.inside.on_path c.self.inside.path.items c.self.inside.loops.entries in
+    let s = state c.groups.self-inside.unseen c.groups.self-inside.on_path c.groups.self-inside.path.items c.groups.self-inside.loops.entries in
     let last : GroupValue = record { routers = c.last.inside.routers; pending = c.last.inside.pending.items; is_loop = true } in
     let first = closing_first next c.args.target c.args.last before (subst (λ (x : SearchValue). IsSearch next (Some c.args.target) (with_last c.args.last x)) (sym c.self.view_is) is)
     sends (sym c.contains.ensures ∙ c.if-not-contains.false) in

@@ -7,16 +7,12 @@ use Rattle.lsa_codec.specs.declared.address.RouterId.{RouterId}
 use Rattle.microloops.specs.Changeover.{AreAllLoops}
 use Rattle.microloops.specs.steps.Searching.{IsDone, SearchValue}
 use Rattle.microloops.proofs.Loops.{all_loops}
+use Rattle.microloops.proofs.Members.{state}
 use Rattle.microloops.proofs.search.Search.into_loops.Goals as goal
 
 pub returns : goal.returns
 returns g c =
-    let s : SearchValue = record {
-      unseen = c.self.inside.unseen;
-      on_path = c.self.inside.on_path;
-      path = reverse c.self.inside.path.items;
-      loops = c.self.inside.loops.entries;
-    } in
+    let s = state c.self.inside.unseen c.self.inside.on_path c.self.inside.path.items c.self.inside.loops.entries in
     IfOk-weaker c.loops_of.result (λ found. found.items ≡ values c.self.inside.loops)
     (λ found. (next : RouterId → List RouterId) (routers : List RouterId) → ((v w : RouterId) → Contains (next v) w → Contains routers v)
     → IsDone next c.args.self → AreAllLoops next routers found.items)
