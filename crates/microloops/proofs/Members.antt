@@ -1,5 +1,6 @@
 -- What is added to groups and sets.
-use Rattle.std.proofs.Common.{◌≡◌, ◌+◌, Bool, true, false, cond, List, [], ◌∷◌, ◌++◌, length, take, get_or, refl, sym, ap, ◌∙◌, subst, arith, ◌⊎◌, inl, inr, ◌<◌, ℕ}
+use Rattle.std.proofs.Common.{◌≡◌, ◌+◌, Bool, true, false, cond, List, [], ◌∷◌, ◌++◌, length, take}
+use Rattle.std.proofs.Common.{get_or, refl, sym, ap, ◌∙◌, subst, arith, ◌⊎◌, inl, inr, ◌<◌, ℕ}
 use Rattle.std.specs.Prelude.{◌&&◌, ◌||◌, not, reverse}
 use Rattle.std.specs.BTreeSet.{BTreeSet, InsertsAll, Updates, contains}
 use Rattle.std.specs.List.{Contains, list_any}

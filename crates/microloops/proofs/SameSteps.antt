@@ -36,7 +36,8 @@ pub same_loops : (one other : RouterId → List RouterId) → HasSteps one other
     → (loops : List (List RouterId)) → AreAllLoops one routers loops → AreAllLoops other others loops
 same_loops one other has had routers others there back loops are = record {
   loops = record {
-    each = All-weaker (λ loop. (v : RouterId) × Contains routers v × IsLoopFrom one v loop) (λ loop. (v : RouterId) × Contains others v × IsLoopFrom other v loop)
+    each = All-weaker (λ loop. (v : RouterId) × Contains routers v × IsLoopFrom one v loop)
+        (λ loop. (v : RouterId) × Contains others v × IsLoopFrom other v loop)
         (λ loop e. (e.0, there e.0 e.1, loop_from one other has had e.0 loop e.2)) loops are.loops.each;
     all = λ v loop c from. are.loops.all v loop (back v c) (loop_from other one had has v loop from);
     order = are.loops.order;
