@@ -98,7 +98,8 @@ impl<A: Allocator + Copy> Search<A> {
         ensures fewer { OnOk result (Has self.old.unseen router
             → length self.new.unseen.keys + 1 ≡ length self.old.unseen.keys) }
         ensures search { OnOk result ((next : AnyRouter → List AnyRouter)
-            → targets.items ≡ next router → IsNext next router self.old → IsSearch next None self.new) }
+            → targets.items ≡ next router → IsNext next router self.old
+            → IsSearch next None self.new) }
     {
         self.unseen.remove(&router);
         self.on_path.insert(router)?;

@@ -34,7 +34,8 @@ returns-clause-found g c = λ next is.
     let before = subst (λ (x : SearchValue). IsSearch next None x) (sym c.self.view_is) (c.path.invariant.search next is) in
     let same : c.self.inside.path.items ≡ c.pop.new.self.items = c.in_default.ensures.items ∙ append-nil c.pop.new.self.items in
     let none : c.self.inside.path.items ≡ [] = nothing c.self.inside.path.items (omega (arith, c.in_default.ensures.cases.0, c.self.inside.path.ok.0)) in
-    let now : IsSearch next None s = subst (λ (gs : List GroupValue). IsSearch next None (state c.self.inside.unseen c.self.inside.on_path gs c.self.inside.loops.entries)) same before in
+    let now : IsSearch next None s =
+    subst (λ (gs : List GroupValue). IsSearch next None (state c.self.inside.unseen c.self.inside.on_path gs c.self.inside.loops.entries)) same before in
     first_found next s now (ap (λ (gs : List GroupValue). reverse gs) (sym same ∙ none)) c.copied.result
     (c.copied.ensures ∙ first_is (λ k. k.now) c.first.result c.self-2.inside.unseen.keys c.first.ensures.variant c.first.ensures.first
     ∙ ap (λ (x : SearchValue). slice_get x.unseen.keys 0) c.self-2.view_is)
