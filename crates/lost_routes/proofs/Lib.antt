@@ -1,0 +1,7 @@
+pub mod Gathered
+pub mod AreaNets
+pub mod Missing
+pub mod Present
+pub mod Split
+pub mod Matched
+pub mod Unchanged

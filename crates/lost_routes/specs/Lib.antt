@@ -1,0 +1,4 @@
+pub mod Announced
+pub mod Lost
+pub mod LostPairs
+pub mod steps
