@@ -10,5 +10,8 @@ mod own_externals;
 mod paths;
 mod routers;
 
+// What routers have lost.
+mod lost;
+
 // Calls where memory is refused.
 mod growths;
