@@ -1,6 +1,6 @@
 //! Routes by the best ways.
 
-ghost use Rattle.std.specs.Prelude.{◌≡◌, ◌<◌, ◌++◌, ◌∷◌, [], ℕ, List, IfOk, OnOk, None, Some, All, map};
+ghost use Rattle.std.specs.Prelude.{◌≡◌, ◌<◌, ◌∷◌, ℕ, List, IfOk, None, Some, All, map};
 ghost use Rattle.std.specs.List.Sorted.{IsSorted};
 ghost use Rattle.lsa_codec.specs.Order.{prefix_cmp};
 ghost use Rattle.lsa_codec.specs.Prefix.{Net};
@@ -67,34 +67,31 @@ fn routes_in_order<A: Allocator + Copy>(
     let mut place = 0;
     while place < candidates.len() {
         let (first, others, end) = next_alike(candidates, place);
-        if others.is_empty() {
-            let route = route_of_one(alloc, area, first)?;
-            routes.push(route)?;
-        } else {
-            push_best_route(alloc, area, first, others, &mut routes)?;
-        }
+        let route = best_route(alloc, area, first, others)?;
+        routes.push(route)?;
         place = end;
     }
     Ok(routes)
 }
 
-/// Adds the route by the best way of several candidates for one destination, through one area or
-/// through those of the way.
-#[inline(never)]
-fn push_best_route<A: Allocator + Copy>(
+/// The route by the best way of candidates for one destination, through one area or through those
+/// of the way. Most destinations have one candidate, of which the route is made in place.
+#[inline(always)]
+fn best_route<A: Allocator + Copy>(
     alloc: A,
     area: Option<AreaId>,
     first: &Contender<'_, Prefix>,
     others: &[Contender<'_, Prefix>],
-    routes: &mut Vec<Route<A>, A>,
-) -> Result<(), AllocError>
-    ensures { OnOk result ((way : WayValue)
+) -> Result<Route<A>, AllocError>
+    ensures { IfOk result (λ route. (way : WayValue)
         × (Some way ≡ way_of (first.now ∷ others.now))
-        × (routes.new.items ≡ routes.old.items ++ route_through area (first.now.key, way) ∷ [])) }
+        × (route ≡ route_through area (first.now.key, way))) }
 {
+    if others.is_empty() {
+        return route_of_one(alloc, area, first);
+    }
     let way = Way::of(alloc, first, others)?;
-    routes.push(route_through(alloc, area, first.key, way))?;
-    Ok(())
+    Ok(route_through(alloc, area, first.key, way))
 }
 
 /// The route by the way of one candidate, through one area or through its own.
