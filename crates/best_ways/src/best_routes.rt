@@ -1,6 +1,6 @@
 //! Routes by the best ways.
 
-ghost use Rattle.std.specs.Prelude.{◌≡◌, ◌<◌, ◌∷◌, ℕ, List, IfOk, None, Some, All, map};
+ghost use Rattle.std.specs.Prelude.{◌≡◌, ◌<◌, ◌++◌, ◌∷◌, [], ℕ, List, IfOk, OnOk, None, Some, All, map};
 ghost use Rattle.std.specs.List.Sorted.{IsSorted};
 ghost use Rattle.lsa_codec.specs.Order.{prefix_cmp};
 ghost use Rattle.lsa_codec.specs.Prefix.{Net};
@@ -67,31 +67,34 @@ fn routes_in_order<A: Allocator + Copy>(
     let mut place = 0;
     while place < candidates.len() {
         let (first, others, end) = next_alike(candidates, place);
-        let route = best_route(alloc, area, first, others)?;
-        routes.push(route)?;
+        if others.is_empty() {
+            let route = route_of_one(alloc, area, first)?;
+            routes.push(route)?;
+        } else {
+            push_best_route(alloc, area, first, others, &mut routes)?;
+        }
         place = end;
     }
     Ok(routes)
 }
 
-/// The route by the best way of candidates for one destination, through one area or through those
-/// of the way. Most destinations have one candidate, of which the route is made in place.
-#[inline(always)]
-fn best_route<A: Allocator + Copy>(
+/// Adds the route by the best way of several candidates for one destination, through one area or
+/// through those of the way.
+#[inline(never)]
+fn push_best_route<A: Allocator + Copy>(
     alloc: A,
     area: Option<AreaId>,
     first: &Contender<'_, Prefix>,
     others: &[Contender<'_, Prefix>],
-) -> Result<Route<A>, AllocError>
-    ensures { IfOk result (λ route. (way : WayValue)
+    routes: &mut Vec<Route<A>, A>,
+) -> Result<(), AllocError>
+    ensures { OnOk result ((way : WayValue)
         × (Some way ≡ way_of (first.now ∷ others.now))
-        × (route ≡ route_through area (first.now.key, way))) }
+        × (routes.new.items ≡ routes.old.items ++ route_through area (first.now.key, way) ∷ [])) }
 {
-    if others.is_empty() {
-        return route_of_one(alloc, area, first);
-    }
     let way = Way::of(alloc, first, others)?;
-    Ok(route_through(alloc, area, first.key, way))
+    routes.push(route_through(alloc, area, first.key, way))?;
+    Ok(())
 }
 
 /// The route by the way of one candidate, through one area or through its own.
