@@ -44,6 +44,10 @@ pub record AnnouncedValue : Type 0 where
   pub externals : List Net
   pub summaries : List Net
 
+-- these three
+abbrev pub announced_by : List Net → List Net → List Net → AnnouncedValue
+announced_by networks externals summaries = record { networks = networks; externals = externals; summaries = summaries }
+
 abbrev pub announced_in : Lists → AnnouncedValue
 announced_in db = record {
   networks = rising prefix_cmp (flat_map live_networks (area_lsas db));

@@ -26,15 +26,11 @@ pub struct Announced<A: Allocator = Global> {
 }
 
 impl<A: Allocator> Model for Announced<A> {
-    ghost use Rattle.lost_routes.specs.Announced.{AnnouncedValue};
+    ghost use Rattle.lost_routes.specs.Announced.{AnnouncedValue, announced_by};
 
     ghost Value = { AnnouncedValue };
 
-    ghost view = { λ a. record {
-      networks = a.networks.keys;
-      externals = a.externals.keys;
-      summaries = a.summaries.keys;
-    } };
+    ghost view = { λ a. announced_by a.networks.keys a.externals.keys a.summaries.keys };
 }
 
 /// Adds the prefixes of stub links among these links.

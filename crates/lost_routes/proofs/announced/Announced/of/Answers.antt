@@ -7,7 +7,7 @@ use Rattle.lsa_codec.specs.Prefix.{Net}
 use Rattle.lsdb.specs.Lists.{AreaHead, areas_of}
 use Rattle.lsdb.specs.Slots.{lists_of}
 use Rattle.area_graph.specs.Rising.{rising}
-use Rattle.lost_routes.specs.Announced.{AnnouncedValue, announced_in, external_prefix, live_networks, summary_prefix}
+use Rattle.lost_routes.specs.Announced.{announced_by, announced_in, external_prefix, live_networks, summary_prefix}
 use Rattle.lost_routes.proofs.AreaNets.{area_more, areas_done}
 use Rattle.lost_routes.proofs.Gathered.{gathers_all, gathers_none}
 use Rattle.lost_routes.proofs.announced.Announced.of.Goals as goal
@@ -29,12 +29,10 @@ pub returns : goal.returns
 returns g c =
     let db = lists_of c.args.database.now in
     let past : length (areas_of db) ≤ c.loop-i.i = omega (arith, c.area_count-i-end.ensures, c.loop-i-test.false) in
-    let all : List Net → List Net → List Net → AnnouncedValue = λ networks externals summaries.
-    record { networks = networks; externals = externals; summaries = summaries } in
-    ap (λ (l : List Net). all l c.add_externals.new.nets.keys c.loop-i.summaries.keys)
+    ap (λ (l : List Net). announced_by l c.add_externals.new.nets.keys c.loop-i.summaries.keys)
     (gathers_all _ _ _ c.new-networks.ensures.empty (areas_done db (flat_map live_networks) c.loop-i.i _ _ past c.loop-i.invariant.0))
-    ∙ ap (λ (l : List Net). all (announced_in db).networks l c.loop-i.summaries.keys)
+    ∙ ap (λ (l : List Net). announced_by (announced_in db).networks l c.loop-i.summaries.keys)
     (gathers_all _ _ _ c.new-externals.ensures.empty c.in_ok-add_externals.ensures
     ∙ ap (λ (l : List (List ℕ)). rising prefix_cmp (filter_map external_prefix l)) c.lsas.ensures.lsas)
-    ∙ ap (λ (l : List Net). all (announced_in db).networks (announced_in db).externals l)
+    ∙ ap (λ (l : List Net). announced_by (announced_in db).networks (announced_in db).externals l)
     (gathers_all _ _ _ c.new-summaries.ensures.empty (areas_done db (filter_map summary_prefix) c.loop-i.i _ _ past c.loop-i.invariant.1))
