@@ -1,5 +1,6 @@
 -- What differs from a baseline, by name.
-use Rattle.std.specs.Prelude.{ℕ, Bool, if◌then◌else◌, List, [], ◌∷◌, map, flat_map, sum, Option, None, Some}
+use Rattle.std.specs.Prelude.{ℕ, Bool, if◌then◌else◌, List, [], ◌∷◌, map, flat_map, Option, None, Some}
+use Rattle.std.specs.List.{sum_by}
 use Rattle.lsa_codec.specs.Prefix.{Net}
 use Rattle.lsa_codec.specs.declared.address.RouterId.{RouterId}
 use Rattle.forwarding.specs.Graphs.{routers_of, routes_at}
@@ -68,7 +69,7 @@ module _ (c : Compared) where
 
   -- what differs for some routers, by group, then in their order
   abbrev pub changes_for : List RouterId → ChangesValue
-  changes_for routers = record { names = by_group (flat_map names_of routers); unchanged = sum (map unchanged_of routers) }
+  changes_for routers = record { names = by_group (flat_map names_of routers); unchanged = sum_by unchanged_of routers }
 
   -- what differs for all routers
   abbrev pub all_changes : ChangesValue

@@ -1,6 +1,6 @@
 //! What differs for all routers.
 
-ghost use Rattle.std.specs.Prelude.{◌≡◌, ◌++◌, ◌+◌, ◌∷◌, [], flat_map, map, sum, IfOk, OnOk};
+ghost use Rattle.std.specs.Prelude.{◌≡◌, ◌++◌, ◌+◌, ◌∷◌, [], map, IfOk, OnOk};
 ghost use Rattle.forwarding.specs.Matches.{RouterValue};
 ghost use Rattle.comparison.specs.Compared.{routers_of_both};
 ghost use Rattle.comparison.specs.Named.{all_changes, changes_for, names_of, unchanged_of};
