@@ -2,8 +2,7 @@
 use Rattle.std.specs.Prelude.{ℕ, Bool, ◌==◌, nat_le, List, length}
 use Rattle.std.specs.List.{list_all}
 use Rattle.study_text.specs.Shown.{Called}
-use Rattle.study_script.specs.Expected.{PairsAllowed}
-use Rattle.study_script.specs.Expected.PairsAllowed.{nothing, at_most, only}
+use Rattle.study_script.specs.Expected.{PairsAllowed, nothing, at_most, only}
 use Rattle.change_lines.specs.ChangeTexts.{ChangesValue}
 use Rattle.change_lines.specs.PairTexts.{is_listed, pairs_found, unlisted, unlisted_found}
 use Rattle.change_lines.specs.declared.pair.Pair.{Pair}

@@ -38,8 +38,8 @@ module _ (c : Compared) where
     was = route_for c.baseline name.router name.net;
   }
 
-  abbrev pub change_lines : List ChangeName → List ChangeLineValue
-  change_lines names = map change_line names
+  abbrev pub lines_of_changes : List ChangeName → List ChangeLineValue
+  lines_of_changes names = map change_line names
 
   -- a pair with the route of the baseline
   abbrev pub gone_line : Pair → PairLineValue

@@ -5,7 +5,7 @@ ghost use Rattle.lsdb.specs.Slots.{lists_of};
 ghost use Rattle.forwarding.specs.Graphs.{IsForwardingOf};
 ghost use Rattle.lost_routes.specs.Announced.{announced_in};
 ghost use Rattle.lost_routes.specs.Announcers.{announcements};
-ghost use Rattle.change_report.specs.Lines.{change_line, change_lines as changes_with_routes, gone_line, gone_lines, lost_line, lost_lines, route_at, route_for};
+ghost use Rattle.change_report.specs.Lines.{change_line, gone_line, gone_lines, lost_line, lost_lines, lines_of_changes, route_at, route_for};
 
 use change_lines::{ChangeLine, ChangeName, Pair, PairLine};
 use comparison::Comparison;
@@ -70,18 +70,29 @@ fn change_line<A: Allocator + Copy>(
 /// # Errors
 ///
 /// Memory ran out.
-pub fn change_lines<A: Allocator + Copy>(
+pub fn lines_of_changes<A: Allocator + Copy>(
     alloc: A,
     both: &Comparison<'_, A>,
     names: &[ChangeName],
 ) -> Result<Vec<ChangeLine<A>, A>, AllocError>
-    ensures { IfOk result (λ lines. lines.items ≡ changes_with_routes both.now names.now) }
+    ensures { IfOk result (λ lines. lines.items ≡ lines_of_changes both.now names.now) }
 {
     let mut lines = Vec::new(alloc);
     for name in names {
         lines.push(change_line(alloc, both, *name)?)?;
     }
     Ok(lines)
+}
+
+/// What the router of a pair used for its prefix in the baseline.
+fn route_before<A: Allocator + Copy>(
+    alloc: A,
+    both: &Comparison<'_, A>,
+    pair: Pair,
+) -> Result<Option<RouteLine<A>>, AllocError>
+    ensures { IfOk result (λ line. line ≡ route_at both.now.baseline pair.router pair.net) }
+{
+    route_at(alloc, both.baseline(), both.were(), pair.router, pair.net)
 }
 
 /// A pair with the route of the baseline.
@@ -92,11 +103,12 @@ fn gone_line<A: Allocator + Copy>(
 ) -> Result<PairLine<A>, AllocError>
     ensures { IfOk result (λ line. line ≡ gone_line both.now pair) }
 {
-    let was = route_at(alloc, both.baseline(), both.were(), pair.router, pair.net)?;
+    let was = route_before(alloc, both, pair)?;
+    let announced = Vec::new(alloc);
     Ok(PairLine {
         pair,
         was,
-        announced: Vec::new(alloc),
+        announced,
     })
 }
 
@@ -110,9 +122,13 @@ fn lost_line<A: Allocator + Copy>(
     requires { announcers.now ≡ announcements (announced_in both.now.baseline) both.now.present }
     ensures { IfOk result (λ line. line ≡ lost_line both.now pair) }
 {
+    let was = route_before(alloc, both, pair)?;
     let announced = announcers.routers_of(alloc, pair.net)?;
-    let line = gone_line(alloc, both, pair)?;
-    Ok(PairLine { announced, ..line })
+    Ok(PairLine {
+        pair,
+        was,
+        announced,
+    })
 }
 
 /// Pairs, each with the route of the baseline and the routers that announce the prefix.

@@ -1,6 +1,6 @@
 use Rattle.std.proofs.Common.{◌≡◌, map, take}
 use Rattle.change_report.specs.Lines.{change_line}
-use Rattle.change_report.proofs.lines.change_lines.Given as goal
+use Rattle.change_report.proofs.lines.lines_of_changes.Given as goal
 
 -- the lines so far
 abbrev pub invariant-loop-name : goal.invariant-loop-name

@@ -3,7 +3,7 @@ use Rattle.std.proofs.lemmas.List.{take_all}
 use Rattle.area_routes.proofs.AddsLemmas.{adds_step, map_adds}
 use Rattle.change_lines.specs.ChangeTexts.{ChangeLineValue}
 use Rattle.change_report.specs.Lines.{change_line}
-use Rattle.change_report.proofs.lines.change_lines.Goals as goal
+use Rattle.change_report.proofs.lines.lines_of_changes.Goals as goal
 
 pub loop-name-preserved : goal.loop-name-preserved
 loop-name-preserved g c =
