@@ -6,22 +6,19 @@ use Rattle.lsa_codec.specs.Prefix.{Net, masked}
 use Rattle.lsa_codec.specs.declared.address.Addr.{Addr}
 use Rattle.lsdb.specs.Lists.{Lists}
 use Rattle.area_graph.specs.Rising.{rising}
-use Rattle.best_ways.specs.Routes.{nets}
 use Rattle.forwarding.specs.Graphs.{routers_of}
 use Rattle.forwarding.specs.Matches.{RouterValue, has_net}
+use Rattle.router_entries.specs.Entries.{nets_of}
 
 -- ---- prefixes
 
--- the prefixes of a router's entries: those of the routes of its table, and those of its own AS-external-LSAs
-abbrev pub nets_by : RouterValue → List Net
-nets_by r = nets r.routes ++ r.own
-
-abbrev pub nets_by_all : List RouterValue → List Net
-nets_by_all routers = flat_map nets_by routers
+-- the prefixes of the entries of some routers
+abbrev pub nets_of_all : List RouterValue → List Net
+nets_of_all routers = flat_map nets_of routers
 
 -- the prefixes of the entries of all attached routers in either of two databases, in order, each once
 abbrev pub nets_in_either : Lists → Lists → List Net
-nets_in_either was is = rising prefix_cmp (nets_by_all (routers_of was) ++ nets_by_all (routers_of is))
+nets_in_either was is = rising prefix_cmp (nets_of_all (routers_of was) ++ nets_of_all (routers_of is))
 
 -- ---- addresses
 

@@ -3,7 +3,7 @@
 ghost use Rattle.std.specs.Prelude.{◌≡◌, ◌++◌, IfOk, MatchOption};
 ghost use Rattle.lsa_codec.specs.Order.{prefix_cmp};
 ghost use Rattle.area_graph.specs.Rising.{rising};
-ghost use Rattle.loop_report.specs.Atoms.{IsEmptyAtom, IsInAtom, IsLonger, NoneLonger, nets_by_all};
+ghost use Rattle.loop_report.specs.Atoms.{IsEmptyAtom, IsInAtom, IsLonger, NoneLonger, nets_of_all};
 ghost use Rattle.loop_report.specs.steps.Gathering.{end_of};
 
 use crate::nets::{insert_nets, members};
@@ -44,7 +44,7 @@ impl<A: Allocator + Copy> Atoms<A> {
     /// Memory ran out.
     pub fn of(alloc: A, was: &Forwarding<A>, is: &Forwarding<A>) -> Result<Atoms<A>, AllocError>
         ensures { IfOk result (λ atoms. atoms
-            ≡ rising prefix_cmp (nets_by_all was.now.routers ++ nets_by_all is.now.routers)) }
+            ≡ rising prefix_cmp (nets_of_all was.now.routers ++ nets_of_all is.now.routers)) }
     {
         let mut nets = BTreeSet::new(alloc);
         insert_nets(alloc, &mut nets, was)?;

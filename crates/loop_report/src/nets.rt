@@ -1,11 +1,12 @@
 //! The prefixes of the entries of all routers.
 
 ghost use Rattle.std.specs.Prelude.{◌≡◌, IfOk, OnOk};
-ghost use Rattle.loop_report.specs.Atoms.{nets_by, nets_by_all};
+ghost use Rattle.loop_report.specs.Atoms.{nets_of_all};
 ghost use Rattle.loop_report.specs.steps.Gathering.{Gathers};
 
-use forwarding::{Forwarding, RouterRoutes};
+use forwarding::Forwarding;
 use lsa_codec::Prefix;
+use router_entries::Entries;
 use std::alloc::{AllocError, Allocator};
 use std::collections::BTreeSet;
 
@@ -21,18 +22,6 @@ pub(crate) fn members<A: Allocator + Copy>(
     ensures { IfOk result (λ found. found.items ≡ nets.now.keys) }
 {
     nets.iter().copied().collect(alloc)
-}
-
-/// The prefixes of a router's entries.
-fn nets_by<A: Allocator + Copy>(
-    alloc: A,
-    routes: &RouterRoutes<A>,
-) -> Result<Vec<Prefix, A>, AllocError>
-    ensures { IfOk result (λ nets. nets.items ≡ nets_by routes.now) }
-{
-    let mut nets = routes.routes().nets(alloc)?;
-    nets.extend_from_slice(&members(alloc, routes.own())?)?;
-    Ok(nets)
 }
 
 /// Adds prefixes to a set.
@@ -59,10 +48,10 @@ pub(crate) fn insert_nets<A: Allocator + Copy>(
     forwarding: &Forwarding<A>,
 ) -> Result<(), AllocError>
     ensures { OnOk result
-        (Gathers (nets_by_all forwarding.now.routers) found.old.keys found.new.keys) }
+        (Gathers (nets_of_all forwarding.now.routers) found.old.keys found.new.keys) }
 {
     for routes in forwarding.routers() {
-        insert_all(found, &nets_by(alloc, routes)?)?;
+        insert_all(found, &Entries::of(routes).nets(alloc)?)?;
     }
     Ok(())
 }
