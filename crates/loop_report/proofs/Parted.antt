@@ -23,14 +23,26 @@ module _ {X Y : Type 0} (IsPart : X → List Y → Type 0) where
       (subst (λ (l : List X). AreParts IsPart l (ys ++ part)) (ap (λ (y : X). take i xs ++ y ∷ []) item ∙ sym (take_more xs i x lt))
       (parts_push (take i xs) x ys part are is))
 
-module _ {Y : Type 0} (Found : Net → List StepValue → List StepValue → List Y → Type 0) (was is : Lists) (net : Net) (part : List Y) where
-  pub at_none : IsEmptyAtom (nets_in_either was is) net → part ≡ [] → IsAtAtom Found was is net part
-  at_none empty none = record { found = λ address in_atom. absurd (empty address in_atom); none = λ _. none }
-
-  pub at_one : (one : Addr) → IsInAtom (nets_in_either was is) net one → Found net (graph_of was one) (graph_of is one) part → IsAtAtom Found was is net part
-  at_one one in_one found = record {
-    found = λ address in_atom.
-        subst (λ (g : List StepValue). Found net g (graph_of is address) part) (was_same was is net one address in_one in_atom)
-        (subst (λ (g : List StepValue). Found net (graph_of was one) g part) (is_same was is net one address in_one in_atom) found);
-    none = λ empty. absurd (empty one in_one);
+module _ {Y : Type 0} (Found : Net → List StepValue → List StepValue → List Y → Type 0) (was is : Lists) (net : Net) (nets : List Net)
+    (nets_are : nets ≡ nets_in_either was is) (part : List Y) where
+  pub at_none : IsEmptyAtom nets net → part ≡ [] → IsAtAtom Found was is net part
+  at_none empty none = record {
+    found = λ address in_atom. absurd (empty address (subst (λ (ns : List Net). IsInAtom ns net address) (sym nets_are) in_atom));
+    none = λ _. none;
   }
+
+  at_each : (one other : Addr) → IsInAtom (nets_in_either was is) net one → IsInAtom (nets_in_either was is) net other
+      → Found net (graph_of was one) (graph_of is one) part → Found net (graph_of was other) (graph_of is other) part
+  at_each one other in_one in_other found =
+      subst (λ (g : List StepValue). Found net g (graph_of is other) part) (was_same was is net one other in_one in_other)
+      (subst (λ (g : List StepValue). Found net (graph_of was one) g part) (is_same was is net one other in_one in_other) found)
+
+  pub at_one : (one : Addr) (was_graph is_graph : List StepValue) → IsInAtom nets net one → was_graph ≡ graph_of was one → is_graph ≡ graph_of is one
+      → Found net was_graph is_graph part → IsAtAtom Found was is net part
+  at_one one was_graph is_graph in_one was_is is_is found =
+      let at_first : Found net (graph_of was one) (graph_of is one) part =
+      subst (λ (g : List StepValue). Found net g (graph_of is one) part) was_is (subst (λ (g : List StepValue). Found net was_graph g part) is_is found) in
+      record {
+        found = λ other in_other. at_each one other (subst (λ (ns : List Net). IsInAtom ns net one) nets_are in_one) in_other at_first;
+        none = λ empty. absurd (empty one (subst (λ (ns : List Net). IsInAtom ns net one) nets_are in_one));
+      }
