@@ -101,6 +101,7 @@ loop 10.1.0.0/16 at r1,r2
         HALF,
         "blackhole 10.0.0.0/8 at r2 from r1
 joint
+loop 10.0.0.0/8 at r1,r2
 ",
     ),
     (
