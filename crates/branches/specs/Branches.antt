@@ -1,5 +1,5 @@
 -- The branches of a run: studies that begin at the loaded database, each with a session of its own.
-use Rattle.std.specs.Prelude.{◌≡◌, ℕ, ◌==◌, if◌then◌else◌, IfSome, List, map, Option, None, Some, Result, IfOk, OnOk, OnErr}
+use Rattle.std.specs.Prelude.{◌≡◌, ℕ, ◌==◌, ◌||◌, Bool, is_some, if◌then◌else◌, IfSome, List, map, Option, None, Some, Result, IfOk, OnOk, OnErr}
 use Rattle.std.specs.Map.{lookup}
 use Rattle.std.specs.Ordering.{nat_cmp, eq_by_cmp}
 use Rattle.lsdb.specs.Lists.{Lists}
@@ -49,6 +49,10 @@ session_or_begin base (Some s) = s
 
 abbrev pub sessions_of : Named → Sessions
 sessions_of named = λ branch. if branch == 0 then named.first else session_or_begin named.first.base (lookup (eq_by_cmp nat_cmp branch) named.others)
+
+-- whether a branch has a planner
+abbrev pub has_planner : Named → ℕ → Bool
+has_planner named branch = (branch == 0) || is_some (lookup (eq_by_cmp nat_cmp branch) named.others)
 
 -- all began at one database
 abbrev pub HaveOneBase : Named → Type 0

@@ -8,8 +8,7 @@ ghost use Rattle.edit_history.specs.Session.{start, state};
 ghost use Rattle.routing_table.specs.Routers.{attached_routers};
 ghost use Rattle.saved_sessions.specs.Opening.{opened};
 ghost use Rattle.saved_sessions.specs.Saved.{saved_text};
-ghost use Rattle.branches.specs.Branches.{Steps, all_begin, resumed, sessions_of, stepped, with_session};
-ghost use Rattle.branches.specs.steps.Planners.{has_planner};
+ghost use Rattle.branches.specs.Branches.{Steps, all_begin, has_planner, resumed, sessions_of, stepped, with_session};
 ghost use Rattle.branches.specs.Replies.{reply_text, reply_to, is_refusal, takes_memory, tables_head, router_text, router_texts};
 
 use crate::commands::{execute, push_table_now, routers_with_table};
@@ -222,6 +221,39 @@ impl<A: Allocator + Copy> Branches<A> {
         Ok(())
     }
 
+    /// Gives a branch, 0 to 7, a planner if it has none: [`planner`](Branches::planner) lends it.
+    /// All sessions stay, even where memory ran out.
+    ///
+    /// # Errors
+    ///
+    /// Memory ran out.
+    pub fn prepare(&mut self, branch: u8) -> Result<(), AllocError>
+        requires { branch < 8 }
+        ensures ready { OnOk result (has_planner self.new branch ≡ true) }
+        ensures kept { sessions_of self.new ≡ sessions_of self.old }
+    {
+        if branch == 0 || self.others.contains_key(&branch) {
+            return Ok(());
+        }
+        let planner = self.begun()?;
+        self.name(branch, planner)
+    }
+
+    /// The planner of a branch that has one: of branch 0, and of another after
+    /// [`prepare`](Branches::prepare).
+    pub fn planner(&self, branch: u8) -> &Planner<A>
+        requires { has_planner self.now branch ≡ true }
+        ensures { result.now.session ≡ sessions_of self.now branch }
+    {
+        if branch == 0 {
+            return &self.first;
+        }
+        match self.others.get(&branch) {
+            Some(planner) => planner,
+            None => &self.first,
+        }
+    }
+
     /// A planner at the beginning of all branches.
     fn begun(&mut self) -> Result<Planner<A>, AllocError>
         ensures begun { IfOk result (λ planner. planner.session ≡ start self.old.first.base) }
@@ -237,6 +269,7 @@ impl<A: Allocator + Copy> Branches<A> {
         requires base { planner.session.base ≡ self.old.first.base }
         ensures sessions { OnOk result (sessions_of self.new
             ≡ with_session branch planner.session (sessions_of self.old)) }
+        ensures named { OnOk result (has_planner self.new branch ≡ true) }
         ensures kept { OnErr result (self.new ≡ self.old) }
     {
         self.others.insert(branch, planner)?;
