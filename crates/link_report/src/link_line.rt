@@ -143,7 +143,16 @@ fn push_links_in_areas<A: Allocator + Copy>(
 {
     for area in areas {
         let ages = Ages::Live;
-        push_links(lines, alloc, &Place { database, ages, area, router })?;
+        push_links(
+            lines,
+            alloc,
+            &Place {
+                database,
+                ages,
+                area,
+                router,
+            },
+        )?;
     }
     Ok(())
 }
