@@ -94,7 +94,7 @@ fn summary_prefix<A: Allocator + Copy>(lsa: &Lsa<A>) -> Option<Prefix>
 }
 
 /// The prefix of an LSA, if it is a live AS-external-LSA whose metric is below LSInfinity.
-pub(crate) fn external_prefix<A: Allocator + Copy>(lsa: &Lsa<A>) -> Option<Prefix>
+fn external_prefix<A: Allocator + Copy>(lsa: &Lsa<A>) -> Option<Prefix>
     ensures { result ≡ external_prefix lsa.now }
 {
     let view = lsa.external()?;

@@ -11,9 +11,6 @@ mod gather;
 // The prefixes that LSAs announce.
 mod announced;
 
-// The prefixes for which a router has entries.
-mod entries;
-
 // What a router has lost, and what all routers have.
 mod lost;
 mod pairs;
@@ -22,7 +19,6 @@ mod pairs;
 mod laws;
 
 pub use announced::Announced;
-pub use entries::Entries;
-pub use laws::{entries_are_matched, missing_is_lost_or_gone, nothing_is_missing};
+pub use laws::{missing_is_lost_or_gone, nothing_is_missing};
 pub use lost::LostRoutes;
 pub use pairs::{LostPair, LostPairs};

@@ -5,9 +5,9 @@ ghost use Rattle.std.specs.Option.{option_copied};
 ghost use Rattle.table_changes.specs.Changes.{change_between, change_of, leads_elsewhere, same_way};
 
 use crate::change::Change;
-use crate::entry::Entry;
 use crate::equality::{are_equal_hops, has_hop, is_same_kind};
 use next_hops::Hop;
+use router_entries::Entry;
 use std::alloc::Allocator;
 use std::cmp::Ordering;
 use std::collections::BTreeSet;

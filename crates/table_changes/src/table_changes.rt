@@ -7,11 +7,10 @@ ghost use Rattle.table_changes.specs.Changes.{change_at, changes_of, count_of, n
 
 use crate::change::{Change, PrefixChange};
 use crate::comparing::change_of;
-use crate::entries::Entries;
 use crate::equality::is_same_change;
-use crate::walk::Walk;
 use lsa_codec::Prefix;
 use next_hops::Hop;
+use router_entries::{Entries, EntryWalk};
 use std::alloc::{AllocError, Allocator, Global};
 use std::collections::BTreeSet;
 use std::marker::Model;
@@ -76,7 +75,7 @@ fn changes_at<A: Allocator + Copy>(
         ≡ filter_map (change_at rerouted.now.keys before.now now.now) nets.now) }
 {
     let mut changes = Vec::new(alloc);
-    let (mut earlier, mut present) = (Walk::of(before), Walk::of(now));
+    let (mut earlier, mut present) = (EntryWalk::of(before), EntryWalk::of(now));
     for net in nets {
         let had = earlier.entry_for(*net);
         let has = present.entry_for(*net);
