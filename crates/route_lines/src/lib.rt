@@ -9,7 +9,7 @@
 mod part;
 
 // Routes.
-mod own_external;
+mod own_source;
 mod route_line;
 mod route_source;
 mod route_text;
@@ -24,7 +24,7 @@ mod path_step;
 mod path_text;
 mod step_text;
 
-pub use own_external::OwnExternal;
+pub use own_source::OwnSource;
 pub use part::push_lines;
 pub use path::Path;
 pub use path_end::PathEnd;
