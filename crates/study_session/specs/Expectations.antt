@@ -1,7 +1,147 @@
 -- The answers to expectations.
-use Rattle.std.specs.Prelude.{ℕ, Bool, true, false}
-use Rattle.study_script.specs.Expected.{Expected}
-use Rattle.study_session.specs.Answers.{AnswerValue, Study}
+use Rattle.std.specs.Prelude.{◌≡◌, ◌↔◌, ℕ, ◌==◌, ◌||◌, ◌&&◌, Bool, true, false, List, ◌++◌, length, map, Option, None, Some, codes, decimal}
+use Rattle.std.specs.List.{list_all}
+use Rattle.std.specs.Option.{option_map_or}
+use Rattle.lsa_codec.specs.Prefix.{Net}
+use Rattle.lsa_codec.specs.declared.address.Addr.{Addr}
+use Rattle.lsa_codec.specs.declared.address.RouterId.{RouterId}
+use Rattle.lsdb.specs.Lists.{Lists}
+use Rattle.branches.specs.Branches.{before_last}
+use Rattle.study_words.specs.declared.route_kind.RouteKind.{RouteKind}
+use Rattle.study_script.specs.declared.condition.Bound.{Bound}
+use Rattle.study_script.specs.declared.condition.Passing.{Passing}
+use Rattle.study_script.specs.declared.condition.Passing.TheVariants as passing
+use Rattle.study_script.specs.Expected.{Expected, route, no_route, hops, path, lost, gone, no_loops, no_microloops, no_blackholes, same, few_changes}
+use Rattle.study_text.specs.Lists.{first_three}
+use Rattle.study_text.specs.Shown.{Called}
+use Rattle.forwarding.specs.Matches.{router_in}
+use Rattle.route_lines.specs.PathLines.{PathValue}
+use Rattle.route_lines.specs.PathTexts.{through_text}
+use Rattle.route_lines.specs.RouteLines.{RouteLineValue}
+use Rattle.route_report.specs.Expected.{found_text, has_route, hops_of, meets}
+use Rattle.route_report.specs.Lines.{line_for}
+use Rattle.route_report.specs.Passing.{Holds}
+use Rattle.route_report.specs.Paths.{IsPath}
+use Rattle.loop_report.specs.Blackholes.{AreNewBlackholes, BlackholeValue}
+use Rattle.loop_report.specs.Loops.{AreJointLoops, AreLoopsNow, LoopValue}
+use Rattle.loop_report.specs.Parts.{AreAtAtoms}
+use Rattle.loop_report.specs.Texts.{blackhole_text, loop_text}
+use Rattle.study_session.specs.Answers.{AnswerValue, Study, database_in, failed_answer, held_answer, refused_answer}
+use Rattle.study_session.specs.Questions.{count_or_one, is_attached, no_router, too_few_done}
 
+-- ---- verdicts
+
+-- what is found of a condition: whether it holds, and the text of what was found; or why nothing can be said, by a code and a name
+pub data VerdictValue : Type 0 where
+  unknown : List ℕ × List ℕ → VerdictValue
+  found : Bool → List ℕ → VerdictValue
+
+-- the condition has to hold, or must not
+abbrev pub by_holding : ℕ → List ℕ → Bool → Bool → AnswerValue
+by_holding branch text true true = failed_answer branch text
+by_holding branch text true false = held_answer branch
+by_holding branch text false true = held_answer branch
+by_holding branch text false false = failed_answer branch text
+
+abbrev pub verdict_answer : ℕ → Bool → VerdictValue → AnswerValue
+verdict_answer branch is_not (unknown texts) = refused_answer branch texts
+verdict_answer branch is_not (found holds text) = by_holding branch text is_not holds
+
+-- ---- routers that a condition names
+
+-- attached in one of two databases
+abbrev pub is_known : Lists → Lists → RouterId → Bool
+is_known baseline db router = is_attached db router || is_attached baseline router
+
+abbrev pub are_known : Lists → Lists → Option (List RouterId) → Bool
+are_known baseline db routers = option_map_or (λ those. list_all (is_known baseline db) those) routers true
+
+-- the router that walks have to pass, or must not
+abbrev pub is_known_passing : Lists → Lists → Passing → Bool
+is_known_passing baseline db (passing.Via router) = is_known baseline db router
+is_known_passing baseline db (passing.Avoids router) = is_known baseline db router
+is_known_passing baseline db passing.Delivered = true
+
+abbrev pub unless_no_router : Bool → VerdictValue → VerdictValue
+unless_no_router true verdict = verdict
+unless_no_router false verdict = unknown no_router
+
+abbrev pub IfRouter : Bool → VerdictValue → Type 0 → Type 0
+IfRouter true verdict P = P
+IfRouter false verdict P = verdict ≡ unknown no_router
+
+-- ---- conditions
+
+abbrev pub is_none : {X : Type 0} → List X → Bool
+is_none xs = length xs == 0
+
+abbrev pub is_none_of : {X : Type 0} → Option X → Bool
+is_none_of None = true
+is_none_of (Some x) = false
+
+-- after a word, the number of things, and the first of them
+abbrev pub counted_text : List ℕ → List (List ℕ) → List ℕ
+counted_text word texts = word ++ codes " " ++ decimal (length texts) ++ first_three texts
+
+-- what a router uses for exactly a prefix
+abbrev pub route_in : Lists → RouterId → Net → Option RouteLineValue
+route_in db router net = line_for db (router_in db router) net
+
+abbrev pub route_found : Called → Bool → Option RouteLineValue → VerdictValue
+route_found called holds line = found holds (found_text called line)
+
+abbrev pub no_route_verdict : Called → Lists → RouterId → Net → VerdictValue
+no_route_verdict called db router net =
+    unless_no_router (is_attached db router) (route_found called (is_none_of (route_in db router net)) (route_in db router net))
+
+abbrev pub hops_verdict : Lists → RouterId → Net → Bound → VerdictValue
+hops_verdict db router net bound =
+    unless_no_router (is_attached db router)
+    (found (meets bound (hops_of (route_in db router net))) (codes "hops " ++ decimal (hops_of (route_in db router net))))
+
+abbrev pub loops_found : Called → List ℕ → List LoopValue → VerdictValue
+loops_found called word loops = found (is_none loops) (counted_text word (map (loop_text called) loops))
+
+module _ (called : Called) (baseline db : Lists) where
+  abbrev pub route_verdict : RouterId → Net → Option RouteKind → Option (List RouterId) → Option Bound → VerdictValue
+  route_verdict router net kind via cost =
+      unless_no_router (is_attached db router && are_known baseline db via)
+      (route_found called (has_route kind via cost (route_in db router net)) (route_in db router net))
+
+  abbrev pub IsPathVerdict : RouterId → Addr → Passing → VerdictValue → Type 0
+  IsPathVerdict router address through verdict = IfRouter (is_attached db router && is_known_passing baseline db through) verdict
+      ((walked : PathValue) × (holds : Bool) × IsPath db router address walked × ((holds ≡ true) ↔ Holds db router address walked through)
+      × (verdict ≡ found holds (through_text called walked)))
+
+  abbrev pub IsLoopsVerdict : VerdictValue → Type 0
+  IsLoopsVerdict verdict = (loops : List LoopValue) × AreAtAtoms AreLoopsNow baseline db loops × (verdict ≡ loops_found called (codes "loops") loops)
+
+  abbrev pub IsBlackholesVerdict : VerdictValue → Type 0
+  IsBlackholesVerdict verdict =
+      (holes : List BlackholeValue) × AreAtAtoms AreNewBlackholes baseline db holes
+      × (verdict ≡ found (is_none holes) (counted_text (codes "blackholes") (map (blackhole_text called) holes)))
+
+-- by the database before the last edits; where fewer edits are done, there is none
+abbrev pub IsMicroloopsVerdict : Called → Lists → Option Lists → VerdictValue → Type 0
+IsMicroloopsVerdict called db None verdict = verdict ≡ unknown too_few_done
+IsMicroloopsVerdict called db (Some before) verdict =
+    (loops : List LoopValue) × AreAtAtoms AreJointLoops before db loops × (verdict ≡ loops_found called (codes "microloops") loops)
+
+-- what is found of a condition in a branch
+abbrev pub IsVerdict : Study → ℕ → Expected → VerdictValue → Type 0
+IsVerdict s branch (route router net kind via cost) verdict =
+    verdict ≡ route_verdict s.called s.baseline (database_in s branch) router net kind via cost
+IsVerdict s branch (no_route router net) verdict = verdict ≡ no_route_verdict s.called (database_in s branch) router net
+IsVerdict s branch (hops router net bound) verdict = verdict ≡ hops_verdict (database_in s branch) router net bound
+IsVerdict s branch (path router address through) verdict =
+    IsPathVerdict s.called s.baseline (database_in s branch) router address through verdict
+IsVerdict s branch no_loops verdict = IsLoopsVerdict s.called s.baseline (database_in s branch) verdict
+IsVerdict s branch (no_microloops count) verdict =
+    IsMicroloopsVerdict s.called (database_in s branch) (before_last (count_or_one count) (s.sessions branch)) verdict
+IsVerdict s branch no_blackholes verdict = IsBlackholesVerdict s.called s.baseline (database_in s branch) verdict
+IsVerdict s branch other verdict = Unit
+
+-- the answer to an expectation
 abbrev pub IsExpectationAnswer : Study → ℕ → Bool → Expected → AnswerValue → Type 0
-IsExpectationAnswer s branch is_not what answer = Unit
+IsExpectationAnswer s branch is_not what answer =
+    (verdict : VerdictValue) × IsVerdict s branch what verdict × (answer ≡ verdict_answer branch is_not verdict)

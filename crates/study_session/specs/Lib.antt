@@ -4,3 +4,4 @@ pub mod NamedCommands
 pub mod Questions
 pub mod Expectations
 pub mod Lines
+pub mod steps

@@ -1,24 +1,35 @@
 -- The answers to questions.
-use Rattle.std.specs.Prelude.{◌≡◌, ℕ, ◌==◌, Bool, true, false, List, [], ◌∷◌, ◌++◌, length, Option, None, Some, codes}
+use Rattle.std.specs.Prelude.{◌≡◌, ℕ, ◌==◌, Bool, true, false, List, [], ◌∷◌, ◌++◌, ◌+◌, length, Option, None, Some, codes}
 use Rattle.std.specs.List.{list_any}
+use Rattle.lsa_codec.specs.declared.address.Addr.{Addr}
 use Rattle.lsa_codec.specs.declared.address.RouterId.{RouterId}
 use Rattle.lsdb.specs.Lists.{Lists}
-use Rattle.edit_history.specs.Session.{Session, state}
+use Rattle.edit_history.specs.Session.{Session}
 use Rattle.routing_table.specs.Routers.{attached_routers}
 use Rattle.saved_sessions.specs.Lines.{lines_of}
 use Rattle.study_words.specs.declared.see_word.SeeWord.TheVariants as words
 use Rattle.study_script.specs.declared.question.Question.{Question}
 use Rattle.study_script.specs.declared.question.Question.TheVariants as question
 use Rattle.study_text.specs.Shown.{Called}
-use Rattle.link_report.specs.Areas.{used_areas}
 use Rattle.link_report.specs.Links.{LinkValue, links_of_routers}
 use Rattle.link_report.specs.LinkTexts.{link_lines}
 use Rattle.link_report.specs.Networks.{network_values}
 use Rattle.link_report.specs.NetworkTexts.{network_lines}
 use Rattle.link_report.specs.Routers.{router_values}
 use Rattle.link_report.specs.RouterTexts.{router_lines}
+use Rattle.branches.specs.Branches.{before_last}
+use Rattle.route_lines.specs.RouteLines.{RouteLineValue}
+use Rattle.route_lines.specs.RouteTexts.{routes_text}
+use Rattle.route_lines.specs.PathLines.{PathValue}
+use Rattle.route_lines.specs.PathTexts.{ends_text, path_text}
+use Rattle.route_report.specs.Lines.{routes_of}
+use Rattle.route_report.specs.Paths.{IsPath}
+use Rattle.loop_report.specs.Blackholes.{AreNewBlackholes, BlackholeValue}
+use Rattle.loop_report.specs.Loops.{AreJointLoops, AreLoopsNow, LoopValue}
+use Rattle.loop_report.specs.Parts.{AreAtAtoms}
+use Rattle.loop_report.specs.Texts.{blackhole_lines, loop_lines}
 use Rattle.study_session.specs.Answers.{AnswerValue, Study, accepted_answer, database_in, refused_answer}
-use Rattle.study_session.specs.Texts.{head_of, number_after, router_after}
+use Rattle.study_session.specs.Texts.{address_after, head_of, number_after, router_after}
 
 -- ---- routers that a line names
 
@@ -34,6 +45,20 @@ unless_unknown branch true answer = answer
 unless_unknown branch false answer = refused_answer branch no_router
 
 -- ---- the answers
+
+-- the same of an answer that has a property
+abbrev pub IfKnown : ℕ → Bool → AnswerValue → Type 0 → Type 0
+IfKnown branch true answer P = P
+IfKnown branch false answer P = answer ≡ refused_answer branch no_router
+
+-- fewer edits are done
+abbrev pub too_few_done : List ℕ × List ℕ
+too_few_done = (codes "U1", codes "NothingToUndo")
+
+-- the number of edits that a line names; 1 where it names none
+abbrev pub count_or_one : Option ℕ → ℕ
+count_or_one None = 1
+count_or_one (Some count) = count
 
 -- what the words see of a database, in a branch
 module _ (called : Called) (branch : ℕ) (db : Lists) where
@@ -54,6 +79,49 @@ module _ (called : Called) (branch : ℕ) (db : Lists) where
   links_answer None = accepted_answer (links_text None (links_of_routers db (attached_routers db)))
   links_answer (Some router) = unless_unknown branch (is_attached db router) (accepted_answer (links_text (Some router) (links_of_routers db (router ∷ []))))
 
+  -- what a router uses, after the router and the address that the line names
+  abbrev pub routes_reply : RouterId → Option Addr → List RouteLineValue → List ℕ
+  routes_reply router address lines =
+      head_of branch words.Routes ++ router_after called (Some router) ++ address_after address ++ number_after (length lines) ++ codes "\n"
+      ++ routes_text called lines
+
+  abbrev pub routes_answer : RouterId → Option Addr → AnswerValue
+  routes_answer router address =
+      unless_unknown branch (is_attached db router) (accepted_answer (routes_reply router address (routes_of db router address)))
+
+  -- what becomes of a packet, after the router and the address
+  abbrev pub path_reply : RouterId → Addr → PathValue → List ℕ
+  path_reply router address path =
+      head_of branch words.Path ++ router_after called (Some router) ++ address_after (Some address)
+      ++ number_after (length path.steps + length path.loops) ++ codes " " ++ ends_text path.ends ++ codes "\n" ++ path_text called path
+
+  abbrev pub IsPathAnswer : RouterId → Addr → AnswerValue → Type 0
+  IsPathAnswer router address answer = IfKnown branch (is_attached db router) answer
+      ((path : PathValue) × IsPath db router address path × (answer ≡ accepted_answer (path_reply router address path)))
+
+  -- loops, and new blackholes
+  abbrev pub loops_reply : List LoopValue → List BlackholeValue → List ℕ
+  loops_reply loops holes =
+      head_of branch words.Loops ++ number_after (length loops + length holes) ++ codes " loops" ++ number_after (length loops)
+      ++ codes " blackholes" ++ number_after (length holes) ++ codes "\n" ++ loop_lines called loops ++ blackhole_lines called holes
+
+  abbrev pub IsLoopsAnswer : Lists → AnswerValue → Type 0
+  IsLoopsAnswer baseline answer =
+      (loops : List LoopValue) × (holes : List BlackholeValue)
+      × AreAtAtoms AreLoopsNow baseline db loops × AreAtAtoms AreNewBlackholes baseline db holes
+      × (answer ≡ accepted_answer (loops_reply loops holes))
+
+  -- what may loop while routers change over the last edits
+  abbrev pub microloops_reply : ℕ → List LoopValue → List ℕ
+  microloops_reply count loops =
+      head_of branch words.Microloops ++ number_after count ++ number_after (length loops) ++ codes "\n" ++ loop_lines called loops
+
+  -- by the database before them; where fewer edits are done, there is none
+  abbrev pub IsMicroloopsAnswer : ℕ → Option Lists → AnswerValue → Type 0
+  IsMicroloopsAnswer count None answer = answer ≡ refused_answer branch too_few_done
+  IsMicroloopsAnswer count (Some before) answer =
+      (loops : List LoopValue) × AreAtAtoms AreJointLoops before db loops × (answer ≡ accepted_answer (microloops_reply count loops))
+
 -- the done edits, each spelled in its one way
 abbrev pub log_answer : ℕ → Session → AnswerValue
 log_answer branch s = accepted_answer (head_of branch words.Log ++ number_after (length s.done) ++ codes "\n" ++ lines_of s.done)
@@ -63,5 +131,10 @@ abbrev pub IsQuestionAnswer : Study → ℕ → Question → AnswerValue → Typ
 IsQuestionAnswer s branch question.Routers answer = answer ≡ routers_answer s.called branch (database_in s branch)
 IsQuestionAnswer s branch (question.Links router) answer = answer ≡ links_answer s.called branch (database_in s branch) router
 IsQuestionAnswer s branch question.Networks answer = answer ≡ networks_answer s.called branch (database_in s branch)
+IsQuestionAnswer s branch (question.Routes router address) answer = answer ≡ routes_answer s.called branch (database_in s branch) router address
+IsQuestionAnswer s branch (question.Path router address) answer = IsPathAnswer s.called branch (database_in s branch) router address answer
+IsQuestionAnswer s branch question.Loops answer = IsLoopsAnswer s.called branch (database_in s branch) s.baseline answer
+IsQuestionAnswer s branch (question.Microloops count) answer =
+    IsMicroloopsAnswer s.called branch (database_in s branch) (count_or_one count) (before_last (count_or_one count) (s.sessions branch)) answer
 IsQuestionAnswer s branch question.Log answer = answer ≡ log_answer branch (s.sessions branch)
 IsQuestionAnswer s branch other answer = Unit

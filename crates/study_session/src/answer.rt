@@ -82,6 +82,41 @@ impl<A: Allocator + Copy> Answer<A> {
         })
     }
 
+    /// An expectation that holds.
+    pub(crate) fn held(alloc: A, branch: u8) -> Result<Answer<A>, AllocError>
+        ensures { IfOk result (λ answer. answer ≡ held_answer branch) }
+    {
+        let mut text = Vec::new(alloc);
+        push_mark(&mut text, branch)?;
+        push_word(&mut text, "ok\n")?;
+        Ok(Answer {
+            text,
+            outcome: Outcome::Accepted,
+            error: Vec::new(alloc),
+            is_expectation: true,
+        })
+    }
+
+    /// An expectation that does not hold, by what was found.
+    pub(crate) fn failed(alloc: A, branch: u8, found: &[u8]) -> Result<Answer<A>, AllocError>
+        ensures { IfOk result (λ answer. answer ≡ failed_answer branch found.now) }
+    {
+        let mut text = Vec::new(alloc);
+        push_mark(&mut text, branch)?;
+        push_word(&mut text, "failed ")?;
+        text.extend_from_slice(found)?;
+        push_word(&mut text, "\n")?;
+        let mut error = Vec::new(alloc);
+        push_word(&mut error, "failed ")?;
+        error.extend_from_slice(found)?;
+        Ok(Answer {
+            text,
+            outcome: Outcome::Failed,
+            error,
+            is_expectation: true,
+        })
+    }
+
     /// A line that has a fault.
     pub(crate) fn faulty(alloc: A, fault: Fault<'_>) -> Result<Answer<A>, AllocError>
         ensures { IfOk result (λ answer. answer ≡ fault_answer (fault_at fault.entry)) }

@@ -9,13 +9,24 @@
 mod answer;
 mod text;
 
-// What lines ask for.
+// Commands.
 mod link_edit;
-mod links;
-mod log;
 mod named;
 mod plan;
+
+// Questions.
+mod known;
+mod links;
+mod log;
+mod loops;
 mod questions;
+mod routes;
+
+// Expectations.
+mod conditions;
+mod expectations;
+mod loop_conditions;
+mod verdict;
 
 // Lines, one after another.
 mod session;

@@ -3,10 +3,10 @@
 ghost use Rattle.std.specs.Prelude.{◌≡◌, IfOk};
 ghost use Rattle.network_names.specs.Names.{called};
 ghost use Rattle.lsdb.specs.Slots.{lists_of};
-ghost use Rattle.study_session.specs.Questions.{is_attached, links_answer, links_text, networks_answer, no_router, routers_answer};
-ghost use Rattle.study_session.specs.Answers.{refused_answer};
+ghost use Rattle.study_session.specs.Questions.{links_answer, links_text, networks_answer, routers_answer};
 
 use crate::answer::Answer;
+use crate::known::{is_attached, no_router};
 use crate::text::{head, push_number_after, push_router_after, push_word};
 use link_report::{
     LinkLine, link_lines, network_lines, push_link_lines, push_network_lines, push_router_lines,
@@ -18,28 +18,6 @@ use network_names::Names;
 use routing_table::routers;
 use std::alloc::{AllocError, Allocator};
 use study_words::SeeWord;
-
-/// Whether a router is attached to an area of a database.
-pub(crate) fn is_attached<A: Allocator + Copy>(
-    alloc: A,
-    database: &Database<A>,
-    router: RouterId,
-) -> Result<bool, AllocError>
-    ensures { IfOk result (λ known. known ≡ is_attached (lists_of database.now) router) }
-{
-    let all = routers(alloc, database)?;
-    Ok(all.iter().any(|other| *other == router))
-}
-
-/// The answer to a line that names a router which is not attached.
-pub(crate) fn no_router<A: Allocator + Copy>(
-    alloc: A,
-    branch: u8,
-) -> Result<Answer<A>, AllocError>
-    ensures { IfOk result (λ answer. answer ≡ refused_answer branch no_router) }
-{
-    Answer::refused(alloc, branch, "N1", "NoRouter")
-}
 
 /// The answer to `routers`.
 pub(crate) fn routers_answer<A: Allocator + Copy>(

@@ -4,12 +4,12 @@ ghost use Rattle.std.specs.Prelude.{◌≡◌, ◌<◌, IfOk};
 ghost use Rattle.branches.specs.Branches.{sessions_of};
 ghost use Rattle.study_session.specs.Answers.{study_by};
 ghost use Rattle.study_session.specs.Questions.{IsQuestionAnswer};
-ghost use Rattle.lsdb.specs.Slots.{lists_of};
-ghost use Rattle.network_names.specs.Names.{called, stands_for};
 
 use crate::answer::Answer;
 use crate::links::{links_answer, networks_answer, routers_answer};
 use crate::log::log;
+use crate::loops::{loops_answer, microloops_answer};
+use crate::routes::{path_answer, routes_answer};
 use branches::Branches;
 use lsdb::Database;
 use network_names::Names;
@@ -30,13 +30,23 @@ pub(crate) fn question<A: Allocator + Copy>(
         (study_by (sessions_of branches.old) baseline.now names.now) branch question.now) }
     ensures kept { sessions_of branches.new ≡ sessions_of branches.old }
 {
+    if let Question::Microloops(count) = *question {
+        return microloops_answer(alloc, branches, names, branch, count.unwrap_or(1));
+    }
     branches.prepare(branch)?;
     let planner = branches.planner(branch);
-    let database = planner.database();
+    let now = planner.database();
     match *question {
-        Question::Routers => routers_answer(alloc, names, branch, database),
-        Question::Links(router) => links_answer(alloc, names, branch, database, router),
-        Question::Networks => networks_answer(alloc, names, branch, database),
+        Question::Routers => routers_answer(alloc, names, branch, now),
+        Question::Links(router) => links_answer(alloc, names, branch, now, router),
+        Question::Networks => networks_answer(alloc, names, branch, now),
+        Question::Routes { router, address } => {
+            routes_answer(alloc, names, branch, now, (router, address))
+        }
+        Question::Path { router, address } => {
+            path_answer(alloc, names, branch, now, (router, address))
+        }
+        Question::Loops => loops_answer(alloc, names, branch, baseline, now),
         _ => log(alloc, branch, planner),
     }
 }

@@ -1,15 +1,14 @@
 //! The session of a study.
 
 ghost use Rattle.std.specs.Prelude.{◌≡◌, ◌<◌, IfOk, OnOk};
-ghost use Rattle.lsdb.specs.Slots.{lists_of};
 ghost use Rattle.lsdb.specs.Text.{text};
 ghost use Rattle.branches.specs.Branches.{sessions_of};
-ghost use Rattle.network_names.specs.Names.{called, stands_for};
 ghost use Rattle.study_script.specs.Line.{asked};
 ghost use Rattle.study_session.specs.Answers.{database_in, study_by, study_of};
 ghost use Rattle.study_session.specs.Lines.{IsAnswerIn, IsAnswerTo, after_line, sessions_in};
 
 use crate::answer::Answer;
+use crate::expectations::expectation;
 use crate::named::named;
 use crate::plan::plan;
 use crate::questions::question;
@@ -49,7 +48,7 @@ fn carry_out<A: Allocator + Copy>(
         StudyCommand::Plan(command) => plan(alloc, branches, branch, command),
         StudyCommand::Named(command) => named(alloc, branches, names, branch, command),
         StudyCommand::See(asked) => question(alloc, branches, baseline, names, branch, asked),
-        StudyCommand::Expect(_) => question(alloc, branches, baseline, names, branch, &study_script::Question::Log),
+        StudyCommand::Expect(what) => expectation(alloc, branches, baseline, names, branch, what),
     }
 }
 

@@ -3,12 +3,12 @@
 ghost use Rattle.std.specs.Prelude.{◌≡◌, ◌++◌, IfOk, OnOk};
 ghost use Rattle.network_names.specs.Names.{called};
 ghost use Rattle.branches.specs.Replies.{mark_of};
-ghost use Rattle.study_session.specs.Texts.{head_of, number_after, router_after};
+ghost use Rattle.study_session.specs.Texts.{address_after, head_of, number_after, router_after};
 
-use lsa_codec::RouterId;
+use lsa_codec::{Addr, RouterId};
 use network_names::Names;
 use std::alloc::{AllocError, Allocator};
-use study_text::{push_number, push_router};
+use study_text::{push_address, push_number, push_router};
 use study_words::{SeeWord, Word};
 
 /// Adds a word.
@@ -60,6 +60,22 @@ pub(crate) fn push_router_after<A: Allocator + Copy>(
         Some(router) => {
             push_word(text, " ")?;
             push_router(text, names, router)
+        }
+        None => Ok(()),
+    }
+}
+
+/// Adds the address that a line names, if it names one.
+pub(crate) fn push_address_after<A: Allocator + Copy>(
+    text: &mut Vec<u8, A>,
+    address: Option<Addr>,
+) -> Result<(), AllocError>
+    ensures { OnOk result (text.new.items ≡ text.old.items ++ address_after address) }
+{
+    match address {
+        Some(address) => {
+            push_word(text, " ")?;
+            push_address(text, address)
         }
         None => Ok(()),
     }
