@@ -260,11 +260,7 @@ impl<A: Allocator + Copy> Branches<A> {
     /// # Errors
     ///
     /// Memory ran out.
-    pub fn before_last(
-        &mut self,
-        branch: u8,
-        count: u32,
-    ) -> Result<Option<Database<A>>, AllocError>
+    pub fn before_last(&mut self, branch: u8, count: u32) -> Result<Option<Database<A>>, AllocError>
         requires { branch < 8 }
         ensures database { IfOk result (λ database. option_map lists_of database
             ≡ before_last count (sessions_of self.old branch)) }

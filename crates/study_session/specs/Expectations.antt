@@ -6,6 +6,7 @@ use Rattle.lsa_codec.specs.Prefix.{Net}
 use Rattle.lsa_codec.specs.declared.address.Addr.{Addr}
 use Rattle.lsa_codec.specs.declared.address.RouterId.{RouterId}
 use Rattle.lsdb.specs.Lists.{Lists}
+use Rattle.edit_history.specs.Session.{Session, state}
 use Rattle.branches.specs.Branches.{before_last}
 use Rattle.study_words.specs.declared.route_kind.RouteKind.{RouteKind}
 use Rattle.study_script.specs.declared.condition.Bound.{Bound}
@@ -26,7 +27,7 @@ use Rattle.loop_report.specs.Blackholes.{AreNewBlackholes, BlackholeValue}
 use Rattle.loop_report.specs.Loops.{AreJointLoops, AreLoopsNow, LoopValue}
 use Rattle.loop_report.specs.Parts.{AreAtAtoms}
 use Rattle.loop_report.specs.Texts.{blackhole_text, loop_text}
-use Rattle.study_session.specs.Answers.{AnswerValue, Study, database_in, failed_answer, held_answer, refused_answer}
+use Rattle.study_session.specs.Answers.{AnswerValue, failed_answer, held_answer, refused_answer}
 use Rattle.study_session.specs.Questions.{count_or_one, is_attached, no_router, too_few_done}
 
 -- ---- verdicts
@@ -127,21 +128,18 @@ IsMicroloopsVerdict called db None verdict = verdict ≡ unknown too_few_done
 IsMicroloopsVerdict called db (Some before) verdict =
     (loops : List LoopValue) × AreAtAtoms AreJointLoops before db loops × (verdict ≡ loops_found called (codes "microloops") loops)
 
--- what is found of a condition in a branch
-abbrev pub IsVerdict : Study → ℕ → Expected → VerdictValue → Type 0
-IsVerdict s branch (route router net kind via cost) verdict =
-    verdict ≡ route_verdict s.called s.baseline (database_in s branch) router net kind via cost
-IsVerdict s branch (no_route router net) verdict = verdict ≡ no_route_verdict s.called (database_in s branch) router net
-IsVerdict s branch (hops router net bound) verdict = verdict ≡ hops_verdict (database_in s branch) router net bound
-IsVerdict s branch (path router address through) verdict =
-    IsPathVerdict s.called s.baseline (database_in s branch) router address through verdict
-IsVerdict s branch no_loops verdict = IsLoopsVerdict s.called s.baseline (database_in s branch) verdict
-IsVerdict s branch (no_microloops count) verdict =
-    IsMicroloopsVerdict s.called (database_in s branch) (before_last (count_or_one count) (s.sessions branch)) verdict
-IsVerdict s branch no_blackholes verdict = IsBlackholesVerdict s.called s.baseline (database_in s branch) verdict
-IsVerdict s branch other verdict = Unit
+-- what is found of a condition in a branch with this session
+abbrev pub IsVerdict : Called → Lists → Session → Expected → VerdictValue → Type 0
+IsVerdict called baseline s (route router net kind via cost) verdict = verdict ≡ route_verdict called baseline (state s) router net kind via cost
+IsVerdict called baseline s (no_route router net) verdict = verdict ≡ no_route_verdict called (state s) router net
+IsVerdict called baseline s (hops router net bound) verdict = verdict ≡ hops_verdict (state s) router net bound
+IsVerdict called baseline s (path router address through) verdict = IsPathVerdict called baseline (state s) router address through verdict
+IsVerdict called baseline s no_loops verdict = IsLoopsVerdict called baseline (state s) verdict
+IsVerdict called baseline s (no_microloops count) verdict = IsMicroloopsVerdict called (state s) (before_last (count_or_one count) s) verdict
+IsVerdict called baseline s no_blackholes verdict = IsBlackholesVerdict called baseline (state s) verdict
+IsVerdict called baseline s other verdict = Unit
 
 -- the answer to an expectation
-abbrev pub IsExpectationAnswer : Study → ℕ → Bool → Expected → AnswerValue → Type 0
-IsExpectationAnswer s branch is_not what answer =
-    (verdict : VerdictValue) × IsVerdict s branch what verdict × (answer ≡ verdict_answer branch is_not verdict)
+abbrev pub IsExpectationAnswer : Called → Lists → ℕ → Session → Bool → Expected → AnswerValue → Type 0
+IsExpectationAnswer called baseline branch s is_not what answer =
+    (verdict : VerdictValue) × IsVerdict called baseline s what verdict × (answer ≡ verdict_answer branch is_not verdict)

@@ -25,8 +25,8 @@ fault_answer fault = record {
 abbrev pub IsAnswerIn : Study → ℕ → Asked → AnswerValue → Type 0
 IsAnswerIn s branch (plan c) answer = answer ≡ plan_answer branch (reply_to (s.sessions branch) c)
 IsAnswerIn s branch (named c) answer = answer ≡ named_answer s.called (s.sessions branch) branch c
-IsAnswerIn s branch (see question) answer = IsQuestionAnswer s branch question answer
-IsAnswerIn s branch (expect is_not what) answer = IsExpectationAnswer s branch is_not what answer
+IsAnswerIn s branch (see question) answer = IsQuestionAnswer s.called s.baseline branch (s.sessions branch) question answer
+IsAnswerIn s branch (expect is_not what) answer = IsExpectationAnswer s.called s.baseline branch (s.sessions branch) is_not what answer
 
 -- the answer to a line with this meaning; a line without words, and a comment, have none
 abbrev pub IsAnswerBy : Study → Result (Option (ℕ × Asked)) FaultAt → Option AnswerValue → Type 0

@@ -10,7 +10,7 @@ use Rattle.edit_history.specs.Session.{Session, most_edits, state}
 use Rattle.branches.specs.Branches.{Sessions, stepped}
 use Rattle.branches.specs.Replies.{Said, done, refused, mark_of, refusal_texts, reply_text, reply_to}
 use Rattle.study_arguments.specs.declared.link.LinkName.{LinkName}
-use Rattle.study_arguments.specs.declared.link.LinkName.TheVariants.{Number}
+use Rattle.study_arguments.specs.declared.link.LinkName.TheVariants.{Number, Address, Prefix}
 use Rattle.study_script.specs.declared.named_command.NamedCommand.{NamedCommand}
 use Rattle.study_script.specs.declared.named_command.NamedCommand.TheVariants as named_command
 use Rattle.study_text.specs.Shown.{Called}
@@ -34,10 +34,15 @@ one_of [] = Some 0
 one_of (number ∷ []) = Some number
 one_of (number ∷ next ∷ numbers) = None
 
--- the number of the link that is named, if there are not several. Where no edit may be done any more, none is looked up
+-- the number of the link that a word names, if it does not name several. Where no edit may be done any more, none is looked up
+abbrev pub number_found : Session → AreaId → RouterId → LinkName → Option ℕ
+number_found s area router name = if nat_lt (length s.done) most_edits then one_of (numbers_in s area router name) else Some 0
+
+-- the same of a link that is named by its number, or by a word
 abbrev pub named_number : Session → AreaId → RouterId → LinkName → Option ℕ
 named_number s area router (Number number) = Some number
-named_number s area router name = if nat_lt (length s.done) most_edits then one_of (numbers_in s area router name) else Some 0
+named_number s area router (Address address) = number_found s area router (Address address)
+named_number s area router (Prefix net) = number_found s area router (Prefix net)
 
 -- ---- answers
 

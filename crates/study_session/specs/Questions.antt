@@ -4,7 +4,7 @@ use Rattle.std.specs.List.{list_any}
 use Rattle.lsa_codec.specs.declared.address.Addr.{Addr}
 use Rattle.lsa_codec.specs.declared.address.RouterId.{RouterId}
 use Rattle.lsdb.specs.Lists.{Lists}
-use Rattle.edit_history.specs.Session.{Session}
+use Rattle.edit_history.specs.Session.{Session, state}
 use Rattle.routing_table.specs.Routers.{attached_routers}
 use Rattle.saved_sessions.specs.Lines.{lines_of}
 use Rattle.study_words.specs.declared.see_word.SeeWord.TheVariants as words
@@ -28,7 +28,7 @@ use Rattle.loop_report.specs.Blackholes.{AreNewBlackholes, BlackholeValue}
 use Rattle.loop_report.specs.Loops.{AreJointLoops, AreLoopsNow, LoopValue}
 use Rattle.loop_report.specs.Parts.{AreAtAtoms}
 use Rattle.loop_report.specs.Texts.{blackhole_lines, loop_lines}
-use Rattle.study_session.specs.Answers.{AnswerValue, Study, accepted_answer, database_in, refused_answer}
+use Rattle.study_session.specs.Answers.{AnswerValue, accepted_answer, refused_answer}
 use Rattle.study_session.specs.Texts.{address_after, head_of, number_after, router_after}
 
 -- ---- routers that a line names
@@ -126,15 +126,15 @@ module _ (called : Called) (branch : ℕ) (db : Lists) where
 abbrev pub log_answer : ℕ → Session → AnswerValue
 log_answer branch s = accepted_answer (head_of branch words.Log ++ number_after (length s.done) ++ codes "\n" ++ lines_of s.done)
 
--- the answer to a question
-abbrev pub IsQuestionAnswer : Study → ℕ → Question → AnswerValue → Type 0
-IsQuestionAnswer s branch question.Routers answer = answer ≡ routers_answer s.called branch (database_in s branch)
-IsQuestionAnswer s branch (question.Links router) answer = answer ≡ links_answer s.called branch (database_in s branch) router
-IsQuestionAnswer s branch question.Networks answer = answer ≡ networks_answer s.called branch (database_in s branch)
-IsQuestionAnswer s branch (question.Routes router address) answer = answer ≡ routes_answer s.called branch (database_in s branch) router address
-IsQuestionAnswer s branch (question.Path router address) answer = IsPathAnswer s.called branch (database_in s branch) router address answer
-IsQuestionAnswer s branch question.Loops answer = IsLoopsAnswer s.called branch (database_in s branch) s.baseline answer
-IsQuestionAnswer s branch (question.Microloops count) answer =
-    IsMicroloopsAnswer s.called branch (database_in s branch) (count_or_one count) (before_last (count_or_one count) (s.sessions branch)) answer
-IsQuestionAnswer s branch question.Log answer = answer ≡ log_answer branch (s.sessions branch)
-IsQuestionAnswer s branch other answer = Unit
+-- the answer to a question in a branch with this session
+abbrev pub IsQuestionAnswer : Called → Lists → ℕ → Session → Question → AnswerValue → Type 0
+IsQuestionAnswer called baseline branch s question.Routers answer = answer ≡ routers_answer called branch (state s)
+IsQuestionAnswer called baseline branch s (question.Links router) answer = answer ≡ links_answer called branch (state s) router
+IsQuestionAnswer called baseline branch s question.Networks answer = answer ≡ networks_answer called branch (state s)
+IsQuestionAnswer called baseline branch s (question.Routes router address) answer = answer ≡ routes_answer called branch (state s) router address
+IsQuestionAnswer called baseline branch s (question.Path router address) answer = IsPathAnswer called branch (state s) router address answer
+IsQuestionAnswer called baseline branch s question.Loops answer = IsLoopsAnswer called branch (state s) baseline answer
+IsQuestionAnswer called baseline branch s (question.Microloops count) answer =
+    IsMicroloopsAnswer called branch (state s) (count_or_one count) (before_last (count_or_one count) s) answer
+IsQuestionAnswer called baseline branch s question.Log answer = answer ≡ log_answer branch s
+IsQuestionAnswer called baseline branch s other answer = Unit

@@ -134,8 +134,7 @@ pub(crate) fn path<A: Allocator + Copy>(
     {
         return Ok(Verdict::NoRouter);
     }
-    let (holds, path) =
-        path_holds(alloc, database, router, address, passing, &mut Meter::new())?;
+    let (holds, path) = path_holds(alloc, database, router, address, passing, &mut Meter::new())?;
     let mut text = Vec::new(alloc);
     push_through(&mut text, names, &path)?;
     Ok(Verdict::Found { holds, text })

@@ -1,9 +1,10 @@
 //! Answers to expectations.
 
 ghost use Rattle.std.specs.Prelude.{◌≡◌, ◌<◌, IfOk};
+ghost use Rattle.network_names.specs.Names.{called};
+ghost use Rattle.lsdb.specs.Slots.{lists_of};
 ghost use Rattle.branches.specs.Branches.{sessions_of};
 ghost use Rattle.study_script.specs.Expected.{expected};
-ghost use Rattle.study_session.specs.Answers.{study_by};
 ghost use Rattle.study_session.specs.Expectations.{IsExpectationAnswer, IsVerdict};
 ghost use Rattle.study_session.specs.steps.Verdicts.{verdict_of};
 
@@ -14,29 +15,22 @@ use crate::verdict::Verdict;
 use branches::Branches;
 use lsdb::Database;
 use network_names::Names;
+use recalculate::Planner;
 use std::alloc::{AllocError, Allocator};
 use study_script::{Condition, Expectation};
 
-/// What is found of a condition about the database of a branch. All sessions stay.
-fn verdict<A: Allocator + Copy>(
+/// What is found of a condition about the database of a branch.
+fn find<A: Allocator + Copy>(
     alloc: A,
-    branches: &mut Branches<A>,
     baseline: &Database<A>,
     names: &Names<'_, A>,
-    branch: u8,
+    planner: &Planner<A>,
     condition: &Condition<A>,
 ) -> Result<Verdict<A>, AllocError>
-    requires { branch < 8 }
-    ensures verdict { IfOk result (λ verdict. IsVerdict
-        (study_by (sessions_of branches.old) baseline.now names.now) branch
-        (expected condition.now) (verdict_of verdict)) }
-    ensures kept { sessions_of branches.new ≡ sessions_of branches.old }
+    ensures { IfOk result (λ verdict. IsVerdict (called names.now) (lists_of baseline.now)
+        planner.now.session (expected condition.now) (verdict_of verdict)) }
 {
-    if let Condition::NoMicroloops(count) = condition {
-        return no_microloops(alloc, branches, names, branch, count.unwrap_or(1));
-    }
-    branches.prepare(branch)?;
-    let now = branches.planner(branch).database();
+    let now = planner.database();
     match condition {
         Condition::Route {
             router,
@@ -66,6 +60,28 @@ fn verdict<A: Allocator + Copy>(
     }
 }
 
+/// What is found of a condition in a branch. All sessions stay.
+fn verdict<A: Allocator + Copy>(
+    alloc: A,
+    branches: &mut Branches<A>,
+    baseline: &Database<A>,
+    names: &Names<'_, A>,
+    branch: u8,
+    condition: &Condition<A>,
+) -> Result<Verdict<A>, AllocError>
+    requires { branch < 8 }
+    ensures verdict { IfOk result (λ verdict. IsVerdict (called names.now)
+        (lists_of baseline.now) (sessions_of branches.old branch) (expected condition.now)
+        (verdict_of verdict)) }
+    ensures kept { sessions_of branches.new ≡ sessions_of branches.old }
+{
+    if let Condition::NoMicroloops(count) = condition {
+        return no_microloops(alloc, branches, names, branch, count.unwrap_or(1));
+    }
+    branches.prepare(branch)?;
+    find(alloc, baseline, names, branches.planner(branch), condition)
+}
+
 /// The answer to an expectation in a branch. All sessions stay.
 pub(crate) fn expectation<A: Allocator + Copy>(
     alloc: A,
@@ -76,8 +92,8 @@ pub(crate) fn expectation<A: Allocator + Copy>(
     expectation: &Expectation<A>,
 ) -> Result<Answer<A>, AllocError>
     requires { branch < 8 }
-    ensures answer { IfOk result (IsExpectationAnswer
-        (study_by (sessions_of branches.old) baseline.now names.now) branch
+    ensures answer { IfOk result (IsExpectationAnswer (called names.now)
+        (lists_of baseline.now) branch (sessions_of branches.old branch)
         expectation.now.is_not (expected expectation.now.condition)) }
     ensures kept { sessions_of branches.new ≡ sessions_of branches.old }
 {

@@ -26,10 +26,7 @@ pub(crate) fn is_attached<A: Allocator + Copy>(
 }
 
 /// The answer to a line that names a router which is not attached.
-pub(crate) fn no_router<A: Allocator + Copy>(
-    alloc: A,
-    branch: u8,
-) -> Result<Answer<A>, AllocError>
+pub(crate) fn no_router<A: Allocator + Copy>(alloc: A, branch: u8) -> Result<Answer<A>, AllocError>
     ensures { IfOk result (λ answer. answer ≡ refused_answer branch no_router) }
 {
     Answer::refused(alloc, branch, "N1", "NoRouter")

@@ -3,7 +3,7 @@
 ghost use Rattle.std.specs.Prelude.{◌≡◌, ◌<◌, IfOk, OnOk};
 ghost use Rattle.network_names.specs.Names.{called};
 ghost use Rattle.branches.specs.Branches.{sessions_of};
-ghost use Rattle.study_session.specs.NamedCommands.{change_text, link_answer, link_stepped, named_answer, named_number, named_stepped, one_of};
+ghost use Rattle.study_session.specs.NamedCommands.{change_text, link_answer, link_stepped, named_answer, named_number, named_stepped, number_found, one_of};
 
 use crate::answer::Answer;
 use crate::link_edit::{LinkEdit, change_text};
@@ -31,28 +31,44 @@ fn one_of(numbers: &[u16]) -> Option<u16>
     }
 }
 
-/// The number of the link that is named, 0 where there is none, and `None` where there are several.
-fn named_number<A: Allocator + Copy>(
+/// The number of the link that a word names, 0 where there is none, and `None` where there are
+/// several. Where no edit may be done any more, none is looked up.
+fn number_found<A: Allocator + Copy>(
     alloc: A,
     planner: &Planner<A>,
     area: AreaId,
     router: RouterId,
-    link: LinkName,
+    name: LinkName,
 ) -> Result<Option<u16>, AllocError>
     ensures { IfOk result
-        (λ number. number ≡ named_number planner.now.session area router link) }
+        (λ number. number ≡ number_found planner.now.session area router name) }
 {
-    if let LinkName::Number(number) = link {
-        return Ok(Some(number));
-    }
     if planner.done() >= MOST_EDITS {
         return Ok(Some(0));
     }
     let Some(lsa) = router_lsa_of_any_age(planner.database(), area, router) else {
         return Ok(Some(0));
     };
-    let numbers = link_numbers(alloc, &lsa, link)?;
+    let numbers = link_numbers(alloc, &lsa, name)?;
     Ok(one_of(&numbers))
+}
+
+/// The number of the link that is named, 0 where there is none, and `None` where there are several.
+fn named_number<A: Allocator + Copy>(
+    alloc: A,
+    planner: &Planner<A>,
+    area: AreaId,
+    router: RouterId,
+    name: LinkName,
+) -> Result<Option<u16>, AllocError>
+    ensures { IfOk result
+        (λ number. number ≡ named_number planner.now.session area router name) }
+{
+    match name {
+        LinkName::Number(number) => Ok(Some(number)),
+        LinkName::Address(_) => number_found(alloc, planner, area, router, name),
+        LinkName::Prefix(_) => number_found(alloc, planner, area, router, name),
+    }
 }
 
 /// Carries out an edit of a link that is named, and says what it changed; refused where several
@@ -82,7 +98,13 @@ fn edit_link<A: Allocator + Copy>(
     };
     let line = link_line_at(alloc, planner.database(), area, router, number)?;
     let change = change_text(alloc, names, edit, line.as_ref())?;
-    changing(alloc, branches, branch, &edit.command(area, router, number), &change)
+    changing(
+        alloc,
+        branches,
+        branch,
+        &edit.command(area, router, number),
+        &change,
+    )
 }
 
 /// Carries out a command of `ospf-plan` in whose line names stand.
@@ -108,7 +130,14 @@ pub(crate) fn named<A: Allocator + Copy>(
             metric,
         } => {
             let place = (area, router, link);
-            edit_link(alloc, branches, names, branch, place, LinkEdit::Cost(metric))
+            edit_link(
+                alloc,
+                branches,
+                names,
+                branch,
+                place,
+                LinkEdit::Cost(metric),
+            )
         }
         NamedCommand::DropLink { area, router, link } => {
             let place = (area, router, link);

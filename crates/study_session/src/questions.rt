@@ -1,8 +1,9 @@
 //! Answers to questions.
 
 ghost use Rattle.std.specs.Prelude.{◌≡◌, ◌<◌, IfOk};
+ghost use Rattle.network_names.specs.Names.{called};
+ghost use Rattle.lsdb.specs.Slots.{lists_of};
 ghost use Rattle.branches.specs.Branches.{sessions_of};
-ghost use Rattle.study_session.specs.Answers.{study_by};
 ghost use Rattle.study_session.specs.Questions.{IsQuestionAnswer};
 
 use crate::answer::Answer;
@@ -13,28 +14,22 @@ use crate::routes::{path_answer, routes_answer};
 use branches::Branches;
 use lsdb::Database;
 use network_names::Names;
+use recalculate::Planner;
 use std::alloc::{AllocError, Allocator};
 use study_script::Question;
 
-/// The answer to a question in a branch. All sessions stay.
-pub(crate) fn question<A: Allocator + Copy>(
+/// The answer to a question about the session of a planner.
+fn see<A: Allocator + Copy>(
     alloc: A,
-    branches: &mut Branches<A>,
     baseline: &Database<A>,
     names: &Names<'_, A>,
     branch: u8,
+    planner: &Planner<A>,
     question: &Question,
 ) -> Result<Answer<A>, AllocError>
-    requires { branch < 8 }
-    ensures answer { IfOk result (IsQuestionAnswer
-        (study_by (sessions_of branches.old) baseline.now names.now) branch question.now) }
-    ensures kept { sessions_of branches.new ≡ sessions_of branches.old }
+    ensures { IfOk result (IsQuestionAnswer (called names.now) (lists_of baseline.now) branch
+        planner.now.session question.now) }
 {
-    if let Question::Microloops(count) = *question {
-        return microloops_answer(alloc, branches, names, branch, count.unwrap_or(1));
-    }
-    branches.prepare(branch)?;
-    let planner = branches.planner(branch);
     let now = planner.database();
     match *question {
         Question::Routers => routers_answer(alloc, names, branch, now),
@@ -49,4 +44,32 @@ pub(crate) fn question<A: Allocator + Copy>(
         Question::Loops => loops_answer(alloc, names, branch, baseline, now),
         _ => log(alloc, branch, planner),
     }
+}
+
+/// The answer to a question in a branch. All sessions stay.
+pub(crate) fn question<A: Allocator + Copy>(
+    alloc: A,
+    branches: &mut Branches<A>,
+    baseline: &Database<A>,
+    names: &Names<'_, A>,
+    branch: u8,
+    question: &Question,
+) -> Result<Answer<A>, AllocError>
+    requires { branch < 8 }
+    ensures answer { IfOk result (IsQuestionAnswer (called names.now) (lists_of baseline.now)
+        branch (sessions_of branches.old branch) question.now) }
+    ensures kept { sessions_of branches.new ≡ sessions_of branches.old }
+{
+    if let Question::Microloops(count) = *question {
+        return microloops_answer(alloc, branches, names, branch, count.unwrap_or(1));
+    }
+    branches.prepare(branch)?;
+    see(
+        alloc,
+        baseline,
+        names,
+        branch,
+        branches.planner(branch),
+        question,
+    )
 }

@@ -27,12 +27,7 @@ pub(crate) enum Verdict<A: Allocator> {
 impl<A: Allocator + Copy> Verdict<A> {
     /// The answer to an expectation with the condition, which must hold, or, where it is turned
     /// around, must not.
-    pub(crate) fn answer(
-        &self,
-        alloc: A,
-        branch: u8,
-        is_not: bool,
-    ) -> Result<Answer<A>, AllocError>
+    pub(crate) fn answer(&self, alloc: A, branch: u8, is_not: bool) -> Result<Answer<A>, AllocError>
         ensures { IfOk result
             (λ answer. answer ≡ verdict_answer branch is_not (verdict_of self.now)) }
     {
