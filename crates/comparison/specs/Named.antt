@@ -11,7 +11,7 @@ use Rattle.table_changes.specs.declared.change.Change.TheVariants as change
 use Rattle.table_changes.specs.declared.change.PrefixChange.{PrefixChange}
 use Rattle.lost_routes.specs.Announced.{announced_in, is_announced}
 use Rattle.lost_routes.specs.LostPairs.{lost_pairs}
-use Rattle.lost_routes.specs.declared.pairs.LostPair.{LostPair}
+use Rattle.lost_routes.specs.declared.pairs.RouterPrefix.{RouterPrefix}
 use Rattle.change_lines.specs.ChangeTexts.{ChangesValue}
 use Rattle.change_lines.specs.Groups.{by_group}
 use Rattle.change_lines.specs.declared.change_name.ChangeName.{ChangeName}
@@ -34,7 +34,7 @@ group_of is_announced change.Moved = group.Moved
 abbrev pub router_name : ChangeGroup → RouterId → ChangeName
 router_name group router = record { group = group; router = router; net = None }
 
-abbrev pub pair_of : LostPair → Pair
+abbrev pub pair_of : RouterPrefix → Pair
 pair_of p = record { router = p.router; net = p.net }
 
 module _ (c : Compared) where
