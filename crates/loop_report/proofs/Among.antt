@@ -66,4 +66,4 @@ module _ (db : Lists) (r : RouterValue) (net : Net) (nets : List Net) (among : h
     where
       by : (b : Bool) → has_net (nets_of r) net ≡ b → has_net nets net ≡ true
       by true h = among h
-      by false h = let none = sym some ∙ no_entry db r net h in absurd (cc)
+      by false h = let none : Some entry ≡ None = sym some ∙ no_entry db r net h in absurd (cc)

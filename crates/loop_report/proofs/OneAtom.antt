@@ -7,8 +7,8 @@ use Rattle.forwarding.specs.Matches.{has_net}
 use Rattle.loop_report.specs.Atoms.{IsInAtom, NoneLonger}
 
 module _ (nets : List Net) (address : Addr) where
-  abbrev among : ℕ → Bool
-  among len = has_net nets (masked address len)
+  abbrev is_among : ℕ → Bool
+  is_among len = has_net nets (masked address len)
 
   record IsLast : Type 0 where
     pub len : ℕ
@@ -17,19 +17,20 @@ module _ (nets : List Net) (address : Addr) where
     pub longest : NoneLonger nets len address
 
   -- the longest of those that cover the address, when shorter and shorter ones are looked at
-  last : (most len : ℕ) → most ≤ 32 → len ≤ most → among len ≡ true → ((longer : ℕ) → most < longer → longer ≤ 32 → among longer ≡ false) → IsLast
+  last : (most len : ℕ) → most ≤ 32 → len ≤ most → is_among len ≡ true → ((longer : ℕ) → most < longer → longer ≤ 32 → is_among longer ≡ false) → IsLast
   last zero len short le has none =
       let same : len ≡ 0 = omega arith in
-      record { len = 0; short = short; among = sym (ap among same) ∙ has; longest = none }
-  last (suc most) len short le has none = by (among (suc most)) refl
+      record { len = 0; short = short; among = sym (ap is_among same) ∙ has; longest = none }
+  last (suc most) len short le has none = by (is_among (suc most)) refl (λ less later. last most len (omega arith) less has later)
     where
-      by : (b : Bool) → among (suc most) ≡ b → IsLast
-      by true is = record { len = suc most; short = short; among = is; longest = none }
-      by false is =
-          last most len (omega arith) (⊎_elim (λ same. absurd (false≢true (sym is ∙ sym (ap among same) ∙ has))) (λ other. omega arith) (cases_eq len (suc most))) has
-          (λ longer lt le32. ⊎_elim (λ same. ap among same ∙ is) (λ other. none longer (omega arith) le32) (cases_eq longer (suc most)))
+      by : (b : Bool) → is_among (suc most) ≡ b → (len ≤ most → ((longer : ℕ) → most < longer → longer ≤ 32 → is_among longer ≡ false) → IsLast) → IsLast
+      by true is rest = record { len = suc most; short = short; among = is; longest = none }
+      by false is rest =
+          rest
+          (⊎_elim (λ same. absurd (false≢true (sym is ∙ sym (ap is_among same) ∙ has))) (λ other. omega arith) (cases_eq len (suc most)))
+          (λ longer lt le32. ⊎_elim (λ same. ap is_among same ∙ is) (λ other. none longer (omega arith) le32) (cases_eq longer (suc most)))
 
-  pub in_some : (len : ℕ) → address.0 < 2 ^ 32 → len ≤ 32 → among len ≡ true → (net : Net) × (has_net nets net ≡ true) × IsInAtom nets net address
+  pub in_some : (len : ℕ) → address.0 < 2 ^ 32 → len ≤ 32 → is_among len ≡ true → (net : Net) × (has_net nets net ≡ true) × IsInAtom nets net address
   in_some len number short has =
       let found = last 32 len (omega arith) short has (λ longer lt le. absurd (omega arith)) in (
         masked address found.len,

@@ -100,7 +100,7 @@ impl<A: Allocator + Copy> Atoms<A> {
         ensures { MatchOption result (IsEmptyAtom self.now net) (IsInAtom self.now net) }
     {
         let mut address = net.addr();
-        'longer: while let Some(longer) = self.longer(net, address) {
+        'covered: while let Some(longer) = self.longer(net, address) {
             address = next_before_end(longer, net)?;
         }
         Some(address)

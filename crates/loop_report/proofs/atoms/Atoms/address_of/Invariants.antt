@@ -3,8 +3,8 @@ use Rattle.loop_report.proofs.Search.{IsReached}
 use Rattle.loop_report.proofs.atoms.Atoms.address_of.Given as goal
 
 -- the prefix covers the address, and no address of the atom is less
-abbrev pub invariant-longer : goal.invariant-longer
-invariant-longer g l = IsReached l.self l.net l.address
+abbrev pub invariant-covered : goal.invariant-covered
+invariant-covered g l = IsReached l.self l.net l.address
 
-abbrev pub decreases-longer : goal.decreases-longer
-decreases-longer g l = 2 ^ 32 - l.address.0
+abbrev pub decreases-covered : goal.decreases-covered
+decreases-covered g l = 2 ^ 32 - l.address.0
