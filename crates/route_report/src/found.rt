@@ -12,7 +12,9 @@ ghost use Rattle.route_report.specs.LinksOver.{far_addresses, has_far_end, is_li
 
 use crate::sought::{Leg, Sought};
 use area_graph::{VertexLsa, used_lsas};
-use interfaces::{Interface, addrs_of, costs_back, far_ends_in, interfaces_in, lists_router, network_lsa_in};
+use interfaces::{
+    Interface, addrs_of, costs_back, far_ends_in, interfaces_in, lists_router, network_lsa_in,
+};
 use lsa_codec::{Addr, AreaId, LinkKind, RouterId};
 use lsdb::{Database, Section};
 use std::alloc::{AllocError, Allocator};

@@ -6,17 +6,17 @@
 #![tactic(auto)]
 
 // The links that ways lead over.
-mod sought;
 mod found;
+mod sought;
 
 // Ways and routes.
-mod way;
 mod line;
 mod routes;
+mod way;
 
 // Paths.
-mod step;
 mod path;
+mod step;
 
 // Expectations.
 mod passing;

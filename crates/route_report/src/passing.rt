@@ -30,10 +30,7 @@ fn leads_into<A: Allocator + Copy>(sure: &BTreeSet<RouterId, A>, way: Way) -> bo
 }
 
 /// Whether a router sends only to routers of a set.
-fn leads_only_into<A: Allocator + Copy>(
-    sure: &BTreeSet<RouterId, A>,
-    step: &RouterStep<A>,
-) -> bool
+fn leads_only_into<A: Allocator + Copy>(sure: &BTreeSet<RouterId, A>, step: &RouterStep<A>) -> bool
     ensures { result ≡ leads_only_into sure.now.keys step.now }
 {
     match &step.matched {
@@ -44,10 +41,7 @@ fn leads_only_into<A: Allocator + Copy>(
 
 /// Whether walks from a router go on to routers of a set alone: from each of these, walks pass the
 /// router that is asked for.
-fn sure_by<A: Allocator + Copy>(
-    sure: &BTreeSet<RouterId, A>,
-    step: Option<&RouterStep<A>>,
-) -> bool
+fn sure_by<A: Allocator + Copy>(sure: &BTreeSet<RouterId, A>, step: Option<&RouterStep<A>>) -> bool
     ensures { result ≡ sure_by sure.now.keys (option_copied step.entry) }
 {
     match step {

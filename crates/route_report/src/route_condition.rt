@@ -74,9 +74,7 @@ fn is_led_to<A: Allocator + Copy>(ways: &[RouteWay<A>], neighbor: RouterId) -> b
 fn leads_to_one(neighbors: &[RouterId], target: WayTarget) -> bool
     ensures { result ≡ list_any (λ neighbor. leads_to neighbor target) neighbors.now }
 {
-    neighbors
-        .iter()
-        .any(|neighbor| leads_to(*neighbor, target))
+    neighbors.iter().any(|neighbor| leads_to(*neighbor, target))
 }
 
 /// Whether ways lead to each of these neighbors.
