@@ -1,5 +1,5 @@
 -- The answers to expectations.
-use Rattle.std.specs.Prelude.{◌≡◌, ◌↔◌, ℕ, ◌==◌, ◌||◌, ◌&&◌, Bool, true, false, List, ◌++◌, length, map, Option, None, Some, codes, decimal}
+use Rattle.std.specs.Prelude.{◌≡◌, ◌↔◌, ℕ, ◌==◌, ◌&&◌, Bool, true, false, List, [], ◌∷◌, ◌++◌, length, map, Option, None, Some, codes, decimal}
 use Rattle.std.specs.List.{list_all}
 use Rattle.std.specs.Option.{option_map_or}
 use Rattle.lsa_codec.specs.Prefix.{Net}
@@ -12,7 +12,7 @@ use Rattle.study_words.specs.declared.route_kind.RouteKind.{RouteKind}
 use Rattle.study_script.specs.declared.condition.Bound.{Bound}
 use Rattle.study_script.specs.declared.condition.Passing.{Passing}
 use Rattle.study_script.specs.declared.condition.Passing.TheVariants as passing
-use Rattle.study_script.specs.Expected.{Expected, route, no_route, hops, path, lost, gone, no_loops, no_microloops, no_blackholes, same, few_changes}
+use Rattle.study_script.specs.Expected.{Expected, route, no_route, hops, path, lost, gone, no_loops, no_microloops, no_blackholes, same, few_changes, PairsAllowed}
 use Rattle.study_text.specs.Lists.{first_three}
 use Rattle.study_text.specs.Shown.{Called}
 use Rattle.forwarding.specs.Matches.{router_in}
@@ -27,8 +27,12 @@ use Rattle.loop_report.specs.Blackholes.{AreNewBlackholes, BlackholeValue}
 use Rattle.loop_report.specs.Loops.{AreJointLoops, AreLoopsNow, LoopValue}
 use Rattle.loop_report.specs.Parts.{AreAtAtoms}
 use Rattle.loop_report.specs.Texts.{blackhole_text, loop_text}
+use Rattle.change_lines.specs.declared.pair.Pair.{Pair}
+use Rattle.change_lines.specs.ChangeTexts.{ChangesValue, changes_found}
+use Rattle.comparison.specs.Named.{all_changes, changes_for, gone as gone_pairs, lost as lost_pairs}
+use Rattle.change_report.specs.Expected.{are_allowed, are_few, found_text as pairs_found}
 use Rattle.study_session.specs.Answers.{AnswerValue, failed_answer, held_answer, refused_answer}
-use Rattle.study_session.specs.Questions.{count_or_one, is_attached, no_router, too_few_done}
+use Rattle.study_session.specs.Questions.{beside, count_or_one, is_attached, is_known, no_router, too_few_done}
 
 -- ---- verdicts
 
@@ -50,10 +54,7 @@ verdict_answer branch is_not (found holds text) = by_holding branch text is_not 
 
 -- ---- routers that a condition names
 
--- attached in one of two databases
-abbrev pub is_known : Lists → Lists → RouterId → Bool
-is_known baseline db router = is_attached db router || is_attached baseline router
-
+-- attached in one of two databases, if some are given
 abbrev pub are_known : Lists → Lists → Option (List RouterId) → Bool
 are_known baseline db routers = option_map_or (λ those. list_all (is_known baseline db) those) routers true
 
@@ -122,6 +123,22 @@ module _ (called : Called) (baseline db : Lists) where
       (holes : List BlackholeValue) × AreAtAtoms AreNewBlackholes baseline db holes
       × (verdict ≡ found (is_none holes) (counted_text (codes "blackholes") (map (blackhole_text called) holes)))
 
+-- pairs of a router and a prefix that are lost, or gone: no more than are allowed
+abbrev pub pairs_verdict : Called → List ℕ → PairsAllowed → List Pair → VerdictValue
+pairs_verdict called word allowed pairs = found (are_allowed allowed pairs) (pairs_found called word allowed pairs)
+
+abbrev pub changes_verdict : Called → Bool → ChangesValue → VerdictValue
+changes_verdict called holds changes = found holds (changes_found called changes.names)
+
+abbrev pub same_verdict : Called → Lists → Lists → Option RouterId → VerdictValue
+same_verdict called baseline db None = changes_verdict called (is_none (all_changes (beside baseline db)).names) (all_changes (beside baseline db))
+same_verdict called baseline db (Some router) =
+    unless_no_router (is_known baseline db router)
+    (changes_verdict called (is_none (changes_for (beside baseline db) (router ∷ [])).names) (changes_for (beside baseline db) (router ∷ [])))
+
+abbrev pub few_verdict : Called → Lists → Lists → ℕ → VerdictValue
+few_verdict called baseline db most = changes_verdict called (are_few most (all_changes (beside baseline db))) (all_changes (beside baseline db))
+
 -- by the database before the last edits; where fewer edits are done, there is none
 abbrev pub IsMicroloopsVerdict : Called → Lists → Option Lists → VerdictValue → Type 0
 IsMicroloopsVerdict called db None verdict = verdict ≡ unknown too_few_done
@@ -134,10 +151,13 @@ IsVerdict called baseline s (route router net kind via cost) verdict = verdict �
 IsVerdict called baseline s (no_route router net) verdict = verdict ≡ no_route_verdict called (state s) router net
 IsVerdict called baseline s (hops router net bound) verdict = verdict ≡ hops_verdict (state s) router net bound
 IsVerdict called baseline s (path router address through) verdict = IsPathVerdict called baseline (state s) router address through verdict
+IsVerdict called baseline s (lost pairs) verdict = verdict ≡ pairs_verdict called (codes "lost") pairs (lost_pairs (beside baseline (state s)))
+IsVerdict called baseline s (gone pairs) verdict = verdict ≡ pairs_verdict called (codes "gone") pairs (gone_pairs (beside baseline (state s)))
 IsVerdict called baseline s no_loops verdict = IsLoopsVerdict called baseline (state s) verdict
 IsVerdict called baseline s (no_microloops count) verdict = IsMicroloopsVerdict called (state s) (before_last (count_or_one count) s) verdict
 IsVerdict called baseline s no_blackholes verdict = IsBlackholesVerdict called baseline (state s) verdict
-IsVerdict called baseline s other verdict = Unit
+IsVerdict called baseline s (same router) verdict = verdict ≡ same_verdict called baseline (state s) router
+IsVerdict called baseline s (few_changes most) verdict = verdict ≡ few_verdict called baseline (state s) most
 
 -- the answer to an expectation
 abbrev pub IsExpectationAnswer : Called → Lists → ℕ → Session → Bool → Expected → AnswerValue → Type 0

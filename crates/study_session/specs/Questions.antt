@@ -1,5 +1,5 @@
 -- The answers to questions.
-use Rattle.std.specs.Prelude.{◌≡◌, ℕ, ◌==◌, Bool, true, false, List, [], ◌∷◌, ◌++◌, ◌+◌, length, Option, None, Some, codes}
+use Rattle.std.specs.Prelude.{◌≡◌, ℕ, ◌==◌, ◌||◌, Bool, true, false, List, [], ◌∷◌, ◌++◌, ◌+◌, length, Option, None, Some, codes}
 use Rattle.std.specs.List.{list_any}
 use Rattle.lsa_codec.specs.declared.address.Addr.{Addr}
 use Rattle.lsa_codec.specs.declared.address.RouterId.{RouterId}
@@ -7,6 +7,7 @@ use Rattle.lsdb.specs.Lists.{Lists}
 use Rattle.edit_history.specs.Session.{Session, state}
 use Rattle.routing_table.specs.Routers.{attached_routers}
 use Rattle.saved_sessions.specs.Lines.{lines_of}
+use Rattle.study_words.specs.declared.see_word.SeeWord.{SeeWord}
 use Rattle.study_words.specs.declared.see_word.SeeWord.TheVariants as words
 use Rattle.study_script.specs.declared.question.Question.{Question}
 use Rattle.study_script.specs.declared.question.Question.TheVariants as question
@@ -19,7 +20,12 @@ use Rattle.link_report.specs.Routers.{router_values}
 use Rattle.link_report.specs.RouterTexts.{router_lines}
 use Rattle.branches.specs.Branches.{before_last}
 use Rattle.route_lines.specs.RouteLines.{RouteLineValue}
-use Rattle.route_lines.specs.RouteTexts.{routes_text}
+use Rattle.route_lines.specs.RouteTexts.{lines_of as lines_as, routes_text}
+use Rattle.change_lines.specs.ChangeTexts.{ChangeLineValue, ChangesValue, change_text, counts_text}
+use Rattle.change_lines.specs.PairTexts.{PairLineValue, pair_line}
+use Rattle.comparison.specs.Compared.{Compared}
+use Rattle.comparison.specs.Named.{all_changes, changes_for}
+use Rattle.change_report.specs.Lines.{gone_lines, lines_of_changes, lost_lines}
 use Rattle.route_lines.specs.PathLines.{PathValue}
 use Rattle.route_lines.specs.PathTexts.{ends_text, path_text}
 use Rattle.route_report.specs.Lines.{routes_of}
@@ -122,6 +128,39 @@ module _ (called : Called) (branch : ℕ) (db : Lists) where
   IsMicroloopsAnswer count (Some before) answer =
       (loops : List LoopValue) × AreAtAtoms AreJointLoops before db loops × (answer ≡ accepted_answer (microloops_reply count loops))
 
+-- two databases beside each other
+abbrev pub beside : Lists → Lists → Compared
+beside baseline db = record { baseline = baseline; present = db }
+
+-- attached in one of two databases
+abbrev pub is_known : Lists → Lists → RouterId → Bool
+is_known baseline db router = is_attached db router || is_attached baseline router
+
+module _ (called : Called) (branch : ℕ) (baseline db : Lists) where
+  -- what differs, after the router that the line names
+  abbrev pub changes_reply : Option RouterId → ChangesValue → List ChangeLineValue → List ℕ
+  changes_reply router changes lines =
+      head_of branch words.Changes ++ router_after called router ++ number_after (length changes.names) ++ counts_text changes ++ codes "\n"
+      ++ lines_as (change_text called) lines
+
+  abbrev pub changes_of : Option RouterId → ChangesValue → AnswerValue
+  changes_of router changes = accepted_answer (changes_reply router changes (lines_of_changes (beside baseline db) changes.names))
+
+  abbrev pub changes_answer : Option RouterId → AnswerValue
+  changes_answer None = changes_of None (all_changes (beside baseline db))
+  changes_answer (Some router) =
+      unless_unknown branch (is_known baseline db router) (changes_of (Some router) (changes_for (beside baseline db) (router ∷ [])))
+
+  -- routers with prefixes that they have no entry for any more
+  abbrev pub pairs_reply : SeeWord → List PairLineValue → List ℕ
+  pairs_reply word lines = head_of branch word ++ number_after (length lines) ++ codes "\n" ++ lines_as (pair_line called) lines
+
+  abbrev pub lost_answer : AnswerValue
+  lost_answer = accepted_answer (pairs_reply words.Lost (lost_lines (beside baseline db)))
+
+  abbrev pub gone_answer : AnswerValue
+  gone_answer = accepted_answer (pairs_reply words.Gone (gone_lines (beside baseline db)))
+
 -- the done edits, each spelled in its one way
 abbrev pub log_answer : ℕ → Session → AnswerValue
 log_answer branch s = accepted_answer (head_of branch words.Log ++ number_after (length s.done) ++ codes "\n" ++ lines_of s.done)
@@ -133,6 +172,9 @@ IsQuestionAnswer called baseline branch s (question.Links router) answer = answe
 IsQuestionAnswer called baseline branch s question.Networks answer = answer ≡ networks_answer called branch (state s)
 IsQuestionAnswer called baseline branch s (question.Routes router address) answer = answer ≡ routes_answer called branch (state s) router address
 IsQuestionAnswer called baseline branch s (question.Path router address) answer = IsPathAnswer called branch (state s) router address answer
+IsQuestionAnswer called baseline branch s (question.Changes router) answer = answer ≡ changes_answer called branch baseline (state s) router
+IsQuestionAnswer called baseline branch s question.Lost answer = answer ≡ lost_answer called branch baseline (state s)
+IsQuestionAnswer called baseline branch s question.Gone answer = answer ≡ gone_answer called branch baseline (state s)
 IsQuestionAnswer called baseline branch s question.Loops answer = IsLoopsAnswer called branch (state s) baseline answer
 IsQuestionAnswer called baseline branch s (question.Microloops count) answer =
     IsMicroloopsAnswer called branch (state s) (count_or_one count) (before_last (count_or_one count) s) answer

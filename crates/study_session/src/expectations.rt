@@ -9,6 +9,7 @@ ghost use Rattle.study_session.specs.Expectations.{IsExpectationAnswer, IsVerdic
 ghost use Rattle.study_session.specs.steps.Verdicts.{verdict_of};
 
 use crate::answer::Answer;
+use crate::change_conditions::{few, gone, lost, same};
 use crate::conditions::{hops, no_route, path, route};
 use crate::loop_conditions::{no_blackholes, no_loops, no_microloops};
 use crate::verdict::Verdict;
@@ -54,9 +55,13 @@ fn find<A: Allocator + Copy>(
             address,
             passing,
         } => path(alloc, names, baseline, now, (*router, *address), *passing),
+        Condition::Lost(allowed) => lost(alloc, names, baseline, now, allowed),
+        Condition::Gone(allowed) => gone(alloc, names, baseline, now, allowed),
         Condition::NoLoops => no_loops(alloc, names, baseline, now),
         Condition::NoBlackholes => no_blackholes(alloc, names, baseline, now),
-        _ => Ok(Verdict::NoRouter),
+        Condition::Same(router) => same(alloc, names, baseline, now, *router),
+        Condition::AtMostChanges(most) => few(alloc, names, baseline, now, *most),
+        Condition::NoMicroloops(_) => Ok(Verdict::TooFewDone),
     }
 }
 

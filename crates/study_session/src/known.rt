@@ -3,8 +3,8 @@
 ghost use Rattle.std.specs.Prelude.{◌≡◌, IfOk, option_map};
 ghost use Rattle.lsdb.specs.Slots.{lists_of};
 ghost use Rattle.study_session.specs.Answers.{refused_answer};
-ghost use Rattle.study_session.specs.Expectations.{are_known, is_known, is_known_passing};
-ghost use Rattle.study_session.specs.Questions.{is_attached, no_router};
+ghost use Rattle.study_session.specs.Expectations.{are_known, is_known_passing};
+ghost use Rattle.study_session.specs.Questions.{is_attached, is_known, no_router};
 
 use crate::answer::Answer;
 use lsa_codec::RouterId;
@@ -33,7 +33,7 @@ pub(crate) fn no_router<A: Allocator + Copy>(alloc: A, branch: u8) -> Result<Ans
 }
 
 /// Whether a router is attached in a database or in the baseline.
-fn is_known<A: Allocator + Copy>(
+pub(crate) fn is_known<A: Allocator + Copy>(
     alloc: A,
     baseline: &Database<A>,
     database: &Database<A>,

@@ -15,6 +15,7 @@ mod named;
 mod plan;
 
 // Questions.
+mod changes;
 mod known;
 mod links;
 mod log;
@@ -23,6 +24,7 @@ mod questions;
 mod routes;
 
 // Expectations.
+mod change_conditions;
 mod conditions;
 mod expectations;
 mod loop_conditions;

@@ -7,6 +7,7 @@ ghost use Rattle.branches.specs.Branches.{sessions_of};
 ghost use Rattle.study_session.specs.Questions.{IsQuestionAnswer};
 
 use crate::answer::Answer;
+use crate::changes::{changes_answer, gone_answer, lost_answer};
 use crate::links::{links_answer, networks_answer, routers_answer};
 use crate::log::log;
 use crate::loops::{loops_answer, microloops_answer};
@@ -41,6 +42,9 @@ fn see<A: Allocator + Copy>(
         Question::Path { router, address } => {
             path_answer(alloc, names, branch, now, (router, address))
         }
+        Question::Changes(router) => { changes_answer(alloc, names, branch, baseline, now, router) }
+        Question::Lost => lost_answer(alloc, names, branch, baseline, now),
+        Question::Gone => gone_answer(alloc, names, branch, baseline, now),
         Question::Loops => loops_answer(alloc, names, branch, baseline, now),
         _ => log(alloc, branch, planner),
     }
