@@ -16,22 +16,26 @@ use crate::verdict::Verdict;
 use branches::Branches;
 use lsdb::Database;
 use network_names::Names;
-use recalculate::Planner;
 use std::alloc::{AllocError, Allocator};
 use study_script::{Condition, Expectation};
 
-/// What is found of a condition about the database of a branch.
-fn find<A: Allocator + Copy>(
+/// What is found of a condition in a branch. All sessions stay.
+fn verdict<A: Allocator + Copy>(
     alloc: A,
+    branches: &mut Branches<A>,
     baseline: &Database<A>,
     names: &Names<'_, A>,
-    planner: &Planner<A>,
+    branch: u8,
     condition: &Condition<A>,
 ) -> Result<Verdict<A>, AllocError>
-    ensures { IfOk result (λ verdict. IsVerdict (called names.now) (lists_of baseline.now)
-        planner.now.session (expected condition.now) (verdict_of verdict)) }
+    requires { branch < 8 }
+    ensures verdict { IfOk result (λ verdict. IsVerdict (called names.now)
+        (lists_of baseline.now) (sessions_of branches.old branch) (expected condition.now)
+        (verdict_of verdict)) }
+    ensures kept { sessions_of branches.new ≡ sessions_of branches.old }
 {
-    let now = planner.database();
+    branches.prepare(branch)?;
+    let now = branches.planner(branch).database();
     match condition {
         Condition::Route {
             router,
@@ -61,30 +65,10 @@ fn find<A: Allocator + Copy>(
         Condition::NoBlackholes => no_blackholes(alloc, names, baseline, now),
         Condition::Same(router) => same(alloc, names, baseline, now, *router),
         Condition::AtMostChanges(most) => few(alloc, names, baseline, now, *most),
-        Condition::NoMicroloops(_) => Ok(Verdict::TooFewDone),
+        Condition::NoMicroloops(count) => {
+            no_microloops(alloc, branches, names, branch, count.unwrap_or(1))
+        }
     }
-}
-
-/// What is found of a condition in a branch. All sessions stay.
-fn verdict<A: Allocator + Copy>(
-    alloc: A,
-    branches: &mut Branches<A>,
-    baseline: &Database<A>,
-    names: &Names<'_, A>,
-    branch: u8,
-    condition: &Condition<A>,
-) -> Result<Verdict<A>, AllocError>
-    requires { branch < 8 }
-    ensures verdict { IfOk result (λ verdict. IsVerdict (called names.now)
-        (lists_of baseline.now) (sessions_of branches.old branch) (expected condition.now)
-        (verdict_of verdict)) }
-    ensures kept { sessions_of branches.new ≡ sessions_of branches.old }
-{
-    if let Condition::NoMicroloops(count) = condition {
-        return no_microloops(alloc, branches, names, branch, count.unwrap_or(1));
-    }
-    branches.prepare(branch)?;
-    find(alloc, baseline, names, branches.planner(branch), condition)
 }
 
 /// The answer to an expectation in a branch. All sessions stay.

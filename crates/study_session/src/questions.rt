@@ -15,40 +15,8 @@ use crate::routes::{path_answer, routes_answer};
 use branches::Branches;
 use lsdb::Database;
 use network_names::Names;
-use recalculate::Planner;
 use std::alloc::{AllocError, Allocator};
 use study_script::Question;
-
-/// The answer to a question about the session of a planner.
-fn see<A: Allocator + Copy>(
-    alloc: A,
-    baseline: &Database<A>,
-    names: &Names<'_, A>,
-    branch: u8,
-    planner: &Planner<A>,
-    question: &Question,
-) -> Result<Answer<A>, AllocError>
-    ensures { IfOk result (IsQuestionAnswer (called names.now) (lists_of baseline.now) branch
-        planner.now.session question.now) }
-{
-    let now = planner.database();
-    match *question {
-        Question::Routers => routers_answer(alloc, names, branch, now),
-        Question::Links(router) => links_answer(alloc, names, branch, now, router),
-        Question::Networks => networks_answer(alloc, names, branch, now),
-        Question::Routes { router, address } => {
-            routes_answer(alloc, names, branch, now, (router, address))
-        }
-        Question::Path { router, address } => {
-            path_answer(alloc, names, branch, now, (router, address))
-        }
-        Question::Changes(router) => { changes_answer(alloc, names, branch, baseline, now, router) }
-        Question::Lost => lost_answer(alloc, names, branch, baseline, now),
-        Question::Gone => gone_answer(alloc, names, branch, baseline, now),
-        Question::Loops => loops_answer(alloc, names, branch, baseline, now),
-        _ => log(alloc, branch, planner),
-    }
-}
 
 /// The answer to a question in a branch. All sessions stay.
 pub(crate) fn question<A: Allocator + Copy>(
@@ -64,16 +32,27 @@ pub(crate) fn question<A: Allocator + Copy>(
         branch (sessions_of branches.old branch) question.now) }
     ensures kept { sessions_of branches.new ≡ sessions_of branches.old }
 {
-    if let Question::Microloops(count) = *question {
-        return microloops_answer(alloc, branches, names, branch, count.unwrap_or(1));
-    }
     branches.prepare(branch)?;
-    see(
-        alloc,
-        baseline,
-        names,
-        branch,
-        branches.planner(branch),
-        question,
-    )
+    let planner = branches.planner(branch);
+    let now = planner.database();
+    match *question {
+        Question::Routers => routers_answer(alloc, names, branch, now),
+        Question::Links(router) => links_answer(alloc, names, branch, now, router),
+        Question::Networks => networks_answer(alloc, names, branch, now),
+        Question::Routes { router, address } => {
+            routes_answer(alloc, names, branch, now, (router, address))
+        }
+        Question::Path { router, address } => {
+            path_answer(alloc, names, branch, now, (router, address))
+        }
+        Question::Changes(router) => { changes_answer(alloc, names, branch, baseline, now, router) }
+        Question::Lost => lost_answer(alloc, names, branch, baseline, now),
+        Question::Gone => gone_answer(alloc, names, branch, baseline, now),
+        Question::Loops => loops_answer(alloc, names, branch, baseline, now),
+        Question::Microloops(count) => {
+            microloops_answer(alloc, branches, names, branch, count.unwrap_or(1))
+        }
+        Question::Log => log(alloc, branch, planner),
+        Question::Help(_) => Ok(Answer::accepted(alloc, Vec::new(alloc))),
+    }
 }
