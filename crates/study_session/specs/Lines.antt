@@ -2,10 +2,14 @@
 use Rattle.std.specs.Prelude.{◌≡◌, ℕ, Bool, false, List, [], ◌∷◌, ◌++◌, Option, None, Some, Result, Ok, Err, codes}
 use Rattle.branches.specs.Branches.{Sessions, stepped}
 use Rattle.branches.specs.Replies.{reported_text, reply_to}
+use Rattle.text_words.specs.Words.{Word}
+use Rattle.edit_script.specs.Words.{words}
 use Rattle.study_arguments.specs.Fault.{FaultAt, code_of, name_of}
+use Rattle.study_arguments.specs.Values.{Lookup}
+use Rattle.study_hints.specs.Hints.{fault_text}
 use Rattle.study_script.specs.Line.{Asked, plan, named, see, expect, meaning}
 use Rattle.study_session.specs.declared.answer.Outcome.TheVariants as outcome
-use Rattle.study_session.specs.Answers.{AnswerValue, Study, reason}
+use Rattle.study_session.specs.Answers.{AnswerValue, Study}
 use Rattle.study_session.specs.Expectations.{IsExpectationAnswer}
 use Rattle.study_session.specs.NamedCommands.{named_answer, named_stepped, plan_answer}
 use Rattle.study_session.specs.Questions.{IsQuestionAnswer}
@@ -13,11 +17,11 @@ use Rattle.study_session.specs.Questions.{IsQuestionAnswer}
 -- ---- one line
 
 -- the answer to a line with a fault
-abbrev pub fault_answer : FaultAt → AnswerValue
-fault_answer fault = record {
+abbrev pub fault_answer : Lookup → List Word → List ℕ → FaultAt → AnswerValue
+fault_answer names known line fault = record {
   text = reported_text (codes "script ") (code_of fault.0, name_of fault.0);
   outcome = outcome.Refused;
-  error = reason (codes "script ") (code_of fault.0, name_of fault.0);
+  error = fault_text names known (words line) fault;
   is_expectation = false;
 }
 
@@ -29,14 +33,14 @@ IsAnswerIn s branch (see question) answer = IsQuestionAnswer s.called s.baseline
 IsAnswerIn s branch (expect is_not what) answer = IsExpectationAnswer s.called s.baseline branch (s.sessions branch) is_not what answer
 
 -- the answer to a line with this meaning; a line without words, and a comment, have none
-abbrev pub IsAnswerBy : Study → Result (Option (ℕ × Asked)) FaultAt → Option AnswerValue → Type 0
-IsAnswerBy s (Err fault) given = given ≡ Some (fault_answer fault)
-IsAnswerBy s (Ok None) given = given ≡ None
-IsAnswerBy s (Ok (Some found)) None = ⊥
-IsAnswerBy s (Ok (Some found)) (Some answer) = IsAnswerIn s found.0 found.1 answer
+abbrev pub IsAnswerBy : Study → List ℕ → Result (Option (ℕ × Asked)) FaultAt → Option AnswerValue → Type 0
+IsAnswerBy s line (Err fault) given = given ≡ Some (fault_answer s.lookup s.known line fault)
+IsAnswerBy s line (Ok None) given = given ≡ None
+IsAnswerBy s line (Ok (Some found)) None = ⊥
+IsAnswerBy s line (Ok (Some found)) (Some answer) = IsAnswerIn s found.0 found.1 answer
 
 abbrev pub IsAnswerTo : Study → List ℕ → Option AnswerValue → Type 0
-IsAnswerTo s line given = IsAnswerBy s (meaning s.lookup line) given
+IsAnswerTo s line given = IsAnswerBy s line (meaning s.lookup line) given
 
 -- the sessions after what is asked for: only commands change them
 abbrev pub sessions_in : ℕ → Asked → Sessions → Sessions

@@ -1,12 +1,13 @@
 -- The answers to questions.
 use Rattle.std.specs.Prelude.{◌≡◌, ℕ, ◌==◌, ◌||◌, Bool, true, false, List, [], ◌∷◌, ◌++◌, ◌+◌, length, Option, None, Some, codes}
-use Rattle.std.specs.List.{list_any}
+use Rattle.std.specs.List.{flat_map, list_any}
 use Rattle.lsa_codec.specs.declared.address.Addr.{Addr}
 use Rattle.lsa_codec.specs.declared.address.RouterId.{RouterId}
 use Rattle.lsdb.specs.Lists.{Lists}
 use Rattle.edit_history.specs.Session.{Session, state}
 use Rattle.routing_table.specs.Routers.{attached_routers}
 use Rattle.saved_sessions.specs.Lines.{lines_of}
+use Rattle.study_words.specs.declared.study_word.StudyWord.{StudyWord}
 use Rattle.study_words.specs.declared.see_word.SeeWord.{SeeWord}
 use Rattle.study_words.specs.declared.see_word.SeeWord.TheVariants as words
 use Rattle.study_script.specs.declared.question.Question.{Question}
@@ -25,6 +26,7 @@ use Rattle.change_lines.specs.ChangeTexts.{ChangeLineValue, ChangesValue, change
 use Rattle.change_lines.specs.PairTexts.{PairLineValue, pair_line}
 use Rattle.comparison.specs.Compared.{Compared}
 use Rattle.comparison.specs.Named.{all_changes, changes_for}
+use Rattle.study_hints.specs.Help.{help_lines, with_end}
 use Rattle.change_report.specs.Lines.{gone_lines, lines_of_changes, lost_lines}
 use Rattle.route_lines.specs.PathLines.{PathValue}
 use Rattle.route_lines.specs.PathTexts.{ends_text, path_text}
@@ -35,7 +37,7 @@ use Rattle.loop_report.specs.Loops.{AreJointLoops, AreLoopsNow, LoopValue}
 use Rattle.loop_report.specs.Parts.{AreAtAtoms}
 use Rattle.loop_report.specs.Texts.{blackhole_lines, loop_lines}
 use Rattle.study_session.specs.Answers.{AnswerValue, accepted_answer, refused_answer}
-use Rattle.study_session.specs.Texts.{address_after, head_of, number_after, router_after}
+use Rattle.study_session.specs.Texts.{address_after, head_of, number_after, router_after, word_after}
 
 -- ---- routers that a line names
 
@@ -165,6 +167,11 @@ module _ (called : Called) (branch : ℕ) (baseline db : Lists) where
 abbrev pub log_answer : ℕ → Session → AnswerValue
 log_answer branch s = accepted_answer (head_of branch words.Log ++ number_after (length s.done) ++ codes "\n" ++ lines_of s.done)
 
+-- the lines of words
+abbrev pub help_answer : ℕ → Option StudyWord → AnswerValue
+help_answer branch word =
+    accepted_answer (head_of branch words.Help ++ word_after word ++ number_after (length (help_lines word)) ++ codes "\n" ++ flat_map with_end (help_lines word))
+
 -- the answer to a question in a branch with this session
 abbrev pub IsQuestionAnswer : Called → Lists → ℕ → Session → Question → AnswerValue → Type 0
 IsQuestionAnswer called baseline branch s question.Routers answer = answer ≡ routers_answer called branch (state s)
@@ -179,4 +186,4 @@ IsQuestionAnswer called baseline branch s question.Loops answer = IsLoopsAnswer 
 IsQuestionAnswer called baseline branch s (question.Microloops count) answer =
     IsMicroloopsAnswer called branch (state s) (count_or_one count) (before_last (count_or_one count) s) answer
 IsQuestionAnswer called baseline branch s question.Log answer = answer ≡ log_answer branch s
-IsQuestionAnswer called baseline branch s other answer = Unit
+IsQuestionAnswer called baseline branch s (question.Help word) answer = answer ≡ help_answer branch word

@@ -5,7 +5,9 @@ use Rattle.lsa_codec.specs.declared.address.RouterId.{RouterId}
 use Rattle.lsa_codec.specs.Spelling.{address_text}
 use Rattle.branches.specs.Replies.{mark_of}
 use Rattle.study_words.specs.declared.see_word.SeeWord.{SeeWord}
+use Rattle.study_words.specs.declared.study_word.StudyWord.{StudyWord}
 use Rattle.study_words.specs.SeeWords.{see_text}
+use Rattle.study_words.specs.StudyWords.{study_text}
 use Rattle.study_text.specs.Shown.{Called, shown}
 
 -- the branch and the word
@@ -24,3 +26,8 @@ address_after (Some addr) = codes " " ++ address_text addr.0
 
 abbrev pub number_after : ℕ → List ℕ
 number_after number = codes " " ++ decimal number
+
+-- the word that it names, if it names one
+abbrev pub word_after : Option StudyWord → List ℕ
+word_after None = []
+word_after (Some word) = codes " " ++ study_text word

@@ -4,12 +4,15 @@ ghost use Rattle.std.specs.Prelude.{◌≡◌, ◌++◌, IfOk, OnOk, codes};
 ghost use Rattle.branches.specs.Replies.{mark_of, reported_text};
 ghost use Rattle.study_session.specs.Answers.{accepted_answer, failed_answer, held_answer, reason, refused_answer};
 ghost use Rattle.study_session.specs.Lines.{fault_answer};
+ghost use Rattle.network_names.specs.Names.{names_of, stands_for};
 ghost use Rattle.study_arguments.specs.Fault.{fault_at};
 
 use crate::text::{push_mark, push_word};
+use network_names::Names;
 use std::alloc::{AllocError, Allocator, Global};
 use std::marker::Model;
 use study_arguments::Fault;
+use study_hints::push_fault;
 
 /// What became of a line.
 #[derive(Clone, Copy, Debug, PartialEq, Eq)]
@@ -118,16 +121,24 @@ impl<A: Allocator + Copy> Answer<A> {
     }
 
     /// A line that has a fault.
-    pub(crate) fn faulty(alloc: A, fault: Fault<'_>) -> Result<Answer<A>, AllocError>
-        ensures { IfOk result (λ answer. answer ≡ fault_answer (fault_at fault.entry)) }
+    pub(crate) fn faulty(
+        alloc: A,
+        names: &Names<'_, A>,
+        line: &[u8],
+        fault: Fault<'_>,
+    ) -> Result<Answer<A>, AllocError>
+        ensures { IfOk result (λ answer. answer ≡ fault_answer (stands_for names.now)
+            (names_of names.now) line.now (fault_at fault.entry)) }
     {
-        let (code, name) = (fault.kind.code(), fault.kind.name());
+        let known = names.all(alloc)?;
         let mut text = Vec::new(alloc);
-        push_reported(&mut text, "script ", code, name)?;
+        push_reported(&mut text, "script ", fault.kind.code(), fault.kind.name())?;
+        let mut error = Vec::new(alloc);
+        push_fault(&mut error, names, &known, line, &fault)?;
         Ok(Answer {
             text,
             outcome: Outcome::Refused,
-            error: reason(alloc, "script ", code, name)?,
+            error,
             is_expectation: false,
         })
     }

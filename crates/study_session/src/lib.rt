@@ -16,6 +16,7 @@ mod plan;
 
 // Questions.
 mod changes;
+mod help;
 mod known;
 mod links;
 mod log;

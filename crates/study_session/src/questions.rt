@@ -8,6 +8,7 @@ ghost use Rattle.study_session.specs.Questions.{IsQuestionAnswer};
 
 use crate::answer::Answer;
 use crate::changes::{changes_answer, gone_answer, lost_answer};
+use crate::help::help_answer;
 use crate::links::{links_answer, networks_answer, routers_answer};
 use crate::log::log;
 use crate::loops::{loops_answer, microloops_answer};
@@ -53,6 +54,6 @@ pub(crate) fn question<A: Allocator + Copy>(
             microloops_answer(alloc, branches, names, branch, count.unwrap_or(1))
         }
         Question::Log => log(alloc, branch, planner),
-        Question::Help(_) => Ok(Answer::accepted(alloc, Vec::new(alloc))),
+        Question::Help(word) => help_answer(alloc, branch, word),
     }
 }

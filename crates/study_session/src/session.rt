@@ -86,7 +86,9 @@ impl<'n, A: Allocator + Copy> StudySession<'n, A> {
                 let answer = carry_out(alloc, branches, baseline, names, branch, &command)?;
                 Ok(Some(answer))
             }
-            Err(ParseError::Fault(fault)) => Ok(Some(Answer::faulty(alloc, fault)?)),
+            Err(ParseError::Fault(fault)) => {
+                Ok(Some(Answer::faulty(alloc, &self.names, line, fault)?))
+            },
             Err(ParseError::OutOfMemory) => Err(AllocError),
         }
     }
