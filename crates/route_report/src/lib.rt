@@ -28,3 +28,4 @@ pub use path::path_of;
 pub use path_condition::path_holds;
 pub use route_condition::{has_route, hops_of, meets, push_found_route};
 pub use routes::routes_of;
+
