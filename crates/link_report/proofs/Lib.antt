@@ -1,0 +1,5 @@
+mod Pushed
+mod Rising
+mod Numbered
+mod AreaIds
+mod ByKey
