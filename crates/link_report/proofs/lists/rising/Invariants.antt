@@ -1,6 +1,6 @@
 use Rattle.std.proofs.Common.{◌≡◌, ◌≤◌, drop, length}
 use Rattle.area_graph.specs.Rising.{rising}
-use Rattle.link_report.proofs.order.rising.Given as goal
+use Rattle.link_report.proofs.lists.rising.Given as goal
 
 -- the items from the last on
 abbrev pub invariant-loop-i : goal.invariant-loop-i

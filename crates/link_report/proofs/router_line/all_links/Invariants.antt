@@ -1,7 +1,7 @@
 use Rattle.std.proofs.Common.{◌≡◌, take}
 use Rattle.std.specs.List.{flat_map}
 use Rattle.lsa_codec.specs.Links.{links_of}
-use Rattle.link_report.proofs.router_line.links_of.Given as goal
+use Rattle.link_report.proofs.router_line.all_links.Given as goal
 
 -- the links of the LSAs so far
 abbrev pub invariant-loop-lsa : goal.invariant-loop-lsa

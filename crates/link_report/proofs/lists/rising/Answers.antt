@@ -3,7 +3,7 @@ use Rattle.std.proofs.lemmas.Iterator.{items_from_collect}
 use Rattle.std.proofs.lemmas.Iterator.Consumers.{YieldsList-from_rest}
 use Rattle.std.proofs.lemmas.Result.{IfOk-weaker}
 use Rattle.link_report.proofs.Rising.{rising_all, rising_more}
-use Rattle.link_report.proofs.order.rising.Goals as goal
+use Rattle.link_report.proofs.lists.rising.Goals as goal
 
 pub loop-i-preserved : goal.loop-i-preserved
 loop-i-preserved g c = (
