@@ -1,5 +1,5 @@
 -- What is said of each link of a router-LSA (RFC 2328, 12.4.1 and A.4.2).
-use Rattle.std.specs.Prelude.{ℕ, ◌+◌, ◌-◌, ◌==◌, if◌then◌else◌, List, [], ◌∷◌, map, slice_get, Option, Some, None}
+use Rattle.std.specs.Prelude.{ℕ, Bool, false, ◌+◌, ◌-◌, ◌==◌, if◌then◌else◌, List, [], ◌∷◌, map, slice_get, Option, Some, None}
 use Rattle.std.specs.List.{enumerate_from, flat_map}
 use Rattle.std.specs.Option.{option_and_then, option_map}
 use Rattle.lsa_codec.specs.declared.address.Addr.{Addr}
@@ -38,10 +38,14 @@ pub record LinkValue : Type 0 where
 abbrev pub network_of : List (List ℕ) → Link → Option (List ℕ)
 network_of used link = if is_transit link.kind then network_lsa_in used link.id else None
 
+-- a network-LSA is there and lists a router
+abbrev pub is_listed : Option (List ℕ) → RouterId → Bool
+is_listed None router = false
+is_listed (Some lsa) router = lists_router lsa router
+
 -- from a network to a router it costs 0, where the network-LSA lists the router (16.1)
 abbrev pub cost_from_network : Option (List ℕ) → RouterId → List ℕ
-cost_from_network None router = []
-cost_from_network (Some lsa) router = if lists_router lsa router then 0 ∷ [] else []
+cost_from_network network router = if is_listed network router then 0 ∷ [] else []
 
 -- the costs back over a link: from the network of a transit link, or of the far ends
 abbrev pub back_of : Option (List ℕ) → RouterId → Link → List Interface → List ℕ

@@ -3,7 +3,8 @@
 
 ghost use Rattle.std.specs.Prelude.{◌≡◌, ◌<◌, ◌^◌, IfOk, option_map};
 ghost use Rattle.std.specs.Option.{option_copied};
-ghost use Rattle.link_report.specs.Links.{back_of, interface_numbered, net_of_link, network_of, owner_of, stub_of};
+ghost use Rattle.lsa_codec.specs.Links.{is_transit};
+ghost use Rattle.link_report.specs.Links.{back_of, cost_from_network, interface_numbered, is_listed, net_of_link, network_of, owner_of, stub_of};
 
 use area_graph::VertexLsa;
 use interfaces::{Interface, costs_back, lists_router, network_lsa_in, stub_between};
@@ -40,6 +41,16 @@ pub(crate) fn network_of<'a, A: Allocator + Copy>(
     lsa.network()
 }
 
+/// Whether a network-LSA is there and lists a router.
+fn is_listed(network: Option<&NetworkView<'_>>, router: RouterId) -> bool
+    ensures { result ≡ is_listed (option_copied network.entry) router }
+{
+    match network {
+        Some(lsa) => lists_router(lsa, router),
+        None => false,
+    }
+}
+
 /// The cost from a network to a router, 0, where the network's LSA lists the router.
 fn cost_from_network<A: Allocator + Copy>(
     alloc: A,
@@ -50,9 +61,7 @@ fn cost_from_network<A: Allocator + Copy>(
         (λ costs. costs.items ≡ cost_from_network (option_copied network.entry) router) }
 {
     let mut costs = Vec::new(alloc);
-    if let Some(network) = network
-        && lists_router(network, router)
-    {
+    if is_listed(network, router) {
         costs.push(0)?;
     }
     Ok(costs)

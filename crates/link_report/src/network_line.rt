@@ -8,7 +8,7 @@ ghost use Rattle.area_graph.specs.Rising.{rising};
 ghost use Rattle.link_report.specs.Networks.{joined_routers, network_cmp, network_in, network_place, network_value, networks_in, network_values, one_way_routers};
 
 use crate::areas::{UsedArea, used_areas};
-use crate::order::rising;
+use crate::lists::rising;
 use area_graph::VertexLsa;
 use interfaces::{Member, members_of, network_lsa_in};
 use lsa_codec::{Addr, AreaId, Lsa, Prefix, RouterId};

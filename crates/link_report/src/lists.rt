@@ -1,8 +1,10 @@
-//! Lists in rising order.
+//! Lists that values are made from.
 
 ghost use Rattle.std.specs.Prelude.{◌≡◌, IfOk};
+ghost use Rattle.lsa_codec.specs.Links.{links_of};
 ghost use Rattle.area_graph.specs.Rising.{rising};
 
+use lsa_codec::{Link, RouterView};
 use std::alloc::{AllocError, Allocator};
 use std::collections::BTreeSet;
 
@@ -18,4 +20,14 @@ pub(crate) fn rising<T: Ord + Copy, A: Allocator + Copy>(
         found.insert(items[i])?;
     }
     found.into_iter().collect(alloc)
+}
+
+/// The links of a router-LSA, in their order.
+pub(crate) fn links_of<A: Allocator + Copy>(
+    alloc: A,
+    lsa: &RouterView<'_>,
+) -> Result<Vec<Link, A>, AllocError>
+    ensures { IfOk result (λ links. links.items ≡ links_of lsa.now) }
+{
+    lsa.links().collect(alloc)
 }
