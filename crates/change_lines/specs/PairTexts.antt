@@ -1,5 +1,5 @@
 -- The texts of routers with prefixes that they have no entry for any more.
-use Rattle.std.specs.Prelude.{ℕ, Bool, ◌==◌, ◌&&◌, not, List, [], ◌∷◌, ◌++◌, map, length, codes, decimal}
+use Rattle.std.specs.Prelude.{ℕ, Bool, ◌==◌, ◌&&◌, not, List, [], ◌∷◌, ◌++◌, map, length, Option, codes, decimal}
 use Rattle.std.specs.List.{filter, list_any}
 use Rattle.lsa_codec.specs.Prefix.{Net}
 use Rattle.lsa_codec.specs.Spelling.{prefix_text}
@@ -7,13 +7,13 @@ use Rattle.lsa_codec.specs.declared.address.RouterId.{RouterId}
 use Rattle.study_text.specs.Lists.{first_three, listed}
 use Rattle.study_text.specs.Shown.{Called, shown}
 use Rattle.route_lines.specs.RouteLines.{RouteLineValue}
-use Rattle.route_lines.specs.RouteTexts.{route_text}
+use Rattle.change_lines.specs.ChangeTexts.{route_after}
 use Rattle.change_lines.specs.declared.pair.Pair.{Pair}
 
 -- a pair, the route that the router had, and the routers that announce the prefix still
 pub record PairLineValue : Type 0 where
   pub pair : Pair
-  pub was : RouteLineValue
+  pub was : Option RouteLineValue
   pub announced : List RouterId
 
 abbrev pub pair_text : Called → Pair → List ℕ
@@ -26,7 +26,7 @@ announced_text called (router ∷ routers) = codes " announced " ++ listed (map 
 
 -- the line of a pair
 abbrev pub pair_line : Called → PairLineValue → List ℕ
-pair_line called line = pair_text called line.pair ++ codes " was " ++ route_text called line.was ++ announced_text called line.announced
+pair_line called line = pair_text called line.pair ++ route_after called (codes " was ") line.was ++ announced_text called line.announced
 
 -- ---- what was found
 

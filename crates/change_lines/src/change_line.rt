@@ -32,7 +32,7 @@ impl<A: Allocator> Model for ChangeLine<A> {
 }
 
 /// Adds a route after a word, if there is one.
-fn push_route_after<A: Allocator + Copy, B: Allocator + Copy>(
+pub(crate) fn push_route_after<A: Allocator + Copy, B: Allocator + Copy>(
     text: &mut Vec<u8, A>,
     names: &Names<'_, A>,
     word: &str,

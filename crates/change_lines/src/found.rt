@@ -62,7 +62,7 @@ pub fn push_pairs_found<A: Allocator + Copy>(
 }
 
 /// Whether a prefix is among some.
-fn is_listed(nets: &[Prefix], net: Prefix) -> bool
+pub fn is_listed(nets: &[Prefix], net: Prefix) -> bool
     ensures { result ≡ is_listed nets.now net }
 {
     nets.iter().any(|listed| net == *listed)

@@ -21,7 +21,7 @@ mod found;
 pub use change_line::ChangeLine;
 pub use change_name::ChangeName;
 pub use changes::{Changes, push_counts};
-pub use found::{push_changes_found, push_pairs_found, push_unlisted, unlisted};
+pub use found::{is_listed, push_changes_found, push_pairs_found, push_unlisted, unlisted};
 pub use group::ChangeGroup;
 pub use pair::Pair;
 pub use pair_line::PairLine;

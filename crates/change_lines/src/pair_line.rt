@@ -4,10 +4,11 @@ ghost use Rattle.std.specs.Prelude.{◌≡◌, ◌++◌, OnOk};
 ghost use Rattle.network_names.specs.Names.{called};
 ghost use Rattle.change_lines.specs.PairTexts.{announced_text};
 
+use crate::change_line::push_route_after;
 use crate::pair::Pair;
 use lsa_codec::RouterId;
 use network_names::Names;
-use route_lines::{RouteLine, push_route};
+use route_lines::RouteLine;
 use std::alloc::{AllocError, Allocator, Global};
 use std::marker::Model;
 use study_text::{Shown, push_list};
@@ -18,7 +19,7 @@ pub struct PairLine<A: Allocator = Global> {
     /// The router and the prefix.
     pub pair: Pair,
     /// The route that the router had.
-    pub was: RouteLine<A>,
+    pub was: Option<RouteLine<A>>,
     /// The routers that announce the prefix still, in order.
     pub announced: Vec<RouterId, A>,
 }
@@ -58,8 +59,7 @@ impl<A: Allocator + Copy> Shown for PairLine<A> {
         names: &Names<'_, B>,
     ) -> Result<(), AllocError> {
         self.pair.push_to(text, names)?;
-        text.extend_from_slice(b" was ")?;
-        push_route(text, names, &self.was)?;
+        push_route_after(text, names, " was ", self.was.as_ref())?;
         push_announced(text, names, &self.announced)
     }
 }

@@ -75,8 +75,9 @@ pub(crate) fn used_areas<'a, A: Allocator + Copy>(
 ) -> Result<Vec<UsedArea<'a, A>, A>, AllocError>
     ensures { IfOk result (λ areas. areas.items ≡ used_areas (lists_of database.now)) }
 {
+    let ids = area_ids(alloc, database)?;
     let mut areas = Vec::new(alloc);
-    for area in &area_ids(alloc, database)? {
+    for area in &ids {
         areas.push(UsedArea::of(alloc, database, *area)?)?;
     }
     Ok(areas)

@@ -12,7 +12,7 @@ use crate::link_side::InterfaceStub;
 use lsa_codec::{Addr, Link, LinkKind, Prefix, RouterId};
 use network_names::Names;
 use std::alloc::{AllocError, Allocator};
-use study_text::{push_address, push_joined, push_number, push_prefix, push_router};
+use study_text::{Shown, push_address, push_joined, push_number, push_prefix, push_router};
 
 /// Adds the kind of a link.
 fn push_kind<A: Allocator + Copy>(text: &mut Vec<u8, A>, kind: LinkKind) -> Result<(), AllocError>
@@ -101,6 +101,24 @@ pub fn push_link_name<A: Allocator + Copy>(
     push_where(text, names, line.link, line.net)
 }
 
+/// A cost, which is shown as a number.
+#[derive(Clone, Copy)]
+struct Cost(u32);
+
+impl Shown for Cost {
+    ghost use Rattle.std.specs.Prelude.{decimal};
+
+    ghost shown_as = { λ called cost. decimal cost.0 };
+
+    fn push_to<A: Allocator + Copy>(
+        &self,
+        text: &mut Vec<u8, A>,
+        _names: &Names<'_, A>,
+    ) -> Result<(), AllocError> {
+        push_number(text, u64::from(self.0))
+    }
+}
+
 /// Adds costs joined by slashes, or `none`.
 fn push_costs<A: Allocator + Copy>(
     text: &mut Vec<u8, A>,
@@ -112,7 +130,11 @@ fn push_costs<A: Allocator + Copy>(
     if costs.is_empty() {
         return text.extend_from_slice(b"none");
     }
-    push_joined(text, names, "/", costs)
+    let costs: Vec<Cost, A> = costs
+        .iter()
+        .map(|cost| Cost(*cost))
+        .collect(*text.allocator())?;
+    push_joined(text, names, "/", &costs)
 }
 
 /// Adds addresses joined by slashes, or `none`.

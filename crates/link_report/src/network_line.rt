@@ -160,7 +160,8 @@ fn push_networks<A: Allocator + Copy>(
     ensures { OnOk result (lines.new.items
         ≡ lines.old.items ++ networks_in (lists_of database.now) area.now) }
 {
-    for place in &places(alloc, area.lsas())? {
+    let places = places(alloc, area.lsas())?;
+    for place in &places {
         push_network(lines, alloc, database, area, *place)?;
     }
     Ok(())
@@ -178,8 +179,9 @@ pub fn network_lines<A: Allocator + Copy>(
 ) -> Result<Vec<NetworkLine<A>, A>, AllocError>
     ensures { IfOk result (λ lines. lines.items ≡ network_values (lists_of database.now)) }
 {
+    let areas = used_areas(alloc, database)?;
     let mut lines = Vec::new(alloc);
-    for area in &used_areas(alloc, database)? {
+    for area in &areas {
         push_networks(&mut lines, alloc, database, area)?;
     }
     Ok(lines)

@@ -87,13 +87,10 @@ fn router_lsas<'a, A: Allocator + Copy>(
     ensures { IfOk result (λ found. found.items
         ≡ filter_map (λ area. router_lsa_of (lists_of database.now) area router) areas.now) }
 {
-    let mut found = Vec::new(alloc);
-    for area in areas {
-        if let Some(lsa) = router_lsa_of(database, *area, router) {
-            found.push(lsa)?;
-        }
-    }
-    Ok(found)
+    areas
+        .iter()
+        .filter_map(|area| router_lsa_of(database, *area, router))
+        .collect(alloc)
 }
 
 /// Whether one of some router-LSAs has a bit in its flags.
@@ -180,8 +177,9 @@ pub fn router_lines<A: Allocator + Copy>(
     ensures { IfOk result (λ lines. lines.items ≡ router_values (lists_of database.now)) }
 {
     let areas = area_ids(alloc, database)?;
+    let attached = routers(alloc, database)?;
     let mut lines = Vec::new(alloc);
-    for router in &routers(alloc, database)? {
+    for router in &attached {
         lines.push(router_line(alloc, database, &areas, *router)?)?;
     }
     Ok(lines)

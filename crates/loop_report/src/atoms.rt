@@ -1,7 +1,8 @@
 //! The atoms of prefixes: their addresses that no longer prefix covers.
 
-ghost use Rattle.std.specs.Prelude.{◌≡◌, ◌++◌, IfOk, MatchOption};
+ghost use Rattle.std.specs.Prelude.{◌≡◌, ◌<◌, ◌^◌, ◌++◌, IfOk, MatchOption};
 ghost use Rattle.lsa_codec.specs.Order.{prefix_cmp};
+ghost use Rattle.lsa_codec.specs.declared.address.Addr.{Addr as AnyAddr};
 ghost use Rattle.area_graph.specs.Rising.{rising};
 ghost use Rattle.loop_report.specs.Atoms.{IsEmptyAtom, IsInAtom, IsLonger, NoneLonger, nets_of_all};
 ghost use Rattle.loop_report.specs.steps.Gathering.{end_of};
@@ -34,6 +35,22 @@ fn end_of(net: Prefix) -> u64
     ensures { result ≡ end_of net }
 {
     u64::from(net.addr().0) + (1u64 << (32 - net.len()))
+}
+
+/// The first address after a prefix, if it is before the end of another one.
+fn next_before_end(longer: Prefix, net: Prefix) -> Option<Addr>
+    ensures { MatchOption result
+        ((other : AnyAddr) → other.0 < 2 ^ 32 → other.0 < end_of net → other.0 < end_of longer)
+        (λ next. (next.0 ≡ end_of longer) × (next.0 < end_of net)) }
+{
+    let after = end_of(longer);
+    if after >= end_of(net) {
+        return None;
+    }
+    match u32::try_from(after) {
+        Ok(number) => Some(Addr(number)),
+        Err(_) => None,
+    }
 }
 
 impl<A: Allocator + Copy> Atoms<A> {
@@ -83,12 +100,8 @@ impl<A: Allocator + Copy> Atoms<A> {
         ensures { MatchOption result (IsEmptyAtom self.now net) (IsInAtom self.now net) }
     {
         let mut address = net.addr();
-        'longer: while let Some(longer) = self.longer(net, address) {
-            let after = end_of(longer);
-            if after > u64::from(u32::MAX) || after >= end_of(net) {
-                return None;
-            }
-            address = Addr(after as u32);
+        'covered: while let Some(longer) = self.longer(net, address) {
+            address = next_before_end(longer, net)?;
         }
         Some(address)
     }

@@ -9,7 +9,6 @@ use forwarding::Forwarding;
 use lsdb::Database;
 use spf::Meter;
 use std::alloc::{AllocError, Allocator};
-use std::marker::Model;
 
 /// What the forwarding graphs of two databases come from, and the prefixes of all entries.
 #[derive(Drop)]
@@ -17,14 +16,6 @@ pub(crate) struct Compared<A: Allocator> {
     pub(crate) was: Forwarding<A>,
     pub(crate) is: Forwarding<A>,
     pub(crate) atoms: Atoms<A>,
-}
-
-impl<A: Allocator> Model for Compared<A> {
-    ghost use Rattle.loop_report.specs.steps.Comparing.{ComparedValue};
-
-    ghost Value = { ComparedValue };
-
-    ghost view = { λ c. record { was = c.was; is = c.is; nets = c.atoms } };
 }
 
 impl<A: Allocator + Copy> Compared<A> {

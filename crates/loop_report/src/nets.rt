@@ -51,7 +51,8 @@ pub(crate) fn insert_nets<A: Allocator + Copy>(
         (Gathers (nets_of_all forwarding.now.routers) found.old.keys found.new.keys) }
 {
     for routes in forwarding.routers() {
-        insert_all(found, &Entries::of(routes).nets(alloc)?)?;
+        let nets = Entries::of(routes).nets(alloc)?;
+        insert_all(found, nets.as_slice())?;
     }
     Ok(())
 }

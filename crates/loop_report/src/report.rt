@@ -27,7 +27,7 @@ pub struct LoopReport<A: Allocator = Global> {
 }
 
 impl<A: Allocator> Model for LoopReport<A> {
-    ghost use Rattle.loop_report.specs.steps.Comparing.{ReportValue};
+    ghost use Rattle.loop_report.specs.Reports.{ReportValue};
 
     ghost Value = { ReportValue };
 

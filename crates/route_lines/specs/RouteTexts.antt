@@ -8,7 +8,7 @@ use Rattle.study_words.specs.declared.route_kind.RouteKind.{RouteKind}
 use Rattle.study_words.specs.declared.route_kind.RouteKind.TheVariants.{Intra, Inter, External1, External2, Own}
 use Rattle.study_text.specs.Lists.{joined}
 use Rattle.study_text.specs.Shown.{Called, shown}
-use Rattle.route_lines.specs.declared.own_external.OwnExternal.{OwnExternal}
+use Rattle.route_lines.specs.declared.own_source.OwnSource.{OwnSource}
 use Rattle.route_lines.specs.declared.route_source.RouteSource.{RouteSource}
 use Rattle.route_lines.specs.declared.route_way.WayTarget.{WayTarget}
 use Rattle.route_lines.specs.declared.route_way.WayTarget.TheVariants.{Via, Direct, Exit}
@@ -54,7 +54,7 @@ metric_text External2 metric = codes " metric " ++ decimal metric
 metric_text Own metric = []
 
 -- kind, cost and metric, by the router's own AS-external-LSA, if it is one
-abbrev pub source_by : RouteSource → Option OwnExternal → List ℕ
+abbrev pub source_by : RouteSource → Option OwnSource → List ℕ
 source_by source None = route_kind_text source.kind ++ codes " cost " ++ decimal source.cost ++ metric_text source.kind source.metric
 source_by source (Some own) = codes "own " ++ route_kind_text (external_kind own.is_type2) ++ codes " metric " ++ decimal own.metric
 
@@ -70,7 +70,7 @@ area_text None = []
 area_text (Some area) = codes " area " ++ address_text area.0
 
 -- what follows the costs
-abbrev pub rest_by : Called → RouteLineValue → Option OwnExternal → List ℕ
+abbrev pub rest_by : Called → RouteLineValue → Option OwnSource → List ℕ
 rest_by called route None = area_text route.area ++ codes " " ++ ways_text called route.ways
 rest_by called route (Some own) = forward_text own.forward
 

@@ -9,7 +9,7 @@
 mod part;
 
 // Routes.
-mod own_external;
+mod own_source;
 mod route_line;
 mod route_source;
 mod route_text;
@@ -24,7 +24,7 @@ mod path_step;
 mod path_text;
 mod step_text;
 
-pub use own_external::OwnExternal;
+pub use own_source::OwnSource;
 pub use part::push_lines;
 pub use path::Path;
 pub use path_end::PathEnd;
@@ -35,3 +35,6 @@ pub use route_line::RouteLine;
 pub use route_source::RouteSource;
 pub use route_text::{push_route, push_routes};
 pub use route_way::{RouteWay, WayTarget};
+
+#[test]
+fn compiles() {}

@@ -1,6 +1,6 @@
 //! Where routes come from.
 
-use crate::own_external::OwnExternal;
+use crate::own_source::OwnSource;
 use study_words::RouteKind;
 
 /// Where a route comes from, and what it costs.
@@ -12,6 +12,6 @@ pub struct RouteSource {
     pub metric: u32,
     /// The cost, without that metric, and 0 for an external prefix of the router itself.
     pub cost: u64,
-    /// The router's own AS-external-LSA, where the route is none of the table.
-    pub own: Option<OwnExternal>,
+    /// What the router announces, where it is an external prefix of its own.
+    pub own: Option<OwnSource>,
 }

@@ -6,7 +6,7 @@ ghost use Rattle.study_words.specs.RouteKinds.{route_kind_text};
 ghost use Rattle.route_lines.specs.RouteLines.{external_kind};
 ghost use Rattle.route_lines.specs.RouteTexts.{area_text, forward_text, metric_text, rest_by, route_text, routes_text, source_text, ways_text};
 
-use crate::own_external::OwnExternal;
+use crate::own_source::OwnSource;
 use crate::part::{push_address_after, push_lines, push_number_after, push_word};
 use crate::route_line::RouteLine;
 use crate::route_source::RouteSource;
@@ -46,7 +46,7 @@ fn push_cost<A: Allocator + Copy>(
 }
 
 /// Adds kind and metric of an external prefix of the router itself.
-fn push_own<A: Allocator + Copy>(text: &mut Vec<u8, A>, own: OwnExternal) -> Result<(), AllocError>
+fn push_own<A: Allocator + Copy>(text: &mut Vec<u8, A>, own: OwnSource) -> Result<(), AllocError>
     ensures { OnOk result (text.new.items ≡ text.old.items
         ++ (codes "own " ++ route_kind_text (external_kind own.is_type2) ++ codes " metric "
         ++ decimal own.metric)) }

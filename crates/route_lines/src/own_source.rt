@@ -1,4 +1,4 @@
-//! External prefixes that a router announces itself.
+//! What routers announce for external prefixes of their own.
 
 ghost use Rattle.std.specs.Prelude.{◌≡◌};
 ghost use Rattle.route_lines.specs.RouteLines.{external_kind};
@@ -6,10 +6,10 @@ ghost use Rattle.route_lines.specs.RouteLines.{external_kind};
 use lsa_codec::Addr;
 use study_words::RouteKind;
 
-/// An AS-external-LSA of a router for a prefix of its own (RFC 2328, 16.4 (2)): the router has
+/// What a router announces for an external prefix of its own (RFC 2328, 16.4 (2)): the router has
 /// another source for the prefix than OSPF, such as a static route.
 #[derive(Clone, Copy, Debug, PartialEq, Eq)]
-pub struct OwnExternal {
+pub struct OwnSource {
     /// Whether its metric is of type 2, which counts before any cost.
     pub is_type2: bool,
     /// Its metric.
@@ -18,7 +18,7 @@ pub struct OwnExternal {
     pub forward: Addr,
 }
 
-impl OwnExternal {
+impl OwnSource {
     /// The kind of routes that it gives to other routers.
     pub fn kind(self) -> RouteKind
         ensures { result ≡ external_kind self.is_type2 }
