@@ -1,9 +1,10 @@
 -- A word of a line as it is printed.
-use Rattle.std.specs.Prelude.{ℕ, ◌/◌, ◌%◌, ◌==◌, ◌&&◌, not, nat_le, Bool, List, [], ◌∷◌, ◌++◌, length, take, flat_map, codes, slice_index, if◌then◌else◌}
+use Rattle.std.specs.Prelude.{ℕ, ◌+◌, ◌/◌, ◌%◌, ◌==◌, ◌&&◌, not, nat_le, nat_lt, Bool, List, [], ◌∷◌, ◌++◌, length, take, flat_map, codes, if◌then◌else◌}
 use Rattle.text_words.specs.Words.{Word}
 
+-- a digit to the base 16: 0 to 9 (48 to 57), a to f (97 to 102)
 abbrev pub hex_digit : ℕ → ℕ
-hex_digit n = slice_index (codes "0123456789abcdef") n
+hex_digit n = if nat_lt n 10 then 48 + n else 87 + n
 
 -- 21 to 7e, other than `\` (5c)
 abbrev pub is_plain : ℕ → Bool

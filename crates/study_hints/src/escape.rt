@@ -8,15 +8,16 @@ use std::alloc::{AllocError, Allocator};
 /// The number of bytes that are shown of a word.
 const SHOWN: usize = 64;
 
-/// The digits of numbers to the base 16.
-static DIGITS: [u8; 16] = *b"0123456789abcdef";
-
 /// A digit to the base 16.
 fn hex_digit(number: u8) -> u8
     requires { number < 16 }
     ensures { result ≡ hex_digit number }
 {
-    DIGITS[usize::from(number)]
+    if number < 10 {
+        b'0' + number
+    } else {
+        b'a' - 10 + number
+    }
 }
 
 /// Whether a byte is printed as it is.
