@@ -1,17 +1,13 @@
 -- The command line of the program, as clap reads it.
 use Rattle.std.specs.Prelude.{◌≡◌, List, Some, codes, map, nat_lt, true, option_map}
 use Rattle.clap.specs.Words.{App, Rule, Text, new_rule, with_rule}
-use Rattle.clap.specs.declared.builder.action.ArgAction.TheVariants.{Append, Count, Set}
-use Rattle.host_arguments.specs.Commands.{named, times_given, value_of, value_rule, values_of}
+use Rattle.clap.specs.declared.builder.action.ArgAction.TheVariants.{Append, Set}
+use Rattle.host_arguments.specs.Commands.{flag_rule, named, times_given, value_of, value_rule, values_of}
 use Rattle.ospf_study.specs.declared.arguments.Options.{Options}
 
 -- the option `--dump DUMP`, which has to be given
 abbrev pub dump_rule : Rule
 dump_rule = record (value_rule (codes "dump") Set) { required = true }
-
--- the option `--keep-going`, once or more
-abbrev pub keep_rule : Rule
-keep_rule = record (new_rule (codes "keep-going")) { long = Some (codes "keep-going"); action = Some Count }
 
 -- the words `STUDY..`
 abbrev pub studies_rule : Rule
@@ -25,7 +21,7 @@ ospf_study = with_rule
     (with_rule
     (with_rule (with_rule (named (codes "ospf-study")) dump_rule) (value_rule (codes "baseline") Set))
     (value_rule (codes "names") Set))
-    keep_rule)
+    (flag_rule (codes "keep-going")))
     (value_rule (codes "out") Set))
     studies_rule
 

@@ -2,16 +2,17 @@
 
 ghost use Rattle.std.specs.Prelude.{◌≡◌, false, [], codes, map, nat_lt, string_bytes, IfOk, IfErr, OnOk};
 ghost use Rattle.clap.specs.Words.{app_of, count_of, fault_of, found_of, rows_of, rule_of};
-ghost use Rattle.host_arguments.specs.Commands.{value_rule, values_in};
+ghost use Rattle.host_arguments.specs.Commands.{value_rule};
 ghost use Rattle.host_arguments.specs.OptionsFaults.{IsRefusal};
-ghost use Rattle.ospf_study.specs.CommandLine.{dump_rule, keep_rule, studies_rule};
-ghost use Rattle.ospf_study.specs.CommandLine.{ospf_study, IsGiven};
+ghost use Rattle.ospf_study.specs.CommandLine.{dump_rule, ospf_study, studies_rule, IsGiven};
 ghost use Rattle.ospf_study.specs.steps.FoundFiles.{IsRead};
 
 use crate::arguments::Options;
 use crate::help::{ABOUT, DETAILS, VERSION};
 use clap::{Arg, ArgAction, ArgMatches, Command};
-use host_arguments::{CommandTexts, OptionsFault, named_command, value_option};
+use host_arguments::{
+    CommandTexts, OptionsFault, flag_option, named_command, value_option, values_found,
+};
 use std::alloc::{AllocError, Global};
 
 /// The options that the words of a command line give. The first word is the program's name.
@@ -54,7 +55,11 @@ fn command<'a>(alloc: Global) -> Result<Command<'a>, AllocError>
             "FILE",
             "The names of routers, as /etc/hosts has them",
         ))?
-        .arg(keep_option(alloc))?
+        .arg(flag_option(
+            alloc,
+            "keep-going",
+            "Carry out all lines, also after one that is refused or fails",
+        ))?
         .arg(file_option(
             alloc,
             "out",
@@ -86,17 +91,6 @@ fn file_option<'a>(alloc: Global, name: &'a str, value: &'a str, help: &'a str) 
     value_option(alloc, name, value, help, ArgAction::Set)
 }
 
-/// The option `--keep-going`.
-fn keep_option<'a>(alloc: Global) -> Arg<'a>
-    ensures rule { rule_of result ≡ keep_rule }
-    ensures local { result.global ≡ false }
-{
-    Arg::new(alloc, "keep-going")
-        .long("keep-going")
-        .help("Carry out all lines, also after one that is refused or fails")
-        .action(ArgAction::Count)
-}
-
 /// The words `STUDY..`.
 fn study_words<'a>(alloc: Global) -> Arg<'a>
     ensures rule { rule_of result ≡ studies_rule }
@@ -118,7 +112,7 @@ fn named_files<'a>(alloc: Global, matches: &ArgMatches<'a>) -> Result<Options<'a
         names: matches.get_str("names"),
         keep_going: is_given(matches, "keep-going"),
         out: matches.get_str("out"),
-        studies: names_of(alloc, matches, "studies")?,
+        studies: values_found(alloc, matches, "studies")?,
     })
 }
 
@@ -127,19 +121,4 @@ fn is_given(matches: &ArgMatches<'_>, id: &str) -> bool
     ensures { result ≡ nat_lt 0 (count_of id.now (rows_of (found_of matches.now))) }
 {
     0 < matches.get_count(id)
-}
-
-/// The words that clap found for an argument; none where it is not given.
-fn names_of<'a>(
-    alloc: Global,
-    matches: &ArgMatches<'a>,
-    id: &str,
-) -> Result<Vec<&'a str>, AllocError>
-    ensures { IfOk result (λ names.
-        map (λ name. name.now) names.items ≡ values_in (found_of matches.now) id.now) }
-{
-    match matches.get_strs(id) {
-        None => Ok(Vec::new(alloc)),
-        Some(words) => Vec::from_slice(alloc, words),
-    }
 }

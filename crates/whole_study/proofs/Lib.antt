@@ -1,1 +1,3 @@
-pub mod Carrying
+pub mod CarriedLines
+pub mod ReadInputs
+pub mod ReadEnds

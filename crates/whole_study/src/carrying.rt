@@ -74,10 +74,10 @@ fn carry_out_study<A: Allocator + Copy, W: Write, E: Write>(
     ensures ended { IfErr result MayEndWriting }
     ensures order { has_failed output.new.errors ≡ true → is_flushed output.new.replies ≡ true }
 {
-    let file = study.name;
     let mut number = 1;
     let mut rest = study.text.as_slice();
     'lines: while let Some((text, after)) = cut_at(rest, b'\n') {
+        let file = study.name;
         let line = Line { file, number, text };
         if !carry_out_line(alloc, session, line, keep_going, output, summary)? {
             return Ok(false);
@@ -85,7 +85,7 @@ fn carry_out_study<A: Allocator + Copy, W: Write, E: Write>(
         number += 1;
         rest = after;
     }
-    let text = rest;
+    let (file, text) = (study.name, rest);
     let line = Line { file, number, text };
     carry_out_line(alloc, session, line, keep_going, output, summary)
 }

@@ -9,7 +9,7 @@ ghost use Rattle.whole_run.specs.Streams.{contents_of, has_any_failed};
 ghost use Rattle.whole_study.specs.Calls.{MayEndRun, most};
 ghost use Rattle.whole_study.specs.Given.{Given};
 ghost use Rattle.whole_study.specs.Streams.{HaveBytes, has_file_failed, has_study_failed};
-ghost use Rattle.whole_study.specs.steps.Texts.{HasFewBytes, IsLongIn, IsReadEnd, IsReadOf, IsTextOf, Never, bytes_in, given_in};
+ghost use Rattle.whole_study.specs.steps.Texts.{HasFewBytes, IsLongBaseline, IsLongIn, IsReadEnd, IsReadOf, IsTextOf, Never, bytes_in, given_in};
 
 use crate::fault::RunFault;
 use host_io::{ReadFault, Watched, read_whole};
@@ -96,8 +96,8 @@ fn read_baseline<A: Allocator + Copy, R: Read>(
     requires { has_any_failed reader.old ≡ false }
     ensures whole { IfOk result (λ bytes.
         IsReadOf R.remaining reader.old (bytes_in bytes)) }
-    ensures end { IfErr result (IsReadEnd Never (λ fault. (is_some reader.old ≡ true)
-        × IsRefusedDump (contents_of R.remaining reader.old) fault) ⊥) }
+    ensures end { IfErr result
+        (IsReadEnd Never (IsLongBaseline R.remaining reader.old) ⊥) }
     ensures failed { (result ≡ Err RunFault.Read) ↔ (has_any_failed reader.new ≡ true) }
 {
     let Some(reader) = reader else {

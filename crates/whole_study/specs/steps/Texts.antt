@@ -6,7 +6,9 @@ use Rattle.host_io.specs.Watched.{inner_of}
 use Rattle.host_io.specs.declared.watch.Watched.{Watched}
 use Rattle.host_io.specs.WholeText.{IsAll}
 use Rattle.lsdb.specs.declared.fault.DumpFault.{DumpFault}
+use Rattle.lsdb.specs.declared.fault.DumpFaultKind.TheVariants as kind
 use Rattle.network_names.specs.File.{names_in}
+use Rattle.whole_run.specs.Inputs.{IsRefusedDump}
 use Rattle.whole_run.specs.Streams.{contents_of}
 use Rattle.whole_study.specs.Calls.{HasLonger, most}
 use Rattle.whole_study.specs.Given.{Given, NamedText}
@@ -71,6 +73,11 @@ IsReadEnd dump baseline long OutOfMemory = Unit {0}
 
 abbrev pub Never : DumpFault → Type 0
 Never fault = ⊥
+
+-- a baseline is given that is too long
+abbrev pub IsLongBaseline : {R : Type 0} → (R → Option (List ℕ)) → Option (Watched R) → DumpFault → Type 0
+IsLongBaseline remaining reader fault =
+    (is_some reader ≡ true) × (IsRefusedDump (contents_of remaining reader) fault × (fault.kind ≡ kind.TooLarge))
 
 -- one of the studies is too long, where their texts are known
 abbrev pub IsLongIn : {S : Type 0} → (S → Option (List ℕ)) → List (StudyFile S) → Type 0

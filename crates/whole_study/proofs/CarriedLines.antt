@@ -26,9 +26,19 @@ answered-append : (s : Study) (xs ys : List Line) (a b : List Answered) → AreA
     → AreAnswered s (xs ++ ys) (a ++ b)
 unfolding AreAnswered study_after
 answered-append s [] ys a b none more = subst (λ (l : List Answered). AreAnswered s ys (l ++ b)) (sym none) more
-answered-append s (x ∷ xs) ys a b (first, (rest, (is, (all, whole)))) more =
-    (first, (rest ++ b, (is, (answered-append (after_line s x.text) xs ys rest b all more,
-    ap (λ (l : List Answered). l ++ b) whole ∙ append_assoc (answered_line x first) rest b))))
+answered-append s (x ∷ xs) ys a b (first, (rest, (is, (all, whole)))) more = (
+  first,
+  (
+    rest ++ b,
+    (
+      is,
+      (
+        answered-append (after_line s x.text) xs ys rest b all more,
+        ap (λ (l : List Answered). l ++ b) whole ∙ append_assoc (answered_line x first) rest b,
+      ),
+    ),
+  ),
+)
 
 -- ---- where a run stops
 
