@@ -17,4 +17,5 @@ mod changeover;
 mod laws;
 
 pub use changeover::microloops;
+pub use laws::equal_graphs_have_their_loops;
 pub use microloop::Microloop;

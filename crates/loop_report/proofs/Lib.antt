@@ -1,0 +1,7 @@
+pub mod Covering
+pub mod Alike
+pub mod Among
+pub mod OneAtom
+pub mod Search
+pub mod Gathered
+pub mod Parted

@@ -1,0 +1,11 @@
+use Rattle.std.proofs.Common.{take}
+use Rattle.lsdb.specs.Lists.{Lists}
+use Rattle.loop_report.specs.Loops.{AreJointLoops}
+use Rattle.loop_report.specs.Parts.{AreParts, IsAtAtom}
+use Rattle.loop_report.specs.steps.Comparing.{IsComparedOf}
+use Rattle.loop_report.proofs.changeover.at_atoms.Given as goal
+
+-- the parts of the prefixes so far
+abbrev pub invariant-loop-net : goal.invariant-loop-net
+invariant-loop-net g l =
+    (was is : Lists) → IsComparedOf was is l.compared → AreParts (IsAtAtom AreJointLoops was is) (take l.net-index l.nets) l.loops.items

@@ -1,0 +1,8 @@
+use Rattle.std.proofs.Common.{take}
+use Rattle.loop_report.specs.Atoms.{nets_of_all}
+use Rattle.loop_report.specs.steps.Gathering.{Gathers}
+use Rattle.loop_report.proofs.nets.insert_nets.Given as goal
+
+-- the prefixes of the routers so far were added
+abbrev pub invariant-loop-routes : goal.invariant-loop-routes
+invariant-loop-routes g l = Gathers (nets_of_all (take l.routes-index l.routes-items)) l.initial.found.keys l.found.keys

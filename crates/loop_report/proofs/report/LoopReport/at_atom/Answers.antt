@@ -1,0 +1,33 @@
+use Rattle.std.proofs.Common.{◌≡◌, refl}
+use Rattle.std.proofs.lemmas.Result.{IfOk-weaker}
+use Rattle.lsdb.specs.Lists.{Lists}
+use Rattle.loop_report.specs.Blackholes.{AreNewBlackholes, new_blackholes}
+use Rattle.loop_report.specs.Loops.{AreLoopsNow, AreLoopsOf}
+use Rattle.loop_report.specs.Parts.{IsAtAtom}
+use Rattle.loop_report.specs.steps.Comparing.{IsComparedOf}
+use Rattle.loop_report.proofs.Parted.{at_none, at_one}
+use Rattle.loop_report.proofs.report.LoopReport.at_atom.Goals as goal
+
+pub returns-in_default-clause-loops : goal.returns-in_default-clause-loops
+returns-in_default-clause-loops g c = λ was is of.
+    at_none AreLoopsNow was is c.args.net c.args.compared.now.atoms of.atoms c.empty.result.loops c.in_default.ensures c.empty.ensures.loops
+
+pub returns-in_default-clause-blackholes : goal.returns-in_default-clause-blackholes
+returns-in_default-clause-blackholes g c = λ was is of.
+    at_none AreNewBlackholes was is c.args.net c.args.compared.now.atoms of.atoms c.empty.result.blackholes c.in_default.ensures c.empty.ensures.blackholes
+
+pub returns-clause-loops : goal.returns-clause-loops
+returns-clause-loops g c =
+    IfOk-weaker c.at_graphs.result (λ report. AreLoopsOf c.args.net c.in_ok-is.is report.loops)
+    (λ report. (was is : Lists) → IsComparedOf was is c.args.compared.now → IsAtAtom AreLoopsNow was is c.args.net report.loops)
+    (λ report found was is of.
+    at_one AreLoopsNow was is c.args.net c.args.compared.now.atoms of.atoms report.loops c.in-Some.address c.in_ok-was.was c.in_ok-is.is c.in-Some.ensures
+    (c.in_ok-was.ensures was of.was) (c.in_ok-is.ensures is of.is) found) c.at_graphs.ensures.loops
+
+pub returns-clause-blackholes : goal.returns-clause-blackholes
+returns-clause-blackholes g c =
+    IfOk-weaker c.at_graphs.result (λ report. report.blackholes ≡ new_blackholes c.args.net c.in_ok-was.was c.in_ok-is.is)
+    (λ report. (was is : Lists) → IsComparedOf was is c.args.compared.now → IsAtAtom AreNewBlackholes was is c.args.net report.blackholes)
+    (λ report found was is of.
+    at_one AreNewBlackholes was is c.args.net c.args.compared.now.atoms of.atoms report.blackholes c.in-Some.address c.in_ok-was.was c.in_ok-is.is c.in-Some.ensures
+    (c.in_ok-was.ensures was of.was) (c.in_ok-is.ensures is of.is) found) c.at_graphs.ensures.blackholes

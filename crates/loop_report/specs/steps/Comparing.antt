@@ -1,0 +1,12 @@
+-- Two databases that are compared.
+use Rattle.std.specs.Prelude.{◌≡◌}
+use Rattle.lsdb.specs.Lists.{Lists}
+use Rattle.forwarding.specs.Graphs.{IsForwardingOf}
+use Rattle.loop_report.specs.Atoms.{nets_in_either}
+use Rattle.loop_report.specs.declared.compared.Compared.{Compared}
+
+-- what the forwarding graphs of two databases come from, and the prefixes of all entries
+pub record IsComparedOf {A : Type 0} (was is : Lists) (compared : Compared A) : Type 0 where
+  pub was : IsForwardingOf was compared.was
+  pub is : IsForwardingOf is compared.is
+  pub atoms : compared.atoms ≡ nets_in_either was is

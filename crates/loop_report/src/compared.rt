@@ -1,0 +1,40 @@
+//! Two databases that are compared.
+
+ghost use Rattle.std.specs.Prelude.{◌≡◌, IfOk};
+ghost use Rattle.lsdb.specs.Slots.{lists_of};
+ghost use Rattle.loop_report.specs.steps.Comparing.{IsComparedOf};
+
+use crate::atoms::Atoms;
+use forwarding::Forwarding;
+use lsdb::Database;
+use spf::Meter;
+use std::alloc::{AllocError, Allocator};
+
+/// What the forwarding graphs of two databases come from, and the prefixes of all entries.
+#[derive(Drop)]
+pub(crate) struct Compared<A: Allocator> {
+    pub(crate) was: Forwarding<A>,
+    pub(crate) is: Forwarding<A>,
+    pub(crate) atoms: Atoms<A>,
+}
+
+impl<A: Allocator + Copy> Compared<A> {
+    /// Two databases. Each table is made once.
+    ///
+    /// # Errors
+    ///
+    /// Memory ran out.
+    pub(crate) fn of(
+        alloc: A,
+        was: &Database<A>,
+        is: &Database<A>,
+        meter: &mut Meter,
+    ) -> Result<Compared<A>, AllocError>
+        ensures { IfOk result (IsComparedOf (lists_of was.now) (lists_of is.now)) }
+    {
+        let was = Forwarding::of(alloc, was, meter)?;
+        let is = Forwarding::of(alloc, is, meter)?;
+        let atoms = Atoms::of(alloc, &was, &is)?;
+        Ok(Compared { was, is, atoms })
+    }
+}

@@ -1,0 +1,150 @@
+//! The loops of now, and the new blackholes.
+
+ghost use Rattle.std.specs.Prelude.{◌≡◌, ◌++◌, [], IfOk, OnOk};
+ghost use Rattle.lsdb.specs.Lists.{Lists};
+ghost use Rattle.lsdb.specs.Slots.{lists_of};
+ghost use Rattle.loop_report.specs.Blackholes.{AreNewBlackholes, new_blackholes};
+ghost use Rattle.loop_report.specs.Loops.{AreLoopsNow, AreLoopsOf};
+ghost use Rattle.loop_report.specs.Parts.{AreAtAtoms, AreParts, IsAtAtom};
+ghost use Rattle.loop_report.specs.steps.Comparing.{IsComparedOf};
+
+use crate::blackhole::{Blackhole, new_blackholes};
+use crate::compared::Compared;
+use crate::loops::{PrefixLoop, loops_at};
+use forwarding::ForwardingGraph;
+use lsa_codec::Prefix;
+use lsdb::Database;
+use spf::Meter;
+use std::alloc::{AllocError, Allocator, Global};
+use std::marker::Model;
+
+/// The loops of a database, by prefix and routers, and the blackholes that a baseline does not
+/// have, by prefix and router.
+#[derive(Drop)]
+pub struct LoopReport<A: Allocator = Global> {
+    loops: Vec<PrefixLoop<A>, A>,
+    blackholes: Vec<Blackhole<A>, A>,
+}
+
+impl<A: Allocator> Model for LoopReport<A> {
+    ghost use Rattle.loop_report.specs.Reports.{ReportValue};
+
+    ghost Value = { ReportValue };
+
+    ghost view = { λ r. record { loops = r.loops.items; blackholes = r.blackholes.items } };
+}
+
+impl<A: Allocator + Copy> LoopReport<A> {
+    /// Nothing. It takes no memory.
+    fn empty(alloc: A) -> LoopReport<A>
+        ensures loops { result.loops ≡ [] }
+        ensures blackholes { result.blackholes ≡ [] }
+    {
+        LoopReport {
+            loops: Vec::new(alloc),
+            blackholes: Vec::new(alloc),
+        }
+    }
+
+    /// Adds another report.
+    fn append(&mut self, other: LoopReport<A>) -> Result<(), AllocError>
+        ensures loops { OnOk result (self.new.loops ≡ self.old.loops ++ other.loops) }
+        ensures blackholes { OnOk result
+            (self.new.blackholes ≡ self.old.blackholes ++ other.blackholes) }
+    {
+        let LoopReport {
+            mut loops,
+            mut blackholes,
+        } = other;
+        self.loops.append(&mut loops)?;
+        self.blackholes.append(&mut blackholes)
+    }
+
+    /// The loops of a forwarding graph, and the blackholes that the graph before does not have.
+    fn at_graphs(
+        alloc: A,
+        net: Prefix,
+        was: &ForwardingGraph<A>,
+        is: &ForwardingGraph<A>,
+    ) -> Result<LoopReport<A>, AllocError>
+        ensures loops { IfOk result (λ report. AreLoopsOf net is.now report.loops) }
+        ensures blackholes { IfOk result
+            (λ report. report.blackholes ≡ new_blackholes net was.now is.now) }
+    {
+        let loops = loops_at(alloc, net, is)?;
+        let blackholes = new_blackholes(alloc, net, was, is)?;
+        Ok(LoopReport { loops, blackholes })
+    }
+
+    /// The loops and new blackholes of the addresses of an atom.
+    fn at_atom(alloc: A, compared: &Compared<A>, net: Prefix) -> Result<LoopReport<A>, AllocError>
+        ensures loops { IfOk result (λ report. (was is : Lists) → IsComparedOf was is compared.now
+            → IsAtAtom AreLoopsNow was is net report.loops) }
+        ensures blackholes { IfOk result
+            (λ report. (was is : Lists) → IsComparedOf was is compared.now
+            → IsAtAtom AreNewBlackholes was is net report.blackholes) }
+    {
+        let Some(address) = compared.atoms.address_of(net) else {
+            return Ok(LoopReport::empty(alloc));
+        };
+        let was = compared.was.graph(alloc, address)?;
+        let is = compared.is.graph(alloc, address)?;
+        LoopReport::at_graphs(alloc, net, &was, &is)
+    }
+
+    /// The loops and new blackholes of the atoms of some prefixes, in their order.
+    fn at_atoms(
+        alloc: A,
+        compared: &Compared<A>,
+        nets: &[Prefix],
+    ) -> Result<LoopReport<A>, AllocError>
+        ensures loops { IfOk result (λ report. (was is : Lists) → IsComparedOf was is compared.now
+            → AreParts (IsAtAtom AreLoopsNow was is) nets.now report.loops) }
+        ensures blackholes { IfOk result
+            (λ report. (was is : Lists) → IsComparedOf was is compared.now
+            → AreParts (IsAtAtom AreNewBlackholes was is) nets.now report.blackholes) }
+    {
+        let mut report = LoopReport::empty(alloc);
+        for net in nets {
+            report.append(LoopReport::at_atom(alloc, compared, *net)?)?;
+        }
+        Ok(report)
+    }
+
+    /// The loops of a database, and the blackholes that a baseline does not have: at all addresses
+    /// that an entry of a router covers in either. The meter counts the trees of two tables for
+    /// each router.
+    ///
+    /// # Errors
+    ///
+    /// Memory ran out.
+    pub fn between(
+        alloc: A,
+        baseline: &Database<A>,
+        now: &Database<A>,
+        meter: &mut Meter,
+    ) -> Result<LoopReport<A>, AllocError>
+        ensures loops { IfOk result (λ report.
+            AreAtAtoms AreLoopsNow (lists_of baseline.now) (lists_of now.now) report.loops) }
+        ensures blackholes { IfOk result (λ report. AreAtAtoms AreNewBlackholes
+            (lists_of baseline.now) (lists_of now.now) report.blackholes) }
+    {
+        let compared = Compared::of(alloc, baseline, now, meter)?;
+        let nets = compared.atoms.nets(alloc)?;
+        LoopReport::at_atoms(alloc, &compared, &nets)
+    }
+
+    /// The loops, by prefix and routers. `loops none` holds where there is none.
+    pub fn loops(&self) -> &[PrefixLoop<A>]
+        ensures { result.now ≡ self.now.loops }
+    {
+        self.loops.as_slice()
+    }
+
+    /// The new blackholes, by prefix and router. `blackholes none` holds where there is none.
+    pub fn blackholes(&self) -> &[Blackhole<A>]
+        ensures { result.now ≡ self.now.blackholes }
+    {
+        self.blackholes.as_slice()
+    }
+}

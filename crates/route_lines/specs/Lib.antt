@@ -1,0 +1,4 @@
+pub mod RouteLines
+pub mod RouteTexts
+pub mod PathLines
+pub mod PathTexts

@@ -1,0 +1,7 @@
+pub mod LinksOver
+pub mod Ways
+pub mod Lines
+pub mod Paths
+pub mod Passing
+pub mod Expected
+pub mod steps
