@@ -10,6 +10,6 @@ abbrev pub invariant-loop-number : goal.invariant-loop-number
 invariant-loop-number g l =
     let db = lists_of l.place.database.now in
     let one : ℕ × Interface → LinkValue =
-    λ p. link_value db l.place.ages l.place.area.now l.place.router p.0 (interface_numbered p.0 l.all.items) p.1 in
+    λ p. link_value db l.place.ages l.area l.place.router p.0 (interface_numbered p.0 l.all.items) p.1 in
     l.lines.items ++ map one (enumerate_from l.number (drop l.number l.all.items))
     ≡ l.initial.lines.items ++ map one (enumerate_from 0 l.all.items)
