@@ -1,6 +1,6 @@
 //! Lists of what can be shown.
 
-ghost use Rattle.std.specs.Prelude.{◌≡◌, ◌++◌, OnOk, flat_map, length, map};
+ghost use Rattle.std.specs.Prelude.{◌≡◌, ◌++◌, OnOk, flat_map, map, take};
 ghost use Rattle.network_names.specs.Names.{called};
 ghost use Rattle.study_text.specs.Lists.{and_more, first_three, joined, listed};
 
@@ -66,6 +66,16 @@ pub fn push_list<T: Shown, A: Allocator + Copy>(
     push_joined(text, names, ",", items)
 }
 
+/// The number of items that are shown of a long list.
+const SHOWN: usize = 3;
+
+/// The first three items.
+fn first_items<T: Shown>(items: &[T]) -> &[T]
+    ensures { result.now ≡ take 3 items.now }
+{
+    &items[..SHOWN.min(items.len())]
+}
+
 /// Adds how many of this number are left out after the first three, if there are any.
 fn push_rest<A: Allocator + Copy>(text: &mut Vec<u8, A>, count: usize) -> Result<(), AllocError>
     ensures { OnOk result (text.new.items ≡ text.old.items ++ and_more count) }
@@ -77,9 +87,6 @@ fn push_rest<A: Allocator + Copy>(text: &mut Vec<u8, A>, count: usize) -> Result
     push_number(text, (count - SHOWN) as u64)?;
     text.extend_from_slice(b" more")
 }
-
-/// The number of items that are shown of a long list.
-const SHOWN: usize = 3;
 
 /// Adds a colon, the first three items, and how many more there are; nothing where there is none.
 ///
@@ -98,6 +105,6 @@ pub fn push_first_three<T: Shown, A: Allocator + Copy>(
         return Ok(());
     }
     text.extend_from_slice(b": ")?;
-    push_joined(text, names, ", ", &items[..SHOWN.min(items.len())])?;
+    push_joined(text, names, ", ", first_items(items))?;
     push_rest(text, items.len())
 }

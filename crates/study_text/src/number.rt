@@ -1,6 +1,6 @@
 //! Numbers, addresses and prefixes.
 
-ghost use Rattle.std.specs.Prelude.{◌≡◌, ◌++◌, OnOk, decimal};
+ghost use Rattle.std.specs.Prelude.{◌≡◌, ◌++◌, ◌∷◌, [], OnOk, decimal};
 ghost use Rattle.lsa_codec.specs.Spelling.{address_text, prefix_text};
 
 use itoa::Buffer;
