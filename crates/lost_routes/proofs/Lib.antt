@@ -4,3 +4,4 @@ pub mod Missing
 pub mod Present
 pub mod Split
 pub mod Unchanged
+pub mod Announcing

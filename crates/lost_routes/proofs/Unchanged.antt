@@ -12,7 +12,7 @@ use Rattle.lsdb.specs.Lists.{Lists}
 use Rattle.routing_table.specs.Routers.{attached_routers}
 use Rattle.forwarding.specs.Graphs.{routers_of, routes_at}
 use Rattle.forwarding.specs.Matches.{RouterValue, router_in}
-use Rattle.lost_routes.specs.declared.pairs.LostPair.{LostPair}
+use Rattle.lost_routes.specs.declared.pairs.RouterPrefix.{RouterPrefix}
 use Rattle.lost_routes.specs.Announced.{AnnouncedValue, announced_in, is_announced}
 use Rattle.lost_routes.specs.Lost.{LostValue}
 use Rattle.lost_routes.specs.LostPairs.{LostPairsValue, lost_by, lost_pairs, lost_since, nothing_lost, pairs_of}
@@ -54,13 +54,13 @@ module _ (db : Lists) where
       → flat_map (λ r. pairs_of r.router (nets_by (by_db r))) (map (router_in db) ids) ≡ []
   none nets_by empty [] = refl
   none nets_by empty (id ∷ ids) =
-      ap (λ (l : List LostPair). l ++ flat_map (λ r. pairs_of r.router (nets_by (by_db r))) (map (router_in db) ids))
+      ap (λ (l : List RouterPrefix). l ++ flat_map (λ r. pairs_of r.router (nets_by (by_db r))) (map (router_in db) ids))
       (ap (λ (v : LostValue). pairs_of id (nets_by v)) (nothing_by id) ∙ ap (λ (nets : List Net). pairs_of id nets) empty)
       ∙ none nets_by empty ids
 
   pub nothing_lost_in : lost_pairs db db ≡ record { lost = []; gone = [] }
   nothing_lost_in =
-      let make : List LostPair → List LostPair → LostPairsValue = λ lost gone. record { lost = lost; gone = gone } in
-      let gone : List LostPair = flat_map (λ r. pairs_of r.router (by_db r).gone) (routers_of db) in
-      ap (λ (l : List LostPair). make l gone) (none (λ v. v.lost) refl (attached_routers db))
-      ∙ ap (λ (l : List LostPair). make [] l) (none (λ v. v.gone) refl (attached_routers db))
+      let make : List RouterPrefix → List RouterPrefix → LostPairsValue = λ lost gone. record { lost = lost; gone = gone } in
+      let gone : List RouterPrefix = flat_map (λ r. pairs_of r.router (by_db r).gone) (routers_of db) in
+      ap (λ (l : List RouterPrefix). make l gone) (none (λ v. v.lost) refl (attached_routers db))
+      ∙ ap (λ (l : List RouterPrefix). make [] l) (none (λ v. v.gone) refl (attached_routers db))

@@ -6,12 +6,12 @@ use Rattle.lsa_codec.specs.declared.address.RouterId.{RouterId}
 use Rattle.lsdb.specs.Lists.{Lists}
 use Rattle.forwarding.specs.Graphs.{routers_of, routes_at}
 use Rattle.forwarding.specs.Matches.{RouterValue}
-use Rattle.lost_routes.specs.declared.pairs.LostPair.{LostPair}
+use Rattle.lost_routes.specs.declared.pairs.RouterPrefix.{RouterPrefix}
 use Rattle.lost_routes.specs.Announced.{AnnouncedValue, announced_in}
 use Rattle.lost_routes.specs.Lost.{LostValue, lost_routes}
 
 -- a router with each of these prefixes
-abbrev pub pairs_of : RouterId → List Net → List LostPair
+abbrev pub pairs_of : RouterId → List Net → List RouterPrefix
 pairs_of router nets = map (λ net. record { router = router; net = net }) nets
 
 abbrev pub nothing_lost : LostValue
@@ -24,8 +24,8 @@ lost_since baseline now None is = nothing_lost
 
 -- routers and prefixes that are lost, and those that are gone
 pub record LostPairsValue : Type 0 where
-  pub lost : List LostPair
-  pub gone : List LostPair
+  pub lost : List RouterPrefix
+  pub gone : List RouterPrefix
 
 module _ (baseline now : AnnouncedValue) (were : List RouterValue) where
   -- what a router has lost, of the routers that were attached in the baseline

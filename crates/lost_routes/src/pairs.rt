@@ -12,9 +12,9 @@ use router_entries::Entries;
 use std::alloc::{AllocError, Allocator, Global};
 use std::marker::Model;
 
-/// A router, and a prefix for which it had an entry in the baseline and has none now.
+/// A router, and a prefix that it has lost, or that it announces.
 #[derive(Clone, Copy, Debug, PartialEq, Eq)]
-pub struct LostPair {
+pub struct RouterPrefix {
     /// The router.
     pub router: RouterId,
     /// The prefix.
@@ -25,8 +25,8 @@ pub struct LostPair {
 /// prefix.
 #[derive(Drop)]
 pub struct LostPairs<A: Allocator = Global> {
-    lost: Vec<LostPair, A>,
-    gone: Vec<LostPair, A>,
+    lost: Vec<RouterPrefix, A>,
+    gone: Vec<RouterPrefix, A>,
 }
 
 impl<A: Allocator> Model for LostPairs<A> {
@@ -38,15 +38,15 @@ impl<A: Allocator> Model for LostPairs<A> {
 }
 
 /// Adds pairs of a router and each of these prefixes.
-fn push_pairs<A: Allocator + Copy>(
-    pairs: &mut Vec<LostPair, A>,
+pub(crate) fn push_pairs<A: Allocator + Copy>(
+    pairs: &mut Vec<RouterPrefix, A>,
     router: RouterId,
     nets: &[Prefix],
 ) -> Result<(), AllocError>
     ensures { OnOk result (pairs.new.items ≡ pairs.old.items ++ pairs_of router nets.now) }
 {
     for net in nets {
-        pairs.push(LostPair { router, net: *net })?;
+        pairs.push(RouterPrefix { router, net: *net })?;
     }
     Ok(())
 }
@@ -81,9 +81,9 @@ fn pairs_by<A: Allocator + Copy>(
 {
     let mut lost = Vec::new(alloc);
     let mut gone = Vec::new(alloc);
-    for is in routers {
-        let router = is.router();
-        let found = lost_since(alloc, baseline, now, were.routes_of(router), is)?;
+    for routes in routers {
+        let router = routes.router();
+        let found = lost_since(alloc, baseline, now, were.routes_of(router), routes)?;
         push_pairs(&mut lost, router, found.lost())?;
         push_pairs(&mut gone, router, found.gone())?;
     }
@@ -111,14 +111,14 @@ impl<A: Allocator + Copy> LostPairs<A> {
     }
 
     /// The routers with prefixes that somebody still announces.
-    pub fn lost(&self) -> &[LostPair]
+    pub fn lost(&self) -> &[RouterPrefix]
         ensures { result.now ≡ self.now.lost }
     {
         self.lost.as_slice()
     }
 
     /// The routers with prefixes that nobody announces any more.
-    pub fn gone(&self) -> &[LostPair]
+    pub fn gone(&self) -> &[RouterPrefix]
         ensures { result.now ≡ self.now.gone }
     {
         self.gone.as_slice()

@@ -12,7 +12,6 @@ use lsa_codec::Prefix;
 use next_hops::Hop;
 use router_entries::{Entries, EntryWalk};
 use std::alloc::{AllocError, Allocator, Global};
-use std::collections::BTreeSet;
 use std::marker::Model;
 
 /// How the entries of a router differ from those that it had: what differs for each prefix, in
@@ -66,13 +65,13 @@ fn push_change<A: Allocator + Copy>(
 /// What differs for some prefixes, in their order.
 fn changes_at<A: Allocator + Copy>(
     alloc: A,
-    rerouted: &BTreeSet<Hop, A>,
+    rerouted: &[Hop],
     nets: &[Prefix],
     before: &Entries<'_, A>,
     now: &Entries<'_, A>,
 ) -> Result<Vec<PrefixChange, A>, AllocError>
     ensures { IfOk result (λ changes. changes.items
-        ≡ filter_map (change_at rerouted.now.keys before.now now.now) nets.now) }
+        ≡ filter_map (change_at rerouted.now before.now now.now) nets.now) }
 {
     let mut changes = Vec::new(alloc);
     let (mut earlier, mut present) = (EntryWalk::of(before), EntryWalk::of(now));
@@ -98,12 +97,12 @@ impl<A: Allocator + Copy> TableChanges<A> {
     /// Memory ran out.
     pub fn between(
         alloc: A,
-        rerouted: &BTreeSet<Hop, A>,
+        rerouted: &[Hop],
         before: &Entries<'_, A>,
         now: &Entries<'_, A>,
     ) -> Result<TableChanges<A>, AllocError>
         ensures { IfOk result (λ found. found
-            ≡ changes_of rerouted.now.keys before.now now.now) }
+            ≡ changes_of rerouted.now before.now now.now) }
     {
         let nets = nets_of_both(alloc, before, now)?;
         let changes = changes_at(alloc, rerouted, nets.as_slice(), before, now)?;

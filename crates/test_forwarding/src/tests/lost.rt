@@ -2,7 +2,7 @@
 
 use super::paths::BORDERS;
 use forwarding::Forwarding;
-use lost_routes::{Announced, LostPair, LostPairs};
+use lost_routes::{Announced, RouterPrefix, LostPairs};
 use lsdb::Database;
 use spf::Meter;
 use std::alloc::Global;
@@ -87,7 +87,7 @@ const CASES: &[(&str, &str, &str, &str)] = &[
 ];
 
 /// Adds routers and prefixes, each with a space after it.
-fn push_pairs(alloc: Global, text: &mut String, pairs: &[LostPair]) -> Result<(), Fail> {
+fn push_pairs(alloc: Global, text: &mut String, pairs: &[RouterPrefix]) -> Result<(), Fail> {
     for pair in pairs {
         let (router, net) = (pair.router, pair.net);
         text.push_str(&format!(in alloc; "{router} {net} ")?)?;

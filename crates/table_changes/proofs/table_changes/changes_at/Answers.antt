@@ -8,7 +8,7 @@ use Rattle.table_changes.proofs.table_changes.changes_at.Goals as goal
 
 pub loop-net-preserved : goal.loop-net-preserved
 loop-net-preserved g c =
-    let rerouted = c.args.rerouted.now.keys in
+    let rerouted = c.args.rerouted.now in
     let before = c.args.before.now in
     let now = c.args.now.now in
     let nets = c.args.nets.now in

@@ -1,0 +1,55 @@
+-- The texts of changes.
+use Rattle.std.specs.Prelude.{ℕ, List, [], ◌++◌, map, length, flat_map, Option, None, Some, codes, decimal}
+use Rattle.lsa_codec.specs.Prefix.{Net}
+use Rattle.lsa_codec.specs.Spelling.{prefix_text}
+use Rattle.study_text.specs.Lists.{first_three}
+use Rattle.study_text.specs.Shown.{Called, shown}
+use Rattle.route_lines.specs.RouteLines.{RouteLineValue}
+use Rattle.route_lines.specs.RouteTexts.{route_text}
+use Rattle.change_lines.specs.declared.change_name.ChangeName.{ChangeName}
+use Rattle.change_lines.specs.declared.group.ChangeGroup.{ChangeGroup}
+use Rattle.change_lines.specs.Groups.{change_groups, count_of, group_text}
+
+-- a change, with the route of now and the one before
+pub record ChangeLineValue : Type 0 where
+  pub name : ChangeName
+  pub now : Option RouteLineValue
+  pub was : Option RouteLineValue
+
+-- what differs by name, and the number of prefixes for which nothing does
+pub record ChangesValue : Type 0 where
+  pub names : List ChangeName
+  pub unchanged : ℕ
+
+-- a prefix after a space, if there is one
+abbrev pub net_after : Option Net → List ℕ
+net_after None = []
+net_after (Some net) = codes " " ++ prefix_text net
+
+-- group, router and prefix
+abbrev pub name_text : Called → ChangeName → List ℕ
+name_text called name = group_text name.group ++ codes " " ++ shown called name.router ++ net_after name.net
+
+-- a route after a word, if there is one
+abbrev pub route_after : Called → List ℕ → Option RouteLineValue → List ℕ
+route_after called word None = []
+route_after called word (Some route) = word ++ route_text called route
+
+-- the line of a change
+abbrev pub change_text : Called → ChangeLineValue → List ℕ
+change_text called line = name_text called line.name ++ route_after called (codes " ") line.now ++ route_after called (codes " was ") line.was
+
+-- ---- counts
+
+abbrev pub group_count : List ChangeName → ChangeGroup → List ℕ
+group_count names group = codes " " ++ group_text group ++ codes " " ++ decimal (count_of group names)
+
+-- the number of changes of each group, and of prefixes without one
+abbrev pub counts_text : ChangesValue → List ℕ
+counts_text changes = flat_map (group_count changes.names) change_groups ++ codes " unchanged " ++ decimal changes.unchanged
+
+-- ---- what was found
+
+-- the number of changes, and the first of them
+abbrev pub changes_found : Called → List ChangeName → List ℕ
+changes_found called names = codes "changes " ++ decimal (length names) ++ first_three (map (name_text called) names)

@@ -1,0 +1,57 @@
+-- Loops that keep, add up or join what they find.
+use Rattle.std.proofs.Common.{◌≡◌, ℕ, ◌+◌, ◌<◌, ◌≤◌, Bool, true, false, cond, List, [], ◌∷◌, ◌++◌, length, map, take, get_or, refl, sym, ap, ◌∙◌, arith}
+use Rattle.std.specs.Prelude.{◌&&◌, ◌==◌, flat_map}
+use Rattle.std.specs.Cmp.{tied_then, unsigned_ties}
+use Rattle.std.specs.List.{filter, sum_by}
+use Rattle.std.specs.Ordering.{eq_by_cmp}
+use Rattle.std.proofs.lemmas.List.{append-nil, take_all, take_more}
+use Rattle.std.proofs.lemmas.List.Elements.{filter-append}
+use Rattle.std.proofs.lemmas.List.Sums.{sum_by-append}
+use Rattle.std.proofs.lemmas.Grind.{flat_map-append}
+use Rattle.lsa_codec.specs.Order.{router_cmp}
+use Rattle.lsa_codec.specs.declared.address.RouterId.{RouterId}
+use Rattle.area_graph.specs.Rising.{rising}
+use Rattle.best_ways.proofs.RisingLemmas.{rising_append}
+use Rattle.best_ways.specs.Values.{RouteValue}
+use Rattle.next_hops.specs.Hop.{hop_cmp}
+use Rattle.next_hops.specs.declared.hop.Hop.{Hop}
+use Rattle.next_hops.proofs.HopLemmas.{hop_cmp_total, same_hop}
+use Rattle.comparison.specs.Rerouted.{hops_of}
+
+pub equal_routers : (x y : RouterId) → (x.0 == y.0) ≡ eq_by_cmp router_cmp x y
+equal_routers x y = unsigned_ties x.0 y.0
+
+module _ {X : Type 0} (xs : List X) (i : ℕ) (x : X) (lt : i < length xs) (is : x ≡ get_or xs i x) where
+  so_far : {Y : Type 0} (f : List X → Y) → f (take i xs ++ x ∷ []) ≡ f (take (i + 1) xs)
+  so_far f = ap (λ y. f (take i xs ++ y ∷ [])) is ∙ ap f (sym (take_more xs i x lt))
+
+  -- one more that a test keeps, and one that it does not
+  module _ (p : X → Bool) (found : List X) (are : found ≡ filter p (take i xs)) where
+    pub kept : (new : List X) → p x ≡ true → new ≡ found ++ x ∷ [] → new ≡ filter p (take (i + 1) xs)
+    kept new yes pushed =
+        pushed ∙ ap (λ l. l ++ x ∷ []) are ∙ ap (λ (b : Bool). filter p (take i xs) ++ cond b (x ∷ []) []) (sym yes)
+        ∙ sym (filter-append p (take i xs) (x ∷ [])) ∙ so_far (filter p)
+
+    pub passed : p x ≡ false → found ≡ filter p (take (i + 1) xs)
+    passed no =
+        are ∙ sym (append-nil (filter p (take i xs))) ∙ ap (λ (b : Bool). filter p (take i xs) ++ cond b (x ∷ []) []) (sym no)
+        ∙ sym (filter-append p (take i xs) (x ∷ [])) ∙ so_far (filter p)
+
+  -- one more number
+  pub summed : (f : X → ℕ) (sum more new : ℕ) → sum ≡ sum_by f (take i xs) → more ≡ f x → new ≡ sum + more → new ≡ sum_by f (take (i + 1) xs)
+  summed f sum more new are is_more added =
+      added ∙ ap (λ n. n + more) are ∙ ap (λ n. sum_by f (take i xs) + n) (is_more ∙ one_sum)
+      ∙ sym (sum_by-append f (take i xs) (x ∷ [])) ∙ so_far (sum_by f)
+    where
+      one_sum : f x ≡ sum_by f (x ∷ [])
+      one_sum = omega arith
+
+-- the hops of one more route
+pub joined : (routes : List RouteValue) (i : ℕ) (r : RouteValue) (hops new : List Hop) → i < length routes → r ≡ get_or routes i r
+    → hops ≡ hops_of (take i routes) → new ≡ rising hop_cmp (hops ++ r.hops) → new ≡ hops_of (take (i + 1) routes)
+joined routes i r hops new lt is are more =
+    more ∙ ap (λ (l : List Hop). rising hop_cmp (l ++ r.hops)) are
+    ∙ rising_append hop_cmp_total same_hop (flat_map (λ (v : RouteValue). v.hops) (take i routes)) r.hops
+    ∙ ap (λ (l : List Hop). rising hop_cmp (flat_map (λ (v : RouteValue). v.hops) (take i routes) ++ l)) (sym (append-nil r.hops))
+    ∙ ap (rising hop_cmp) (sym (flat_map-append (λ (v : RouteValue). v.hops) (take i routes) (r ∷ [])))
+    ∙ so_far routes i r lt is hops_of

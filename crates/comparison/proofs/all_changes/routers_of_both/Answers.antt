@@ -1,0 +1,15 @@
+use Rattle.std.proofs.Common.{◌++◌, ◌∙◌, List, ap}
+use Rattle.std.proofs.lemmas.List.Filters.{dedup_is}
+use Rattle.area_graph.specs.Rising.{rising}
+use Rattle.lsa_codec.specs.Order.{router_cmp}
+use Rattle.lsa_codec.specs.declared.address.RouterId.{RouterId}
+use Rattle.lsa_codec.proofs.OrderLemmas.{router_exact, router_total}
+use Rattle.best_ways.proofs.RisingLemmas.{dedup_rising}
+use Rattle.comparison.proofs.Steps.{equal_routers}
+use Rattle.comparison.proofs.all_changes.routers_of_both.Goals as goal
+
+pub returns : goal.returns
+returns g c =
+    dedup_is _ _ _ c.dedup.ensures.filtered
+    ∙ dedup_rising router_total router_exact equal_routers _ _ c.sort.ensures.permutation c.in_ok-sort.ensures.sorted
+    ∙ ap (rising router_cmp) (search rules)

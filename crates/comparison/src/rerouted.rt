@@ -1,0 +1,91 @@
+//! Next hops that lead to other routers than they did.
+
+ghost use Rattle.std.specs.Prelude.{◌≡◌, IfOk};
+ghost use Rattle.std.specs.List.{filter};
+ghost use Rattle.lsdb.specs.Lists.{Lists};
+ghost use Rattle.forwarding.specs.Owners.{AreGraphsOf};
+ghost use Rattle.comparison.specs.Rerouted.{hops_of, is_rerouted, rerouted, routers_by};
+
+use crate::comparison::Comparison;
+use best_ways::Route;
+use forwarding::{AreaGraphs, RouterRoutes};
+use lsa_codec::RouterId;
+use next_hops::{Hop, HopList};
+use std::alloc::{AllocError, Allocator};
+
+/// The routers that a next hop of a router leads to, in order.
+fn routers_by<A: Allocator + Copy>(
+    alloc: A,
+    graphs: &AreaGraphs<A>,
+    router: RouterId,
+    hop: Hop,
+) -> Result<Vec<RouterId, A>, AllocError>
+    ensures { IfOk result (λ found. (db : Lists) → AreGraphsOf db graphs.now
+        → found.items ≡ routers_by db router hop) }
+{
+    match hop {
+        Hop::Link(interface) => graphs.far_ends(alloc, router, interface),
+        Hop::Gateway(interface, address) => graphs.owners(alloc, router, interface, address),
+        Hop::Connected | Hop::Attached(_) => Ok(Vec::new(alloc)),
+    }
+}
+
+/// Whether a next hop of a router leads to other routers than it did.
+fn is_rerouted<A: Allocator + Copy>(
+    alloc: A,
+    comparison: &Comparison<'_, A>,
+    router: RouterId,
+    hop: Hop,
+) -> Result<bool, AllocError>
+    ensures { IfOk result (λ found. found ≡ is_rerouted comparison.now router hop) }
+{
+    let before = routers_by(alloc, comparison.were().graphs(), router, hop)?;
+    let now = routers_by(alloc, comparison.are().graphs(), router, hop)?;
+    Ok(before.as_slice() != now.as_slice())
+}
+
+/// The hops of some routes, in order.
+fn hops_of<A: Allocator + Copy>(alloc: A, routes: &[Route<A>]) -> Result<HopList<A>, AllocError>
+    ensures { IfOk result (λ hops. hops ≡ hops_of routes.now) }
+{
+    let mut hops = HopList::new(alloc)?;
+    for route in routes {
+        hops.join(route.hops.as_slice())?;
+    }
+    Ok(hops)
+}
+
+/// Those of some hops of a router that lead to other routers than they did.
+fn rerouted_among<A: Allocator + Copy>(
+    alloc: A,
+    comparison: &Comparison<'_, A>,
+    router: RouterId,
+    hops: &[Hop],
+) -> Result<Vec<Hop, A>, AllocError>
+    ensures { IfOk result (λ found. found.items
+        ≡ filter (is_rerouted comparison.now router) hops.now) }
+{
+    let mut found = Vec::new(alloc);
+    for hop in hops {
+        if is_rerouted(alloc, comparison, router, *hop)? {
+            found.push(*hop)?;
+        }
+    }
+    Ok(found)
+}
+
+/// The next hops of a router that lead to other routers than they did.
+///
+/// # Errors
+///
+/// Memory ran out.
+pub(crate) fn rerouted<A: Allocator + Copy>(
+    alloc: A,
+    comparison: &Comparison<'_, A>,
+    is: &RouterRoutes<A>,
+) -> Result<Vec<Hop, A>, AllocError>
+    ensures { IfOk result (λ found. found.items ≡ rerouted comparison.now is.now) }
+{
+    let hops = hops_of(alloc, is.routes().as_slice())?;
+    rerouted_among(alloc, comparison, is.router(), hops.as_slice())
+}
