@@ -17,7 +17,7 @@ use Rattle.route_lines.specs.declared.path_step.PathStep.{PathStep}
 use Rattle.route_lines.specs.declared.route_source.RouteSource.{RouteSource}
 use Rattle.route_lines.specs.PathLines.{PathValue}
 use Rattle.route_report.specs.Lines.{source_of}
-use Rattle.route_report.specs.Steps.{step_down, step_out, step_over}
+use Rattle.route_report.specs.StepsOver.{step_down, step_out, step_over}
 
 -- ---- a router
 
