@@ -1,4 +1,5 @@
-use Rattle.std.proofs.Common.{codes, drop, map, refl}
+use Rattle.std.proofs.Common.{codes, get_or, map, refl, sym, ◌∙◌}
+use Rattle.study_hints.specs.declared.role.Role.TheVariants.{Area}
 use Rattle.edit_script.specs.Words.{words}
 use Rattle.network_names.specs.Names.{stands_for}
 use Rattle.study_hints.specs.ArgumentHints.{argument_hint, first_hint}
@@ -17,7 +18,29 @@ returns-in_default g c =
     (added c.extend_from_slice.result text (codes "see help") (codes "see help") _ refl c.extend_from_slice.ensures.items)
 
 pub returns-then-not-fits : goal.returns-then-not-fits
-returns-then-not-fits g c = let h = c.fits.ensures in let k = c.if-not-fits.true in let p = c.push_argument_hint.ensures in ?
+returns-then-not-fits g c =
+    let names = stands_for c.args.names.now in
+    let known = map (λ name. name.now) c.args.known.now in
+    let roles = c.args.roles.now in
+    let i = c.loop-role.role-index in
+    let word = c.in-Some.at.word.now in
+    let text = c.loop-role.text.items in
+    let hint = first_hint names known roles (words c.args.line.now) in
+    piece_is c.push_argument_hint.result c.args.text.now.items text (argument_hint known (get_or roles i Area) word) hint _ c.loop-role.invariant.text
+    (wrong_here names known roles i hint Area c.loop-role-test.true word (words c.loop-role.rest.now) (words c.in-Some.at.rest.now)
+    c.in-Some.ensures.value.0 c.loop-role.invariant.hint (sym c.fits.ensures ∙ c.if-not-fits.true))
+    c.push_argument_hint.ensures
+
+pub loop-role-preserved : goal.loop-role-preserved
+loop-role-preserved g c =
+    let names = stands_for c.args.names.now in
+    let known = map (λ name. name.now) c.args.known.now in
+    let roles = c.args.roles.now in record {
+      text = c.loop-role.invariant.text;
+      hint = fits_here names known roles c.loop-role.role-index (first_hint names known roles (words c.args.line.now)) Area c.loop-role-test.true
+          c.in-Some.at.word.now (words c.loop-role.rest.now) (words c.in-Some.at.rest.now) c.in-Some.ensures.value.0 c.loop-role.invariant.hint
+          (sym c.fits.ensures ∙ c.if-not-fits.false);
+    }
 
 pub returns : goal.returns
 returns g c =
