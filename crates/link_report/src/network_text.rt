@@ -2,7 +2,7 @@
 
 ghost use Rattle.std.specs.Prelude.{◌≡◌, ◌++◌, OnOk, codes};
 ghost use Rattle.network_names.specs.Names.{called};
-ghost use Rattle.link_report.specs.NetworkTexts.{designated_text, members_text, network_line, network_lines, one_way_text};
+ghost use Rattle.link_report.specs.NetworkTexts.{designated_text, network_line, network_lines, one_way_text};
 
 use crate::network_line::NetworkLine;
 use lsa_codec::{Addr, RouterId};
