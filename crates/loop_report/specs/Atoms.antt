@@ -24,7 +24,7 @@ nets_in_either was is = rising prefix_cmp (nets_of_all (routers_of was) ++ nets_
 
 -- a longer prefix than one of this length covers the address
 pub record IsLonger (nets : List Net) (len : ℕ) (address : Addr) (longer : Net) : Type 0 where
-  pub longer : len < longer.len
+  pub more : len < longer.len
   pub short : longer.len ≤ 32
   pub covers : masked address longer.len ≡ longer
   pub among : has_net nets longer ≡ true
