@@ -7,7 +7,7 @@ use Rattle.router_entries.specs.declared.own_external.OwnExternal.{OwnExternal}
 use Rattle.router_entries.specs.OwnExternals.{own_by, own_cmp}
 use Rattle.router_entries.specs.steps.First.{first_with}
 use Rattle.router_entries.proofs.Own.{first_push}
-use Rattle.router_entries.proofs.own_external.own_external.Goals as goal
+use Rattle.router_entries.proofs.own_external.own_external_for.Goals as goal
 
 pub loop-lsa-preserved : goal.loop-lsa-preserved
 loop-lsa-preserved g c =
