@@ -21,8 +21,7 @@ use Rattle.edit_history.specs.declared.fault.EditFault.TheVariants.{HistoryFull}
 use Rattle.edit_history.specs.Effect.{effect}
 use Rattle.edit_history.specs.Session.{Session, edited, accepted, accepted_or, start, state, most_edits, moved_back, moved_on}
 use Rattle.recalculate.specs.Planning.{PlannerValue}
-use Rattle.branches.specs.Branches.{all_begin, resumed, Named, sessions_by, sessions_of, named_by, with_session, session_or_begin, HaveOneBase}
-use Rattle.branches.specs.steps.Planners.{has_planner}
+use Rattle.branches.specs.Branches.{all_begin, resumed, Named, sessions_by, sessions_of, named_by, has_planner, with_session, session_or_begin, HaveOneBase}
 use Rattle.branches.specs.Replies.{Said, reply_to, after}
 use Rattle.branches.proofs.SessionLemmas.{with_own}
 

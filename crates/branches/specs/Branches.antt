@@ -1,10 +1,10 @@
 -- The branches of a run: studies that begin at the loaded database, each with a session of its own.
-use Rattle.std.specs.Prelude.{◌≡◌, ℕ, ◌==◌, if◌then◌else◌, IfSome, List, map, Option, None, Some, Result, IfOk, OnOk, OnErr}
+use Rattle.std.specs.Prelude.{◌≡◌, ℕ, ◌==◌, ◌||◌, Bool, is_some, if◌then◌else◌, IfSome, nat_le, List, length, map, Option, None, Some, Result, IfOk, OnOk, OnErr}
 use Rattle.std.specs.Map.{lookup}
 use Rattle.std.specs.Ordering.{nat_cmp, eq_by_cmp}
 use Rattle.lsdb.specs.Lists.{Lists}
 use Rattle.edit_script.specs.declared.command.Command.{Command}
-use Rattle.edit_history.specs.Session.{Session, start}
+use Rattle.edit_history.specs.Session.{Session, moved_back, start, state}
 use Rattle.recalculate.specs.Planning.{PlannerValue}
 use Rattle.branches.specs.declared.reply.Reply.{Reply}
 use Rattle.branches.specs.Replies.{after, reply_to, said_by}
@@ -29,6 +29,10 @@ with_session branch s all = λ other. if branch == other then s else all other
 abbrev pub stepped : ℕ → Command → Sessions → Sessions
 stepped branch command all = with_session branch (after (all branch) command) all
 
+-- the database before the last edits, if this number of edits are done
+abbrev pub before_last : ℕ → Session → Option Lists
+before_last count s = if nat_le count (length s.done) then Some (state (moved_back count s)) else None
+
 -- ---- the sessions of the branches that have a planner: branch 0, and others by their numbers
 
 pub record Named : Type 0 where
@@ -49,6 +53,10 @@ session_or_begin base (Some s) = s
 
 abbrev pub sessions_of : Named → Sessions
 sessions_of named = λ branch. if branch == 0 then named.first else session_or_begin named.first.base (lookup (eq_by_cmp nat_cmp branch) named.others)
+
+-- whether a branch has a planner
+abbrev pub has_planner : Named → ℕ → Bool
+has_planner named branch = (branch == 0) || is_some (lookup (eq_by_cmp nat_cmp branch) named.others)
 
 -- all began at one database
 abbrev pub HaveOneBase : Named → Type 0

@@ -1,3 +1,2 @@
 pub mod Replies
 pub mod Branches
-pub mod steps

@@ -1,6 +1,6 @@
 //! The what-if studies of a run.
 
-ghost use Rattle.std.specs.Prelude.{◌≡◌, ◌⊎◌, ◌<◌, ◌==◌, ◌++◌, Ok, IfOk, OnOk, OnErr, IsOk, true, false, length};
+ghost use Rattle.std.specs.Prelude.{◌≡◌, ◌⊎◌, ◌<◌, ◌==◌, ◌++◌, Ok, IfOk, OnOk, OnErr, IsOk, true, false, length, option_map};
 ghost use Rattle.std.specs.String.{string_bytes};
 ghost use Rattle.lsdb.specs.Slots.{lists_of};
 ghost use Rattle.lsdb.specs.Text.{text};
@@ -8,11 +8,10 @@ ghost use Rattle.edit_history.specs.Session.{start, state};
 ghost use Rattle.routing_table.specs.Routers.{attached_routers};
 ghost use Rattle.saved_sessions.specs.Opening.{opened};
 ghost use Rattle.saved_sessions.specs.Saved.{saved_text};
-ghost use Rattle.branches.specs.Branches.{Steps, all_begin, resumed, sessions_of, stepped, with_session};
-ghost use Rattle.branches.specs.steps.Planners.{has_planner};
+ghost use Rattle.branches.specs.Branches.{Steps, all_begin, before_last, has_planner, resumed, sessions_of, stepped, with_session};
 ghost use Rattle.branches.specs.Replies.{reply_text, reply_to, is_refusal, takes_memory, tables_head, router_text, router_texts};
 
-use crate::commands::{execute, push_table_now, routers_with_table};
+use crate::commands::{before_last, execute, push_table_now, routers_with_table};
 use crate::reply::{Answer, Refusal, Reply, reply_text};
 use edit_history::{RedoFault, UndoFault};
 use edit_script::Command;
@@ -222,6 +221,60 @@ impl<A: Allocator + Copy> Branches<A> {
         Ok(())
     }
 
+    /// Gives a branch, 0 to 7, a planner if it has none: [`planner`](Branches::planner) lends it.
+    /// All sessions stay, even where memory ran out.
+    ///
+    /// # Errors
+    ///
+    /// Memory ran out.
+    pub fn prepare(&mut self, branch: u8) -> Result<(), AllocError>
+        requires { branch < 8 }
+        ensures ready { OnOk result (has_planner self.new branch ≡ true) }
+        ensures kept { sessions_of self.new ≡ sessions_of self.old }
+    {
+        if branch == 0 || self.others.contains_key(&branch) {
+            return Ok(());
+        }
+        let planner = self.begun()?;
+        self.name(branch, planner)
+    }
+
+    /// The planner of a branch that has one: of branch 0, and of another after
+    /// [`prepare`](Branches::prepare).
+    pub fn planner(&self, branch: u8) -> &Planner<A>
+        requires { has_planner self.now branch ≡ true }
+        ensures { result.now.session ≡ sessions_of self.now branch }
+    {
+        if branch == 0 {
+            return &self.first;
+        }
+        match self.others.get(&branch) {
+            Some(planner) => planner,
+            None => &self.first,
+        }
+    }
+
+    /// A copy of the database of a branch, 0 to 7, as it was before the last `count` done edits;
+    /// `None` where fewer are done. All sessions stay, even where memory ran out.
+    ///
+    /// # Errors
+    ///
+    /// Memory ran out.
+    pub fn before_last(&mut self, branch: u8, count: u32) -> Result<Option<Database<A>>, AllocError>
+        requires { branch < 8 }
+        ensures database { IfOk result (λ database. option_map lists_of database
+            ≡ before_last count (sessions_of self.old branch)) }
+        ensures kept { sessions_of self.new ≡ sessions_of self.old }
+    {
+        if branch == 0 {
+            return before_last(&mut self.first, count);
+        }
+        match self.others.get_mut(&branch) {
+            Some(planner) => before_last(planner, count),
+            None => before_last(&mut self.begun()?, count),
+        }
+    }
+
     /// A planner at the beginning of all branches.
     fn begun(&mut self) -> Result<Planner<A>, AllocError>
         ensures begun { IfOk result (λ planner. planner.session ≡ start self.old.first.base) }
@@ -237,6 +290,7 @@ impl<A: Allocator + Copy> Branches<A> {
         requires base { planner.session.base ≡ self.old.first.base }
         ensures sessions { OnOk result (sessions_of self.new
             ≡ with_session branch planner.session (sessions_of self.old)) }
+        ensures named { OnOk result (has_planner self.new branch ≡ true) }
         ensures kept { OnErr result (self.new ≡ self.old) }
     {
         self.others.insert(branch, planner)?;

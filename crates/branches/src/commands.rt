@@ -1,15 +1,16 @@
 //! The commands of a script, executed on one planner.
 
-ghost use Rattle.std.specs.Prelude.{◌≡◌, ◌++◌, IfOk, OnOk, OnErr, IsOk, false, filter_map, length, option_to_list};
+ghost use Rattle.std.specs.Prelude.{◌≡◌, ◌++◌, IfOk, OnOk, OnErr, IsOk, false, filter_map, length, option_map, option_to_list};
 ghost use Rattle.std.specs.String.{string_bytes};
 ghost use Rattle.lsdb.specs.Slots.{lists_of};
 ghost use Rattle.edit_history.specs.Session.{accepted_or, state, edited};
 ghost use Rattle.routing_table.specs.Routers.{attached_routers};
 ghost use Rattle.routing_table.specs.Tables.{table_in};
+ghost use Rattle.branches.specs.Branches.{before_last};
 ghost use Rattle.branches.specs.Replies.{reply_to, after, takes_memory, said_by, compare_reply, edit_reply, or_empty, table_reply, tables, router_text};
 
 use crate::reply::{Refusal, Reply};
-use edit_history::EditFault;
+use edit_history::{EditFault, moves};
 use edit_script::{Command, Edit};
 use lsa_codec::RouterId;
 use lsdb::Database;
@@ -71,6 +72,26 @@ fn execute_edit<A: Allocator + Copy>(
         Err(EditFault::OutOfMemory) => Err(AllocError),
         Err(fault) => Ok(Reply::Refused(Refusal::Edit(fault))),
     }
+}
+
+/// A copy of the database before the last `count` done edits, which are taken back for it and
+/// carried out again; `None` where fewer are done.
+pub(crate) fn before_last<A: Allocator + Copy>(
+    planner: &mut Planner<A>,
+    count: u32,
+) -> Result<Option<Database<A>>, AllocError>
+    ensures database { IfOk result (λ database. option_map lists_of database
+        ≡ before_last count planner.old.session) }
+    ensures kept { planner.new.session ≡ planner.old.session }
+{
+    moves();
+    if planner.undo(count).is_err() {
+        return Ok(None);
+    }
+    let copy = planner.database().clone_of();
+    // It is not refused: that many are undone.
+    let _ = planner.redo(count);
+    Ok(Some(copy?))
 }
 
 /// The routing table of a router now, if it is attached to an area.

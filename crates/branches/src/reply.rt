@@ -78,7 +78,7 @@ impl<A: Allocator> Model for Answer<A> {
 
 impl Refusal {
     /// The printed code and name, such as `E4` and `ZeroCost`.
-    fn texts(self) -> (&'static str, &'static str)
+    pub fn texts(self) -> (&'static str, &'static str)
         ensures code { result.0.now ≡ (refusal_texts self).0 }
         ensures name { result.1.now ≡ (refusal_texts self).1 }
     {

@@ -1,11 +1,11 @@
 -- What names stand for, and what routers are called.
-use Rattle.std.specs.Prelude.{◌≡◌, ℕ, ◌==◌, ◌&&◌, ◌||◌, nat_lt, nat_le, Bool, true, false, List, length, Option, Some, option_map, bytes_eq}
+use Rattle.std.specs.Prelude.{◌≡◌, ℕ, ◌==◌, ◌&&◌, ◌||◌, nat_lt, nat_le, Bool, true, false, List, length, map, Option, Some, option_map, bytes_eq}
 use Rattle.std.specs.List.{find, list_all, list_any}
 use Rattle.std.specs.Option.{is_some}
 use Rattle.std.specs.Char.{is_ascii_alphanumeric, is_ascii_digit}
 use Rattle.std.specs.Ordering.{nat_cmp}
 use Rattle.std.specs.Cmp.Lexicographic.{slice_cmp}
-use Rattle.std.specs.BTreeMap.{get, get_by}
+use Rattle.std.specs.BTreeMap.{get, get_by, keys}
 use Rattle.text_words.specs.Words.{Word}
 use Rattle.text_words.specs.Addresses.{address_of}
 use Rattle.study_words.specs.Reserved.{is_reserved}
@@ -30,6 +30,10 @@ stands_for names word = get_by (λ name. slice_cmp nat_cmp word name.now) names.
 -- the name of a router, if it has one
 abbrev pub called : {A : Type 0} → Names A → ℕ → Option Word
 called names router = option_map (λ name. name.now) (get nat_cmp names.first_names router)
+
+-- all names, in rising order of their bytes
+abbrev pub names_of : {A : Type 0} → Names A → List Word
+names_of names = map (λ name. name.now) (keys names.addresses)
 
 -- the names are these, from the first to the last
 pub record AreNames {A : Type 0} (all : List Named) (names : Names A) : Type 0 where

@@ -1,7 +1,7 @@
 //! Names, and what they stand for.
 
-ghost use Rattle.std.specs.Prelude.{◌≡◌, ◌++◌, ◌∷◌, [], List, OnOk, None, Option, option_map};
-ghost use Rattle.network_names.specs.Names.{AreNames, Named, address_in, called, name_in, stands_for};
+ghost use Rattle.std.specs.Prelude.{◌≡◌, ◌++◌, ◌∷◌, [], List, IfOk, OnOk, None, Option, map, option_map};
+ghost use Rattle.network_names.specs.Names.{AreNames, Named, address_in, called, name_in, names_of, stands_for};
 ghost use Rattle.network_names.specs.Maps.{AreAddresses, AreFirstNames};
 
 use lsa_codec::RouterId;
@@ -45,6 +45,17 @@ impl<'a, A: Allocator + Copy> Names<'a, A> {
             Some(name) => Some(*name),
             None => None,
         }
+    }
+
+    /// All names, in rising order of their bytes.
+    ///
+    /// # Errors
+    ///
+    /// Memory ran out.
+    pub fn all(&self, alloc: A) -> Result<Vec<&'a [u8], A>, AllocError>
+        ensures { IfOk result (λ all. map (λ name. name.now) all.items ≡ names_of self.now) }
+    {
+        self.addresses.keys().copied().collect(alloc)
     }
 
     /// Makes a new name stand for an address.

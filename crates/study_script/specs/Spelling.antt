@@ -10,7 +10,6 @@ use Rattle.study_words.specs.declared.condition_word.ConditionWord.{ConditionWor
 use Rattle.study_words.specs.declared.condition_word.ConditionWord.TheVariants as words
 use Rattle.study_words.specs.declared.see_word.SeeWord.{SeeWord}
 use Rattle.study_words.specs.declared.see_word.SeeWord.TheVariants as see_words
-use Rattle.study_words.specs.AuditKinds.{audit_kind_text}
 use Rattle.study_words.specs.Comparisons.{comparison_text}
 use Rattle.study_words.specs.ConditionWords.{condition_text}
 use Rattle.study_words.specs.RouteKinds.{route_kind_text}
@@ -22,7 +21,7 @@ use Rattle.study_script.specs.declared.condition.Passing.{Passing}
 use Rattle.study_script.specs.declared.condition.Passing.TheVariants as passing
 use Rattle.study_script.specs.declared.question.Question.{Question}
 use Rattle.study_script.specs.declared.question.Question.TheVariants as question
-use Rattle.study_script.specs.Expected.{Expected, route, no_route, hops, path, lost, gone, no_loops, no_microloops, no_blackholes, same, few_changes, clean_audit, only_findings, PairsAllowed, nothing, at_most, only}
+use Rattle.study_script.specs.Expected.{Expected, route, no_route, hops, path, lost, gone, no_loops, no_microloops, no_blackholes, same, few_changes, PairsAllowed, nothing, at_most, only}
 
 -- a word that may be left out
 abbrev pub if_given : {X : Type 0} → (X → Word) → Option X → List Word
@@ -37,14 +36,11 @@ word_of (question.Links router) = see_words.Links
 word_of question.Networks = see_words.Networks
 word_of (question.Routes router addr) = see_words.Routes
 word_of (question.Path router addr) = see_words.Path
-word_of (question.Explain router net) = see_words.Explain
 word_of (question.Changes router) = see_words.Changes
-word_of question.Differences = see_words.Differences
 word_of question.Lost = see_words.Lost
 word_of question.Gone = see_words.Gone
 word_of question.Loops = see_words.Loops
 word_of (question.Microloops count) = see_words.Microloops
-word_of (question.Audit kind) = see_words.Audit
 word_of question.Log = see_words.Log
 word_of (question.Help word) = see_words.Help
 
@@ -55,14 +51,11 @@ question_rest (question.Links router) = if_given router_text router
 question_rest question.Networks = []
 question_rest (question.Routes router addr) = router_text router ∷ if_given (λ given. address_text given.0) addr
 question_rest (question.Path router addr) = router_text router ∷ address_text addr.0 ∷ []
-question_rest (question.Explain router net) = router_text router ∷ prefix_text net ∷ []
 question_rest (question.Changes router) = if_given router_text router
-question_rest question.Differences = []
 question_rest question.Lost = []
 question_rest question.Gone = []
 question_rest question.Loops = []
 question_rest (question.Microloops count) = if_given decimal count
-question_rest (question.Audit kind) = if_given audit_kind_text kind
 question_rest question.Log = []
 question_rest (question.Help word) = if_given study_text word
 
@@ -88,14 +81,11 @@ IsQuestionInRange (question.Links router) = RouterInRange router
 IsQuestionInRange question.Networks = Unit
 IsQuestionInRange (question.Routes router addr) = (router.0 < 2 ^ 32) × AddrInRange addr
 IsQuestionInRange (question.Path router addr) = (router.0 < 2 ^ 32) × (addr.0 < 2 ^ 32)
-IsQuestionInRange (question.Explain router net) = (router.0 < 2 ^ 32) × IsPrefix net
 IsQuestionInRange (question.Changes router) = RouterInRange router
-IsQuestionInRange question.Differences = Unit
 IsQuestionInRange question.Lost = Unit
 IsQuestionInRange question.Gone = Unit
 IsQuestionInRange question.Loops = Unit
 IsQuestionInRange (question.Microloops count) = CountInRange count
-IsQuestionInRange (question.Audit kind) = Unit
 IsQuestionInRange question.Log = Unit
 IsQuestionInRange (question.Help word) = Unit
 
@@ -134,8 +124,6 @@ condition_word (no_microloops count) = words.Microloops
 condition_word no_blackholes = words.Blackholes
 condition_word (same router) = words.Same
 condition_word (few_changes most) = words.Changes
-condition_word clean_audit = words.Audit
-condition_word (only_findings kinds) = words.Audit
 
 -- the words after that of the condition
 abbrev pub condition_rest : Expected → List Word
@@ -151,8 +139,6 @@ condition_rest (no_microloops count) = if_given decimal count ++ codes "none" �
 condition_rest no_blackholes = codes "none" ∷ []
 condition_rest (same router) = if_given router_text router
 condition_rest (few_changes most) = codes "<=" ∷ decimal most ∷ []
-condition_rest clean_audit = codes "clean" ∷ []
-condition_rest (only_findings kinds) = codes "only" ∷ map audit_kind_text kinds
 
 abbrev pub not_words : Bool → List Word
 not_words true = codes "not" ∷ []
@@ -194,8 +180,6 @@ IsExpectedInRange (no_microloops count) = CountInRange count
 IsExpectedInRange no_blackholes = Unit
 IsExpectedInRange (same router) = RouterInRange router
 IsExpectedInRange (few_changes most) = most < 2 ^ 32
-IsExpectedInRange clean_audit = Unit
-IsExpectedInRange (only_findings kinds) = 0 < length kinds
 
 -- ---- lines
 

@@ -1,7 +1,7 @@
 //! Questions that only studies have.
 
-use lsa_codec::{Addr, Prefix, RouterId};
-use study_words::{AuditKind, StudyWord};
+use lsa_codec::{Addr, RouterId};
+use study_words::StudyWord;
 
 /// A question about the database of a branch, or about the language.
 #[derive(Clone, Copy, Debug, PartialEq, Eq)]
@@ -26,17 +26,8 @@ pub enum Question {
         /// The address that it is sent to.
         address: Addr,
     },
-    /// `explain ROUTER PREFIX`: why a route is what it is.
-    Explain {
-        /// The router.
-        router: RouterId,
-        /// The prefix of the route.
-        prefix: Prefix,
-    },
     /// `changes [ROUTER]`: what differs from the baseline, for a router or for all.
     Changes(Option<RouterId>),
-    /// `differences`: the LSAs that differ from the baseline, by meaning.
-    Differences,
     /// `lost`: routes that are gone though their prefix is still announced.
     Lost,
     /// `gone`: routes that are gone because nobody announces their prefix.
@@ -46,8 +37,6 @@ pub enum Question {
     /// `microloops [COUNT]`: what may loop while routers change over the last edits; 1 where COUNT,
     /// which is 0 to 4294967295, is left out.
     Microloops(Option<u32>),
-    /// `audit [KIND]`: what the answers may not be trusted for, or each place of a kind.
-    Audit(Option<AuditKind>),
     /// `log`: the edits that are done, as lines.
     Log,
     /// `help [WORD]`: all words, or what one means.

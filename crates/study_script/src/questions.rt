@@ -34,17 +34,11 @@ pub(crate) fn question<'a, A: Allocator + Copy>(
             let (router, address) = two(names, line)?;
             Ok(Question::Path { router, address })
         }
-        SeeWord::Explain => {
-            let (router, prefix) = two(names, line)?;
-            Ok(Question::Explain { router, prefix })
-        }
         SeeWord::Changes => Ok(Question::Changes(optional(names, line)?)),
-        SeeWord::Differences => alone(Question::Differences, line),
         SeeWord::Lost => alone(Question::Lost, line),
         SeeWord::Gone => alone(Question::Gone, line),
         SeeWord::Loops => alone(Question::Loops, line),
         SeeWord::Microloops => Ok(Question::Microloops(optional(names, line)?)),
-        SeeWord::Audit => Ok(Question::Audit(optional(names, line)?)),
         SeeWord::Log => alone(Question::Log, line),
         SeeWord::Help => Ok(Question::Help(optional(names, line)?)),
     }

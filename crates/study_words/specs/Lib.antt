@@ -5,6 +5,5 @@ pub mod SeeWords
 pub mod StudyWords
 pub mod ConditionWords
 pub mod RouteKinds
-pub mod AuditKinds
 pub mod Comparisons
 pub mod Reserved

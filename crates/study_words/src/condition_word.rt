@@ -32,8 +32,6 @@ pub enum ConditionWord {
     Same,
     /// `changes <= NUMBER`: at most this number of changes.
     Changes,
-    /// `audit clean` or `only KIND..`: which findings that make answers wrong there are.
-    Audit,
 }
 
 impl Word for ConditionWord {
@@ -56,7 +54,6 @@ impl Word for ConditionWord {
             ConditionWord::Blackholes,
             ConditionWord::Same,
             ConditionWord::Changes,
-            ConditionWord::Audit,
         ]
     }
 
@@ -73,7 +70,6 @@ impl Word for ConditionWord {
             ConditionWord::Blackholes => "blackholes",
             ConditionWord::Same => "same",
             ConditionWord::Changes => SeeWord::Changes.text(),
-            ConditionWord::Audit => SeeWord::Audit.text(),
         }
     }
 }

@@ -17,12 +17,8 @@ pub enum SeeWord {
     Routes,
     /// `path ROUTER ADDRESS`: the ways of a packet, router by router, and how they end.
     Path,
-    /// `explain ROUTER PREFIX`: why a route is what it is.
-    Explain,
     /// `changes [ROUTER]`: what differs from the baseline, by kind of change.
     Changes,
-    /// `differences`: the LSAs that differ from the baseline, by meaning.
-    Differences,
     /// `lost`: routes that are gone though their prefix is still announced.
     Lost,
     /// `gone`: routes that are gone because nobody announces their prefix.
@@ -31,8 +27,6 @@ pub enum SeeWord {
     Loops,
     /// `microloops [COUNT]`: what may loop while routers change over the last edits.
     Microloops,
-    /// `audit [KIND]`: what the answers may not be trusted for; with a kind each place.
-    Audit,
     /// `log`: the edits that are done, as lines.
     Log,
     /// `help [WORD]`: the words, or what one means.
@@ -48,14 +42,11 @@ macro_rules! see_words {
             Networks "networks"
             Routes "routes"
             Path "path"
-            Explain "explain"
             Changes "changes"
-            Differences "differences"
             Lost "lost"
             Gone "gone"
             Loops "loops"
             Microloops "microloops"
-            Audit "audit"
             Log "log"
             Help "help"
         )

@@ -10,4 +10,5 @@ mod names;
 mod commands;
 mod expectations;
 mod faults;
+mod hints;
 mod memory;

@@ -29,10 +29,12 @@ const LINES: &[(&str, &str)] = &[
     ("path r1 lan", "S6 BadAddress lan"),
     ("add-external r1 10.0.0.0/8 1 5 r2 0", "S6 BadAddress r2"),
     ("add-external r1 10.0.0.0/8 3 5 r2 0", "S5 BadNumber 3"),
-    ("explain r1 10.0.0.1/8", "S7 BadPrefix 10.0.0.1/8"),
+    ("add-stub 0.0.0.0 r1 10.0.0.1/8 5", "S7 BadPrefix 10.0.0.1/8"),
     ("add-stub 0.0.0.0 r1 r2 0", "S7 BadPrefix r2"),
     ("microloops 1x", "S5 BadNumber 1x"),
-    ("audit nasa", "S9 BadWord nasa"),
+    ("audit", "S2 UnknownWord audit"),
+    ("explain r1 10.7.0.0/16", "S2 UnknownWord explain"),
+    ("differences", "S2 UnknownWord differences"),
     ("help r1", "S9 BadWord r1"),
     ("log all", "S4 ExtraWord all"),
 ];
@@ -72,9 +74,7 @@ const EXPECTATIONS: &[(&str, &str)] = &[
     ("microloops some", "S9 BadWord some"),
     ("same r1 r2", "S4 ExtraWord r2"),
     ("changes >= 4", "S9 BadWord >="),
-    ("audit clean nssa", "S4 ExtraWord nssa"),
-    ("audit only nssa nasa", "S9 BadWord nasa"),
-    ("audit nssa", "S9 BadWord nssa"),
+    ("audit clean", "S2 UnknownWord audit"),
 ];
 
 #[test]

@@ -1,2 +1,2 @@
 -- Definitions that only the contracts of private functions cite: the steps of the code.
-pub mod Planners
+pub mod Verdicts

@@ -1,0 +1,9 @@
+pub mod AnyAge
+pub mod Areas
+pub mod Routers
+pub mod RouterTexts
+pub mod Links
+pub mod LinkTexts
+pub mod NamedLinks
+pub mod Networks
+pub mod NetworkTexts

@@ -1,0 +1,188 @@
+//! What is said of each transit network.
+
+ghost use Rattle.std.specs.Prelude.{◌≡◌, ◌++◌, IfOk, OnOk, filter, map, not};
+ghost use Rattle.std.specs.List.{filter_map, flat_map};
+ghost use Rattle.lsa_codec.specs.Order.{router_cmp};
+ghost use Rattle.lsdb.specs.Slots.{lists_of};
+ghost use Rattle.area_graph.specs.Rising.{rising};
+ghost use Rattle.link_report.specs.Networks.{joined_routers, network_cmp, network_in, network_place, network_value, networks_in, network_values, one_way_routers};
+
+use crate::areas::{UsedArea, used_areas};
+use crate::order::rising;
+use area_graph::VertexLsa;
+use interfaces::{Member, members_of, network_lsa_in};
+use lsa_codec::{Addr, AreaId, Lsa, Prefix, RouterId};
+use lsdb::Database;
+use std::alloc::{AllocError, Allocator, Global};
+use std::marker::Model;
+
+/// A transit network, by its network-LSA in use. Contracts see it as the record of its fields.
+#[derive(Drop)]
+pub struct NetworkLine<A: Allocator = Global> {
+    /// The area.
+    pub(crate) area: AreaId,
+    /// The prefix of the network.
+    pub(crate) net: Prefix,
+    /// The address of its Designated Router, which is the Link State ID.
+    pub(crate) address: Addr,
+    /// The Designated Router, which originated the LSA.
+    pub(crate) router: RouterId,
+    /// The routers that the LSA lists and that have a link to the network, in rising order.
+    pub(crate) members: Vec<RouterId, A>,
+    /// The others that the LSA lists, in rising order.
+    pub(crate) one_way: Vec<RouterId, A>,
+}
+
+impl<A: Allocator> Model for NetworkLine<A> {
+    ghost use Rattle.link_report.specs.Networks.{NetworkValue};
+
+    ghost Value = { NetworkValue };
+
+    ghost view = { λ n. record {
+      area = n.area;
+      net = n.net;
+      address = n.address;
+      router = n.router;
+      members = n.members.items;
+      one_way = n.one_way.items;
+    } };
+}
+
+/// Where the line of a network stands: by prefix, then by Link State ID.
+#[derive(Clone, Copy, Debug, PartialEq, Eq, PartialOrd, Ord)]
+pub(crate) struct NetworkPlace {
+    net: Prefix,
+    address: Addr,
+}
+
+/// The place of a network-LSA. Other LSAs have none.
+fn network_place<A: Allocator + Copy>(lsa: &Lsa<A>) -> Option<NetworkPlace>
+    ensures { result ≡ network_place lsa.now }
+{
+    let view = lsa.network()?;
+    Some(NetworkPlace {
+        net: view.net(),
+        address: lsa.key().id,
+    })
+}
+
+/// The places of the network-LSAs of an area, in their order.
+fn places<A: Allocator + Copy>(
+    alloc: A,
+    used: &[VertexLsa<'_, A>],
+) -> Result<Vec<NetworkPlace, A>, AllocError>
+    ensures { IfOk result (λ places. places.items
+        ≡ rising network_cmp (filter_map network_place used.now)) }
+{
+    let found: Vec<NetworkPlace, A> = used
+        .iter()
+        .filter_map(|vertex| network_place(vertex.lsa()))
+        .collect(alloc)?;
+    rising(alloc, &found)
+}
+
+/// The members that have a link to the network, in rising order.
+fn joined_routers<A: Allocator + Copy>(
+    alloc: A,
+    members: &[Member],
+) -> Result<Vec<RouterId, A>, AllocError>
+    ensures { IfOk result (λ routers. routers.items ≡ joined_routers members.now) }
+{
+    let found: Vec<RouterId, A> = members
+        .iter()
+        .filter(|member| member.is_joined)
+        .map(|member| member.router)
+        .collect(alloc)?;
+    rising(alloc, &found)
+}
+
+/// The members that have no link to the network, in rising order.
+fn one_way_routers<A: Allocator + Copy>(
+    alloc: A,
+    members: &[Member],
+) -> Result<Vec<RouterId, A>, AllocError>
+    ensures { IfOk result (λ routers. routers.items ≡ one_way_routers members.now) }
+{
+    let found: Vec<RouterId, A> = members
+        .iter()
+        .filter(|member| !member.is_joined)
+        .map(|member| member.router)
+        .collect(alloc)?;
+    rising(alloc, &found)
+}
+
+/// What is said of the network at a place.
+fn network_line<A: Allocator + Copy>(
+    alloc: A,
+    database: &Database<A>,
+    area: AreaId,
+    place: NetworkPlace,
+    lsa: &Lsa<A>,
+) -> Result<NetworkLine<A>, AllocError>
+    ensures { IfOk result
+        (λ line. line ≡ network_value (lists_of database.now) area place lsa.now) }
+{
+    let members = members_of(alloc, database, area, lsa)?;
+    Ok(NetworkLine {
+        area,
+        net: place.net,
+        address: place.address,
+        router: lsa.key().adv,
+        members: joined_routers(alloc, &members)?,
+        one_way: one_way_routers(alloc, &members)?,
+    })
+}
+
+/// Adds what is said of the network at a place, if it has a network-LSA in use.
+fn push_network<A: Allocator + Copy>(
+    lines: &mut Vec<NetworkLine<A>, A>,
+    alloc: A,
+    database: &Database<A>,
+    area: &UsedArea<'_, A>,
+    place: NetworkPlace,
+) -> Result<(), AllocError>
+    ensures { OnOk result (lines.new.items
+        ≡ lines.old.items ++ network_in (lists_of database.now) area.now place) }
+{
+    if let Some(lsa) = network_lsa_in(area.lsas(), place.address) {
+        lines.push(network_line(alloc, database, area.area(), place, lsa)?)?;
+    }
+    Ok(())
+}
+
+/// Adds what is said of the networks of an area, by prefix and Link State ID.
+fn push_networks<A: Allocator + Copy>(
+    lines: &mut Vec<NetworkLine<A>, A>,
+    alloc: A,
+    database: &Database<A>,
+    area: &UsedArea<'_, A>,
+) -> Result<(), AllocError>
+    ensures { OnOk result (lines.new.items
+        ≡ lines.old.items ++ networks_in (lists_of database.now) area.now) }
+{
+    let places = places(alloc, area.lsas())?;
+    for place in &places {
+        push_network(lines, alloc, database, area, *place)?;
+    }
+    Ok(())
+}
+
+/// What is said of each transit network, by the network-LSAs in use: by area, prefix and Link State
+/// ID.
+///
+/// # Errors
+///
+/// Memory ran out.
+pub fn network_lines<A: Allocator + Copy>(
+    alloc: A,
+    database: &Database<A>,
+) -> Result<Vec<NetworkLine<A>, A>, AllocError>
+    ensures { IfOk result (λ lines. lines.items ≡ network_values (lists_of database.now)) }
+{
+    let areas = used_areas(alloc, database)?;
+    let mut lines = Vec::new(alloc);
+    for area in &areas {
+        push_networks(&mut lines, alloc, database, area)?;
+    }
+    Ok(lines)
+}

@@ -1,0 +1,5 @@
+pub mod CommonFront
+pub mod Nearest
+pub mod Pieces
+pub mod Slash
+pub mod Roles

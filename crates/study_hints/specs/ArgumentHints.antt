@@ -1,0 +1,93 @@
+-- What would have been right in place of one word.
+use Rattle.std.specs.Prelude.{ℕ, ◌==◌, List, [], ◌∷◌, ◌++◌, codes, decimal, Option, Some, None, if◌then◌else◌}
+use Rattle.std.specs.List.{slice_split}
+use Rattle.lsa_codec.specs.Prefix.{Net, masked}
+use Rattle.lsa_codec.specs.Spelling.{prefix_text}
+use Rattle.text_words.specs.Options.{◌>>=◌}
+use Rattle.text_words.specs.Words.{Word}
+use Rattle.text_words.specs.Numbers.{number_up_to}
+use Rattle.text_words.specs.Addresses.{address_of}
+use Rattle.edit_script.specs.Arguments.{two_parts}
+use Rattle.study_arguments.specs.Values.{Lookup}
+use Rattle.study_words.specs.StudyWords.{study_text}
+use Rattle.study_hints.specs.declared.role.Role.{Role}
+use Rattle.study_hints.specs.declared.role.Role.TheVariants as role
+use Rattle.study_hints.specs.Help.{command_texts}
+use Rattle.study_hints.specs.Near.{near}
+use Rattle.study_hints.specs.Roles.{fits, role_text}
+
+-- the word that is most like it, or else something more general
+abbrev pub or_near : Option Word → List ℕ → List ℕ
+or_near (Some word) otherwise = codes "did you mean " ++ word
+or_near None otherwise = otherwise
+
+-- ---- addresses and prefixes
+
+abbrev pub address_hint : List ℕ
+address_hint = codes "an address is four numbers, 0 to 255"
+
+abbrev pub or_names : Option Word → List ℕ
+or_names (Some name) = codes "names have " ++ name
+or_names None = address_hint
+
+-- in place of a word that is neither an address nor a name: the name that is most like it
+abbrev pub name_hint : List Word → Word → List ℕ
+name_hint known word = or_names (near word known)
+
+-- the prefix of an address and a length that a word spells before and after its slash (47), its host bits 0
+abbrev pub without_host_bits : Word → Option Net
+without_host_bits word = do
+  part ← two_parts (slice_split (λ byte. byte == 47) word)
+  address ← address_of part.0
+  len ← number_up_to 32 part.1
+  Some (masked (record { 0 = address }) len)
+
+abbrev pub or_prefix : Option Net → List ℕ
+or_prefix (Some net) = codes "without host bits " ++ prefix_text net
+or_prefix None = codes "a prefix is an address, / and a length 0 to 32"
+
+-- in place of a word that is no prefix
+abbrev pub prefix_hint : Word → List ℕ
+prefix_hint word = or_prefix (without_host_bits word)
+
+-- ---- numbers
+
+-- the least number of a role, and the greatest
+abbrev pub least_of : Role → ℕ
+least_of role.MetricType = 1
+least_of _ = 0
+
+abbrev pub greatest_of : Role → ℕ
+greatest_of role.Link = 65535
+greatest_of role.Cost = 65535
+greatest_of role.Metric = 16777215
+greatest_of role.MetricType = 2
+greatest_of _ = 4294967295
+
+abbrev pub range_hint : Role → List ℕ
+range_hint role = role_text role ++ codes " is " ++ decimal (least_of role) ++ codes " to " ++ decimal (greatest_of role)
+
+-- ---- a word in its role
+
+unfoldable pub argument_hint : List Word → Role → Word → List ℕ
+argument_hint known role.Area word = address_hint
+argument_hint known role.Forward word = address_hint
+argument_hint known role.Router word = name_hint known word
+argument_hint known role.Neighbor word = name_hint known word
+argument_hint known role.Address word = name_hint known word
+argument_hint known role.Prefix word = prefix_hint word
+argument_hint known role.Word word = or_near (near word command_texts) (codes "see help")
+argument_hint known role.Link word = range_hint role.Link
+argument_hint known role.Cost word = range_hint role.Cost
+argument_hint known role.Metric word = range_hint role.Metric
+argument_hint known role.MetricType word = range_hint role.MetricType
+argument_hint known role.Tag word = range_hint role.Tag
+argument_hint known role.Count word = range_hint role.Count
+argument_hint known role.Number word = range_hint role.Number
+
+-- of words in their roles, from left to right, the hint for the first that does not fit
+unfoldable pub first_hint : Lookup → List Word → List Role → List Word → List ℕ
+first_hint names known [] words = codes "see help"
+first_hint names known (role ∷ roles) [] = codes "see help"
+first_hint names known (role ∷ roles) (word ∷ words) =
+    if fits names role word then first_hint names known roles words else argument_hint known role word

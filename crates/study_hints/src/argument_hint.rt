@@ -1,0 +1,178 @@
+//! What would have been right in place of one word.
+
+ghost use Rattle.std.specs.Prelude.{◌≡◌, ◌==◌, ◌++◌, OnOk, codes, map, option_map};
+ghost use Rattle.std.specs.List.{slice_split};
+ghost use Rattle.edit_script.specs.Arguments.{two_parts};
+ghost use Rattle.edit_script.specs.Words.{words};
+ghost use Rattle.network_names.specs.Names.{stands_for};
+ghost use Rattle.study_hints.specs.ArgumentHints.{argument_hint, first_hint, greatest_of, least_of, name_hint, or_near, prefix_hint, range_hint, without_host_bits};
+ghost use Rattle.study_hints.specs.Near.{near};
+
+use crate::help::commands;
+use crate::near::{Candidate, nearest};
+use crate::role::Role;
+use lsa_codec::{Addr, Prefix};
+use network_names::Names;
+use std::alloc::{AllocError, Allocator};
+use study_arguments::first_word;
+use study_text::{push_number, push_prefix};
+use text_words::{address_of, cut_at, number_up_to};
+
+/// Adds the candidate that is most like a word, or else something more general.
+pub(crate) fn push_near<T: Candidate, A: Allocator + Copy>(
+    text: &mut Vec<u8, A>,
+    word: &[u8],
+    candidates: &[T],
+    otherwise: &str,
+) -> Result<(), AllocError>
+    ensures { OnOk result (text.new.items ≡ text.old.items
+        ++ or_near (near word.now (map T.written candidates.now)) otherwise.now) }
+{
+    let Some(found) = nearest(word, candidates) else {
+        return text.extend_from_slice(otherwise.as_bytes());
+    };
+    text.extend_from_slice(b"did you mean ")?;
+    text.extend_from_slice(found.bytes())
+}
+
+/// Adds what an address is.
+fn push_address_form<A: Allocator + Copy>(text: &mut Vec<u8, A>) -> Result<(), AllocError>
+    ensures { OnOk result (text.new.items
+        ≡ text.old.items ++ codes "an address is four numbers, 0 to 255") }
+{
+    text.extend_from_slice(b"an address is four numbers, 0 to 255")
+}
+
+/// Adds the name that is most like a word, or else what an address is.
+pub(crate) fn push_name_hint<A: Allocator + Copy>(
+    text: &mut Vec<u8, A>,
+    known: &[&[u8]],
+    word: &[u8],
+) -> Result<(), AllocError>
+    ensures { OnOk result (text.new.items ≡ text.old.items
+        ++ name_hint (map (λ name. name.now) known.now) word.now) }
+{
+    let Some(name) = nearest(word, known) else {
+        return push_address_form(text);
+    };
+    text.extend_from_slice(b"names have ")?;
+    text.extend_from_slice(*name)
+}
+
+/// The parts of a word with one slash.
+#[tactic(auto, using(crate::proofs::Slash::three_parts))]
+fn parts_at_slash(word: &[u8]) -> Option<(&[u8], &[u8])>
+    ensures { option_map (λ x. (x.0.now, x.1.now)) result
+        ≡ two_parts (slice_split (λ b. b == 47) word.now) }
+{
+    let (front, back) = cut_at(word, b'/')?;
+    if cut_at(back, b'/').is_some() {
+        return None;
+    }
+    Some((front, back))
+}
+
+/// The prefix that a word spells but for its host bits, which are 0 here.
+fn without_host_bits(word: &[u8]) -> Option<Prefix>
+    ensures { result ≡ without_host_bits word.now }
+{
+    let (front, back) = parts_at_slash(word)?;
+    let address = address_of(front)?;
+    let len = number_up_to(32, back)?;
+    Some(Prefix::masked(Addr(address), len as u8))
+}
+
+/// Adds the prefix without host bits, where only these are wrong, or else what a prefix is.
+pub(crate) fn push_prefix_hint<A: Allocator + Copy>(
+    text: &mut Vec<u8, A>,
+    word: &[u8],
+) -> Result<(), AllocError>
+    ensures { OnOk result (text.new.items ≡ text.old.items ++ prefix_hint word.now) }
+{
+    let Some(net) = without_host_bits(word) else {
+        return text.extend_from_slice(b"a prefix is an address, / and a length 0 to 32");
+    };
+    text.extend_from_slice(b"without host bits ")?;
+    push_prefix(text, net)
+}
+
+/// The least number of a role.
+fn least_of(role: Role) -> u64
+    ensures { result ≡ least_of role }
+{
+    match role {
+        Role::MetricType => 1,
+        _ => 0,
+    }
+}
+
+/// The greatest number of a role.
+fn greatest_of(role: Role) -> u64
+    ensures { result ≡ greatest_of role }
+{
+    match role {
+        Role::Link | Role::Cost => 65_535,
+        Role::Metric => 16_777_215,
+        Role::MetricType => 2,
+        _ => 4_294_967_295,
+    }
+}
+
+/// Adds the range of a number.
+pub(crate) fn push_range<A: Allocator + Copy>(
+    text: &mut Vec<u8, A>,
+    role: Role,
+) -> Result<(), AllocError>
+    ensures { OnOk result (text.new.items ≡ text.old.items ++ range_hint role) }
+{
+    text.extend_from_slice(role.text().as_bytes())?;
+    text.extend_from_slice(b" is ")?;
+    push_number(text, least_of(role))?;
+    text.extend_from_slice(b" to ")?;
+    push_number(text, greatest_of(role))
+}
+
+/// Adds what would have been right in place of a word that does not fit its role.
+#[tactic(auto, unfolding(crate::specs::ArgumentHints::argument_hint))]
+fn push_argument_hint<A: Allocator + Copy>(
+    text: &mut Vec<u8, A>,
+    known: &[&[u8]],
+    role: Role,
+    word: &[u8],
+) -> Result<(), AllocError>
+    ensures { OnOk result (text.new.items ≡ text.old.items
+        ++ argument_hint (map (λ name. name.now) known.now) role word.now) }
+{
+    match role {
+        Role::Area | Role::Forward => push_address_form(text),
+        Role::Router | Role::Neighbor | Role::Address => push_name_hint(text, known, word),
+        Role::Prefix => push_prefix_hint(text, word),
+        Role::Word => push_near(text, word, commands(), "see help"),
+        _ => push_range(text, role),
+    }
+}
+
+/// Adds the hint for the first word that does not fit its role.
+pub(crate) fn push_first_hint<A: Allocator + Copy>(
+    text: &mut Vec<u8, A>,
+    names: &Names<'_, A>,
+    known: &[&[u8]],
+    roles: &[Role],
+    line: &[u8],
+) -> Result<(), AllocError>
+    ensures { OnOk result (text.new.items ≡ text.old.items
+        ++ first_hint (stands_for names.now) (map (λ name. name.now) known.now) roles.now
+        (words line.now)) }
+{
+    let mut rest = line;
+    for role in roles {
+        let Some(at) = first_word(rest) else {
+            return text.extend_from_slice(b"see help");
+        };
+        if !role.fits(names, at.word) {
+            return push_argument_hint(text, known, *role, at.word);
+        }
+        rest = at.rest;
+    }
+    text.extend_from_slice(b"see help")
+}

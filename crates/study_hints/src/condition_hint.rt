@@ -1,0 +1,201 @@
+//! What would have been right in an expectation.
+
+ghost use Rattle.std.specs.Prelude.{◌≡◌, ◌++◌, OnOk, drop, flat_map, map};
+ghost use Rattle.edit_script.specs.Words.{words};
+ghost use Rattle.study_arguments.specs.Fault.{fault_at};
+ghost use Rattle.study_hints.specs.ConditionHints.{after_space, allowed, at_condition, at_cost, at_kind, at_via, condition_hint, condition_texts, expectation_hint, number_role, one_of, texts};
+ghost use Rattle.study_hints.specs.ArgumentHints.{or_near};
+ghost use Rattle.study_hints.specs.Near.{near};
+
+use crate::argument_hint::{push_name_hint, push_prefix_hint, push_range};
+use crate::grammar::{command_text, expectation_text};
+use crate::near::{Candidate, nearest};
+use crate::role::Role;
+use edit_script::ScriptFault;
+use std::alloc::{AllocError, Allocator};
+use study_arguments::{Fault, FaultKind, first_word};
+use study_words::{ConditionWord, RouteKind, StudyWord, Word};
+
+// ---- the words that may stand at a place
+
+/// How numbers are compared.
+const COMPARISONS: &[&str] = &["<=", "=", ">="];
+
+/// The words that may stand after the kind of a route.
+const AFTER_KIND: &[&str] = &["via", "cost"];
+
+/// The words that may stand after the prefix of a route.
+const AFTER_PREFIX: &[&str] = &["intra", "inter", "ext1", "ext2", "own", "via", "cost"];
+
+/// What follows the first word.
+fn after_first(line: &[u8]) -> &[u8]
+    ensures { words result.now ≡ drop 1 (words line.now) }
+{
+    match first_word(line) {
+        Some(at) => at.rest,
+        None => line,
+    }
+}
+
+/// The words that may stand where the first word is that is none of them, where a cost may stand,
+/// and else one of these.
+fn at_cost(those: &'static [&'static str], line: &[u8]) -> &'static [&'static str]
+    ensures { texts result.now ≡ at_cost (texts those.now) (words line.now) }
+{
+    match first_word(line) {
+        Some(at) if at.word == b"cost".as_slice() => COMPARISONS,
+        _ => those,
+    }
+}
+
+/// The same where neighbors may stand before.
+fn at_via(those: &'static [&'static str], line: &[u8]) -> &'static [&'static str]
+    ensures { texts result.now ≡ at_via (texts those.now) (words line.now) }
+{
+    match first_word(line) {
+        Some(at) if at.word == b"via".as_slice() => at_cost(&["cost"], after_first(at.rest)),
+        _ => at_cost(those, line),
+    }
+}
+
+/// The same where a kind may stand before.
+fn at_kind(line: &[u8]) -> &'static [&'static str]
+    ensures { texts result.now ≡ at_kind (words line.now) }
+{
+    match first_word(line) {
+        Some(at) if RouteKind::of(at.word).is_some() => at_via(AFTER_KIND, at.rest),
+        _ => at_via(AFTER_PREFIX, line),
+    }
+}
+
+/// The words that may stand where the first word after that of a condition is that does not fit.
+fn allowed(word: ConditionWord, line: &[u8]) -> &'static [&'static str]
+    ensures { texts result.now ≡ allowed word (words line.now) }
+{
+    match word {
+        ConditionWord::Route => at_kind(after_first(after_first(line))),
+        ConditionWord::NoRoute | ConditionWord::Same => &[],
+        ConditionWord::Hops => COMPARISONS,
+        ConditionWord::Path => &["via", "avoids", "delivered"],
+        ConditionWord::Lost | ConditionWord::Gone => &["none", "<=", "only"],
+        ConditionWord::Loops | ConditionWord::Microloops | ConditionWord::Blackholes => &["none"],
+        ConditionWord::Changes => &["<="],
+    }
+}
+
+/// Adds words, each after a space.
+fn push_spaced<T: Candidate, A: Allocator + Copy>(
+    text: &mut Vec<u8, A>,
+    words: &[T],
+) -> Result<(), AllocError>
+    ensures { OnOk result (text.new.items
+        ≡ text.old.items ++ flat_map after_space (map T.written words.now)) }
+{
+    for word in words {
+        text.extend_from_slice(b" ")?;
+        text.extend_from_slice(word.bytes())?;
+    }
+    Ok(())
+}
+
+/// Adds several words, or the only one.
+fn push_one_of<T: Candidate, A: Allocator + Copy>(
+    text: &mut Vec<u8, A>,
+    words: &[T],
+) -> Result<(), AllocError>
+    ensures { OnOk result (text.new.items
+        ≡ text.old.items ++ one_of (map T.written words.now)) }
+{
+    if let [word] = words {
+        return text.extend_from_slice(word.bytes());
+    }
+    text.extend_from_slice(b"one of")?;
+    push_spaced(text, words)
+}
+
+// ---- hints
+
+/// What the number of a condition is.
+fn number_role(word: ConditionWord) -> Role
+    ensures { result ≡ number_role word }
+{
+    match word {
+        ConditionWord::Microloops => Role::Count,
+        _ => Role::Number,
+    }
+}
+
+/// Adds the hint for a fault after the word of a condition.
+#[tactic(auto, unfolding(crate::specs::ConditionHints::condition_hint))]
+fn push_condition_hint<A: Allocator + Copy>(
+    text: &mut Vec<u8, A>,
+    known: &[&[u8]],
+    word: ConditionWord,
+    line: &[u8],
+    fault: &Fault<'_>,
+) -> Result<(), AllocError>
+    ensures { OnOk result (text.new.items ≡ text.old.items
+        ++ condition_hint (map (λ name. name.now) known.now) word (words line.now)
+        (fault_at fault.now).0 (fault_at fault.now).1) }
+{
+    match fault.kind {
+        FaultKind::Script(ScriptFault::BadNumber) => push_range(text, number_role(word)),
+        FaultKind::Script(ScriptFault::BadAddress) => push_name_hint(text, known, fault.word),
+        FaultKind::Script(ScriptFault::BadPrefix) => push_prefix_hint(text, fault.word),
+        FaultKind::BadWord => push_one_of(text, allowed(word, line)),
+        _ => text.extend_from_slice(expectation_text(word).as_bytes()),
+    }
+}
+
+/// Adds the condition that is most like a word, or all conditions.
+fn push_condition_like<A: Allocator + Copy>(
+    text: &mut Vec<u8, A>,
+    word: &[u8],
+) -> Result<(), AllocError>
+    ensures { OnOk result (text.new.items ≡ text.old.items
+        ++ or_near (near word.now condition_texts) (one_of condition_texts)) }
+{
+    let Some(found) = nearest(word, ConditionWord::all()) else {
+        return push_one_of(text, ConditionWord::all());
+    };
+    text.extend_from_slice(b"did you mean ")?;
+    text.extend_from_slice(found.bytes())
+}
+
+/// Adds the hint for a fault from the word of a condition on.
+fn push_at_condition<A: Allocator + Copy>(
+    text: &mut Vec<u8, A>,
+    known: &[&[u8]],
+    line: &[u8],
+    fault: &Fault<'_>,
+) -> Result<(), AllocError>
+    ensures { OnOk result (text.new.items ≡ text.old.items
+        ++ at_condition (map (λ name. name.now) known.now) (words line.now)
+        (fault_at fault.now).0 (fault_at fault.now).1) }
+{
+    let Some(at) = first_word(line) else {
+        return text.extend_from_slice(command_text(StudyWord::Expect).as_bytes());
+    };
+    match ConditionWord::of(at.word) {
+        Some(word) => push_condition_hint(text, known, word, at.rest, fault),
+        None => push_condition_like(text, fault.word),
+    }
+}
+
+/// Adds the hint for a fault after `expect`.
+#[tactic(auto, unfolding(crate::specs::ConditionHints::expectation_hint))]
+pub(crate) fn push_expectation_hint<A: Allocator + Copy>(
+    text: &mut Vec<u8, A>,
+    known: &[&[u8]],
+    line: &[u8],
+    fault: &Fault<'_>,
+) -> Result<(), AllocError>
+    ensures { OnOk result (text.new.items ≡ text.old.items
+        ++ expectation_hint (map (λ name. name.now) known.now) (words line.now)
+        (fault_at fault.now).0 (fault_at fault.now).1) }
+{
+    match first_word(line) {
+        Some(at) if at.word == b"not".as_slice() => push_at_condition(text, known, at.rest, fault),
+        _ => push_at_condition(text, known, line, fault),
+    }
+}

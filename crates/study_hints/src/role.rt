@@ -1,0 +1,87 @@
+//! What a word of a line is to be.
+
+ghost use Rattle.std.specs.Prelude.{◌≡◌};
+ghost use Rattle.network_names.specs.Names.{stands_for};
+ghost use Rattle.study_hints.specs.Roles.{fits, role_text};
+
+use edit_script::MetricType;
+use lsa_codec::{Addr, AreaId, Metric, Prefix, RouterId};
+use network_names::Names;
+use std::alloc::Allocator;
+use study_arguments::{Argument, Dotted, LinkName};
+use study_words::StudyWord;
+
+/// What a word of a line is to be.
+#[derive(Clone, Copy, Debug, PartialEq, Eq)]
+pub(crate) enum Role {
+    /// The Area ID of an area.
+    Area,
+    /// A router, by its Router ID or its name.
+    Router,
+    /// A router at the far end of a link.
+    Neighbor,
+    /// A link, by its number or by what names it.
+    Link,
+    /// An address.
+    Address,
+    /// A prefix.
+    Prefix,
+    /// A metric of 16 bits.
+    Cost,
+    /// A metric of 24 bits.
+    Metric,
+    /// The type of an external metric.
+    MetricType,
+    /// A forwarding address.
+    Forward,
+    /// An external route tag.
+    Tag,
+    /// A number of edits.
+    Count,
+    /// A number that another is compared with.
+    Number,
+    /// A command word.
+    Word,
+}
+
+impl Role {
+    /// The role as lines of help name it.
+    pub(crate) fn text(self) -> &'static str
+        ensures { result.now ≡ role_text self }
+    {
+        match self {
+            Role::Area => "AREA",
+            Role::Router => "ROUTER",
+            Role::Neighbor => "NEIGHBOR",
+            Role::Link => "LINK",
+            Role::Address => "ADDRESS",
+            Role::Prefix => "PREFIX",
+            Role::Cost | Role::Metric => "METRIC",
+            Role::MetricType => "TYPE",
+            Role::Forward => "FORWARD",
+            Role::Tag => "TAG",
+            Role::Count => "COUNT",
+            Role::Number => "NUMBER",
+            Role::Word => "WORD",
+        }
+    }
+
+    /// Whether a word may stand in this role.
+    pub(crate) fn fits<A: Allocator + Copy>(self, names: &Names<'_, A>, word: &[u8]) -> bool
+        ensures { result ≡ fits (stands_for names.now) self word.now }
+    {
+        match self {
+            Role::Area => AreaId::read(names, word).is_ok(),
+            Role::Router | Role::Neighbor => RouterId::read(names, word).is_ok(),
+            Role::Link => LinkName::read(names, word).is_ok(),
+            Role::Address => Addr::read(names, word).is_ok(),
+            Role::Prefix => Prefix::read(names, word).is_ok(),
+            Role::Cost => u16::read(names, word).is_ok(),
+            Role::Metric => Metric::read(names, word).is_ok(),
+            Role::MetricType => MetricType::read(names, word).is_ok(),
+            Role::Forward => Dotted::read(names, word).is_ok(),
+            Role::Tag | Role::Count | Role::Number => u32::read(names, word).is_ok(),
+            Role::Word => StudyWord::read(names, word).is_ok(),
+        }
+    }
+}

@@ -1,0 +1,105 @@
+-- Commands of `ospf-plan` in whose lines names stand, and what they are answered.
+use Rattle.std.specs.Prelude.{ℕ, nat_lt, if◌then◌else◌, List, [], ◌∷◌, ◌++◌, length, Option, None, Some, codes, decimal}
+use Rattle.std.specs.Option.{option_map_or}
+use Rattle.lsa_codec.specs.declared.address.AreaId.{AreaId}
+use Rattle.lsa_codec.specs.declared.address.RouterId.{RouterId}
+use Rattle.edit_script.specs.declared.command.Command.{Command}
+use Rattle.edit_script.specs.declared.command.Command.TheVariants as command
+use Rattle.edit_script.specs.declared.edit.Edit.TheVariants as edit
+use Rattle.edit_history.specs.Session.{Session, most_edits, state}
+use Rattle.branches.specs.Branches.{Sessions, stepped}
+use Rattle.branches.specs.Replies.{Said, done, refused, mark_of, refusal_texts, reply_text, reply_to}
+use Rattle.study_arguments.specs.declared.link.LinkName.{LinkName}
+use Rattle.study_arguments.specs.declared.link.LinkName.TheVariants.{Number, Address, Prefix}
+use Rattle.study_script.specs.declared.named_command.NamedCommand.{NamedCommand}
+use Rattle.study_script.specs.declared.named_command.NamedCommand.TheVariants as named_command
+use Rattle.study_text.specs.Shown.{Called}
+use Rattle.link_report.specs.AnyAge.{router_lsa_of_any_age}
+use Rattle.link_report.specs.LinkTexts.{description, name_text}
+use Rattle.link_report.specs.Links.{LinkValue, link_at}
+use Rattle.link_report.specs.NamedLinks.{link_numbers}
+use Rattle.study_session.specs.declared.link_edit.LinkEdit.{LinkEdit}
+use Rattle.study_session.specs.declared.link_edit.LinkEdit.TheVariants as link
+use Rattle.study_session.specs.Answers.{AnswerValue, accepted_answer, refused_answer}
+
+-- ---- which link is named
+
+-- the numbers of the links that a word names; none, where the area has no router-LSA of the router
+abbrev pub numbers_in : Session → AreaId → RouterId → LinkName → List ℕ
+numbers_in s area router name = option_map_or (link_numbers name) (router_lsa_of_any_age (state s) area router) []
+
+-- the number of the one link; 0, which no link has, where there is none
+abbrev pub one_of : List ℕ → Option ℕ
+one_of [] = Some 0
+one_of (number ∷ []) = Some number
+one_of (number ∷ next ∷ numbers) = None
+
+-- the number of the link that a word names, if it does not name several. Where no edit may be done any more, none is looked up
+abbrev pub number_found : Session → AreaId → RouterId → LinkName → Option ℕ
+number_found s area router name = if nat_lt (length s.done) most_edits then one_of (numbers_in s area router name) else Some 0
+
+-- the same of a link that is named by its number, or by a word
+abbrev pub named_number : Session → AreaId → RouterId → LinkName → Option ℕ
+named_number s area router (Number number) = Some number
+named_number s area router (Address address) = number_found s area router (Address address)
+named_number s area router (Prefix net) = number_found s area router (Prefix net)
+
+-- ---- answers
+
+-- the answer to a command of `ospf-plan`: its reply
+abbrev pub plan_answer : ℕ → Said → AnswerValue
+plan_answer branch (refused why) = refused_answer branch (refusal_texts why)
+plan_answer branch said = accepted_answer (reply_text branch said)
+
+-- the same of an edit that says what it changed
+abbrev pub changed_answer : ℕ → List ℕ → Said → AnswerValue
+changed_answer branch change done = accepted_answer (mark_of branch ++ codes "ok" ++ change ++ codes "\n")
+changed_answer branch change said = plan_answer branch said
+
+-- ---- edits of links that are named
+
+-- the edit of the link with a number
+abbrev pub link_edit : LinkEdit → AreaId → RouterId → ℕ → Command
+link_edit (link.Cost metric) area router number = command.Edit (edit.Cost area router number metric)
+link_edit link.Drop area router number = command.Edit (edit.DropLink area router number)
+
+-- what is said of the link: ` NAME: OLD -> NEW`, or ` gone DESCRIPTION`
+abbrev pub edited_text : LinkEdit → Called → LinkValue → List ℕ
+edited_text (link.Cost metric) called v =
+    codes " " ++ name_text called v ++ codes ": " ++ decimal v.link.metric ++ codes " -> " ++ decimal metric
+edited_text link.Drop called v = codes " gone " ++ description called v
+
+-- if there is such a link
+abbrev pub change_text : LinkEdit → Called → Option LinkValue → List ℕ
+change_text edit called v = option_map_or (edited_text edit called) v []
+
+abbrev pub many_links : List ℕ × List ℕ
+many_links = (codes "E14", codes "ManyLinks")
+
+module _ (called : Called) (s : Session) (branch : ℕ) where
+  -- the answer to an edit of the link with a number, if not several are named
+  abbrev pub link_answer : AreaId → RouterId → LinkEdit → Option ℕ → AnswerValue
+  link_answer area router edit None = refused_answer branch many_links
+  link_answer area router edit (Some number) =
+      changed_answer branch (change_text edit called (link_at (state s) area router number)) (reply_to s (link_edit edit area router number))
+
+  -- the answer to a command with names
+  abbrev pub named_answer : NamedCommand → AnswerValue
+  named_answer (named_command.Command c) = plan_answer branch (reply_to s c)
+  named_answer (named_command.Cost area router name metric) = link_answer area router (link.Cost metric) (named_number s area router name)
+  named_answer (named_command.DropLink area router name) = link_answer area router link.Drop (named_number s area router name)
+
+-- ---- sessions
+
+-- the sessions after an edit of a link; where several links are named, it is not carried out
+abbrev pub link_stepped : ℕ → AreaId → RouterId → LinkEdit → Option ℕ → Sessions → Sessions
+link_stepped branch area router edit None all = all
+link_stepped branch area router edit (Some number) all = stepped branch (link_edit edit area router number) all
+
+-- the sessions after a command with names
+abbrev pub named_stepped : ℕ → NamedCommand → Sessions → Sessions
+named_stepped branch (named_command.Command c) all = stepped branch c all
+named_stepped branch (named_command.Cost area router name metric) all =
+    link_stepped branch area router (link.Cost metric) (named_number (all branch) area router name) all
+named_stepped branch (named_command.DropLink area router name) all =
+    link_stepped branch area router link.Drop (named_number (all branch) area router name) all

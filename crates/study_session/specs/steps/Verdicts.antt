@@ -1,0 +1,10 @@
+-- What is found of a condition, as the code has it.
+use Rattle.study_session.specs.declared.verdict.Verdict.{Verdict}
+use Rattle.study_session.specs.declared.verdict.Verdict.TheVariants as of
+use Rattle.study_session.specs.Expectations.{VerdictValue, found, unknown}
+use Rattle.study_session.specs.Questions.{no_router, too_few_done}
+
+abbrev pub verdict_of : {A : Type 0} → Verdict A → VerdictValue
+verdict_of of.NoRouter = unknown no_router
+verdict_of of.TooFewDone = unknown too_few_done
+verdict_of (of.Found holds text) = found holds text.items

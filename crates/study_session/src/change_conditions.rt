@@ -1,0 +1,126 @@
+//! Conditions about what differs from the baseline.
+
+ghost use Rattle.std.specs.Prelude.{◌≡◌, IfOk, codes};
+ghost use Rattle.network_names.specs.Names.{called};
+ghost use Rattle.lsdb.specs.Slots.{lists_of};
+ghost use Rattle.comparison.specs.Named.{gone as gone_pairs, lost as lost_pairs};
+ghost use Rattle.study_script.specs.Expected.{pairs_allowed};
+ghost use Rattle.study_session.specs.Expectations.{changes_verdict, few_verdict, pairs_verdict, same_verdict};
+ghost use Rattle.study_session.specs.Questions.{beside};
+ghost use Rattle.study_session.specs.steps.Verdicts.{verdict_of};
+
+use crate::known::is_known;
+use crate::verdict::Verdict;
+use change_lines::{Changes, Pair, push_changes_found};
+use change_report::{are_allowed, are_few, push_found};
+use comparison::Comparison;
+use lsa_codec::RouterId;
+use lsdb::Database;
+use network_names::Names;
+use spf::Meter;
+use std::alloc::{AllocError, Allocator};
+use study_script::Allowed;
+
+/// What is found of pairs that are lost or gone.
+fn pairs<A: Allocator + Copy>(
+    alloc: A,
+    names: &Names<'_, A>,
+    word: &str,
+    allowed: &Allowed<A>,
+    pairs: &[Pair],
+) -> Result<Verdict<A>, AllocError>
+    ensures { IfOk result (λ verdict. verdict_of verdict
+        ≡ pairs_verdict (called names.now) word.now (pairs_allowed allowed.now) pairs.now) }
+{
+    let holds = are_allowed(allowed, pairs);
+    let mut text = Vec::new(alloc);
+    push_found(alloc, &mut text, names, word, allowed, pairs)?;
+    Ok(Verdict::Found { holds, text })
+}
+
+/// `lost`: what is found of it.
+pub(crate) fn lost<A: Allocator + Copy>(
+    alloc: A,
+    names: &Names<'_, A>,
+    baseline: &Database<A>,
+    database: &Database<A>,
+    allowed: &Allowed<A>,
+) -> Result<Verdict<A>, AllocError>
+    ensures { IfOk result (λ verdict. verdict_of verdict
+        ≡ pairs_verdict (called names.now) (codes "lost") (pairs_allowed allowed.now)
+        (lost_pairs (beside (lists_of baseline.now) (lists_of database.now)))) }
+{
+    let both = Comparison::of(alloc, baseline, database, &mut Meter::new())?;
+    pairs(alloc, names, "lost", allowed, &both.lost(alloc)?)
+}
+
+/// `gone`: what is found of it.
+pub(crate) fn gone<A: Allocator + Copy>(
+    alloc: A,
+    names: &Names<'_, A>,
+    baseline: &Database<A>,
+    database: &Database<A>,
+    allowed: &Allowed<A>,
+) -> Result<Verdict<A>, AllocError>
+    ensures { IfOk result (λ verdict. verdict_of verdict
+        ≡ pairs_verdict (called names.now) (codes "gone") (pairs_allowed allowed.now)
+        (gone_pairs (beside (lists_of baseline.now) (lists_of database.now)))) }
+{
+    let both = Comparison::of(alloc, baseline, database, &mut Meter::new())?;
+    pairs(alloc, names, "gone", allowed, &both.gone(alloc)?)
+}
+
+/// What is found of changes.
+fn changes<A: Allocator + Copy>(
+    alloc: A,
+    names: &Names<'_, A>,
+    holds: bool,
+    changes: &Changes<A>,
+) -> Result<Verdict<A>, AllocError>
+    ensures { IfOk result (λ verdict. verdict_of verdict
+        ≡ changes_verdict (called names.now) holds changes.now) }
+{
+    let mut text = Vec::new(alloc);
+    push_changes_found(&mut text, names, &changes.names)?;
+    Ok(Verdict::Found { holds, text })
+}
+
+/// `same`: what is found of it.
+pub(crate) fn same<A: Allocator + Copy>(
+    alloc: A,
+    names: &Names<'_, A>,
+    baseline: &Database<A>,
+    database: &Database<A>,
+    router: Option<RouterId>,
+) -> Result<Verdict<A>, AllocError>
+    ensures { IfOk result (λ verdict. verdict_of verdict ≡ same_verdict (called names.now)
+        (lists_of baseline.now) (lists_of database.now) router) }
+{
+    if let Some(one) = router {
+        if !is_known(alloc, baseline, database, one)? {
+            return Ok(Verdict::NoRouter);
+        }
+        let both = Comparison::of(alloc, baseline, database, &mut Meter::new())?;
+        let found = both.changes_of(alloc, one)?;
+        return changes(alloc, names, found.names.is_empty(), &found);
+    }
+    let both = Comparison::of(alloc, baseline, database, &mut Meter::new())?;
+    let found = both.changes(alloc)?;
+    changes(alloc, names, found.names.is_empty(), &found)
+}
+
+/// `changes`: what is found of it.
+pub(crate) fn few<A: Allocator + Copy>(
+    alloc: A,
+    names: &Names<'_, A>,
+    baseline: &Database<A>,
+    database: &Database<A>,
+    most: u32,
+) -> Result<Verdict<A>, AllocError>
+    ensures { IfOk result (λ verdict. verdict_of verdict ≡ few_verdict (called names.now)
+        (lists_of baseline.now) (lists_of database.now) most) }
+{
+    let both = Comparison::of(alloc, baseline, database, &mut Meter::new())?;
+    let found = both.changes(alloc)?;
+    changes(alloc, names, are_few(most, &found), &found)
+}

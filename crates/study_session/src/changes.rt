@@ -1,0 +1,135 @@
+//! Answers about what differs from the baseline.
+
+ghost use Rattle.std.specs.Prelude.{◌≡◌, ◌∷◌, [], IfOk, codes};
+ghost use Rattle.network_names.specs.Names.{called};
+ghost use Rattle.lsdb.specs.Slots.{lists_of};
+ghost use Rattle.study_session.specs.Questions.{beside, changes_answer, changes_of, changes_reply, gone_answer, lost_answer, pairs_reply};
+
+use crate::answer::Answer;
+use crate::known::{is_known, no_router};
+use crate::text::{head, push_number_after, push_router_after, push_word};
+use change_lines::{ChangeLine, Changes, PairLine, push_counts};
+use change_report::{gone_lines, lines_of_changes, lost_lines};
+use comparison::Comparison;
+use lsa_codec::RouterId;
+use lsdb::Database;
+use network_names::Names;
+use route_lines::push_lines;
+use spf::Meter;
+use std::alloc::{AllocError, Allocator};
+use study_words::SeeWord;
+
+/// The text of `changes`.
+fn changes_reply<A: Allocator + Copy>(
+    alloc: A,
+    names: &Names<'_, A>,
+    branch: u8,
+    router: Option<RouterId>,
+    changes: &Changes<A>,
+    lines: &[ChangeLine<A>],
+) -> Result<Vec<u8, A>, AllocError>
+    ensures { IfOk result (λ text. text.items
+        ≡ changes_reply (called names.now) branch router changes.now lines.now) }
+{
+    let mut text = head(alloc, branch, SeeWord::Changes)?;
+    push_router_after(&mut text, names, router)?;
+    push_number_after(&mut text, changes.names.len() as u64)?;
+    push_counts(&mut text, changes)?;
+    push_word(&mut text, "\n")?;
+    push_lines(&mut text, names, lines)?;
+    Ok(text)
+}
+
+/// The answer to `changes`, by what differs.
+fn changes_of<A: Allocator + Copy>(
+    alloc: A,
+    names: &Names<'_, A>,
+    branch: u8,
+    both: &Comparison<'_, A>,
+    router: Option<RouterId>,
+    changes: &Changes<A>,
+) -> Result<Answer<A>, AllocError>
+    ensures { IfOk result (λ answer. answer ≡ changes_of (called names.now) branch
+        both.now.baseline both.now.present router changes.now) }
+{
+    let lines = lines_of_changes(alloc, both, &changes.names)?;
+    let text = changes_reply(alloc, names, branch, router, changes, &lines)?;
+    Ok(Answer::accepted(alloc, text))
+}
+
+/// The answer to `changes`.
+pub(crate) fn changes_answer<A: Allocator + Copy>(
+    alloc: A,
+    names: &Names<'_, A>,
+    branch: u8,
+    baseline: &Database<A>,
+    database: &Database<A>,
+    router: Option<RouterId>,
+) -> Result<Answer<A>, AllocError>
+    ensures { IfOk result (λ answer. answer ≡ changes_answer (called names.now) branch
+        (lists_of baseline.now) (lists_of database.now) router) }
+{
+    if let Some(one) = router {
+        if !is_known(alloc, baseline, database, one)? {
+            return no_router(alloc, branch);
+        }
+        let both = Comparison::of(alloc, baseline, database, &mut Meter::new())?;
+        let changes = both.changes_of(alloc, one)?;
+        return changes_of(alloc, names, branch, &both, router, &changes);
+    }
+    let both = Comparison::of(alloc, baseline, database, &mut Meter::new())?;
+    let changes = both.changes(alloc)?;
+    changes_of(alloc, names, branch, &both, None, &changes)
+}
+
+/// The text of `lost` or `gone`.
+fn pairs_reply<A: Allocator + Copy>(
+    alloc: A,
+    names: &Names<'_, A>,
+    branch: u8,
+    word: SeeWord,
+    lines: &[PairLine<A>],
+) -> Result<Vec<u8, A>, AllocError>
+    ensures { IfOk result
+        (λ text. text.items ≡ pairs_reply (called names.now) branch word lines.now) }
+{
+    let mut text = head(alloc, branch, word)?;
+    push_number_after(&mut text, lines.len() as u64)?;
+    push_word(&mut text, "\n")?;
+    push_lines(&mut text, names, lines)?;
+    Ok(text)
+}
+
+/// The answer to `lost`.
+pub(crate) fn lost_answer<A: Allocator + Copy>(
+    alloc: A,
+    names: &Names<'_, A>,
+    branch: u8,
+    baseline: &Database<A>,
+    database: &Database<A>,
+) -> Result<Answer<A>, AllocError>
+    ensures { IfOk result (λ answer. answer ≡ lost_answer (called names.now) branch
+        (lists_of baseline.now) (lists_of database.now)) }
+{
+    let both = Comparison::of(alloc, baseline, database, &mut Meter::new())?;
+    let lines = lost_lines(alloc, &both)?;
+    let text = pairs_reply(alloc, names, branch, SeeWord::Lost, &lines)?;
+    Ok(Answer::accepted(alloc, text))
+}
+
+/// The answer to `gone`.
+pub(crate) fn gone_answer<A: Allocator + Copy>(
+    alloc: A,
+    names: &Names<'_, A>,
+    branch: u8,
+    baseline: &Database<A>,
+    database: &Database<A>,
+) -> Result<Answer<A>, AllocError>
+    ensures { IfOk result (λ answer. answer ≡ gone_answer (called names.now) branch
+        (lists_of baseline.now) (lists_of database.now)) }
+{
+    let both = Comparison::of(alloc, baseline, database, &mut Meter::new())?;
+    let lines = gone_lines(alloc, &both)?;
+    let text = pairs_reply(alloc, names, branch, SeeWord::Gone, &lines)?;
+    Ok(Answer::accepted(alloc, text))
+}

@@ -1,0 +1,92 @@
+//! Answers to expectations.
+
+ghost use Rattle.std.specs.Prelude.{◌≡◌, ◌<◌, IfOk};
+ghost use Rattle.network_names.specs.Names.{called};
+ghost use Rattle.lsdb.specs.Slots.{lists_of};
+ghost use Rattle.branches.specs.Branches.{sessions_of};
+ghost use Rattle.study_script.specs.Expected.{expected};
+ghost use Rattle.study_session.specs.Expectations.{IsExpectationAnswer, IsVerdict};
+ghost use Rattle.study_session.specs.steps.Verdicts.{verdict_of};
+
+use crate::answer::Answer;
+use crate::change_conditions::{few, gone, lost, same};
+use crate::conditions::{hops, no_route, path, route};
+use crate::loop_conditions::{no_blackholes, no_loops, no_microloops};
+use crate::verdict::Verdict;
+use branches::Branches;
+use lsdb::Database;
+use network_names::Names;
+use std::alloc::{AllocError, Allocator};
+use study_script::{Condition, Expectation};
+
+/// What is found of a condition in a branch. All sessions stay.
+fn verdict<A: Allocator + Copy>(
+    alloc: A,
+    branches: &mut Branches<A>,
+    baseline: &Database<A>,
+    names: &Names<'_, A>,
+    branch: u8,
+    condition: &Condition<A>,
+) -> Result<Verdict<A>, AllocError>
+    requires { branch < 8 }
+    ensures verdict { IfOk result (λ verdict. IsVerdict (called names.now)
+        (lists_of baseline.now) (sessions_of branches.old branch) (expected condition.now)
+        (verdict_of verdict)) }
+    ensures kept { sessions_of branches.new ≡ sessions_of branches.old }
+{
+    branches.prepare(branch)?;
+    let now = branches.planner(branch).database();
+    match condition {
+        Condition::Route {
+            router,
+            prefix,
+            kind,
+            via,
+            cost,
+        } => {
+            let via = via.as_ref().map(|those| those.as_slice());
+            let place = (*router, *prefix);
+            route(alloc, names, baseline, now, place, *kind, via, *cost)
+        }
+        Condition::NoRoute { router, prefix } => no_route(alloc, names, now, *router, *prefix),
+        Condition::Hops {
+            router,
+            prefix,
+            bound,
+        } => hops(alloc, now, *router, *prefix, *bound),
+        Condition::Path {
+            router,
+            address,
+            passing,
+        } => path(alloc, names, baseline, now, (*router, *address), *passing),
+        Condition::Lost(allowed) => lost(alloc, names, baseline, now, allowed),
+        Condition::Gone(allowed) => gone(alloc, names, baseline, now, allowed),
+        Condition::NoLoops => no_loops(alloc, names, baseline, now),
+        Condition::NoBlackholes => no_blackholes(alloc, names, baseline, now),
+        Condition::Same(router) => same(alloc, names, baseline, now, *router),
+        Condition::AtMostChanges(most) => few(alloc, names, baseline, now, *most),
+        Condition::NoMicroloops(count) => {
+            no_microloops(alloc, branches, names, branch, count.unwrap_or(1))
+        }
+    }
+}
+
+/// The answer to an expectation in a branch. All sessions stay.
+pub(crate) fn expectation<A: Allocator + Copy>(
+    alloc: A,
+    branches: &mut Branches<A>,
+    baseline: &Database<A>,
+    names: &Names<'_, A>,
+    branch: u8,
+    expectation: &Expectation<A>,
+) -> Result<Answer<A>, AllocError>
+    requires { branch < 8 }
+    ensures answer { IfOk result (IsExpectationAnswer (called names.now)
+        (lists_of baseline.now) branch (sessions_of branches.old branch)
+        expectation.now.is_not (expected expectation.now.condition)) }
+    ensures kept { sessions_of branches.new ≡ sessions_of branches.old }
+{
+    let condition = &expectation.condition;
+    let verdict = verdict(alloc, branches, baseline, names, branch, condition)?;
+    verdict.answer(alloc, branch, expectation.is_not)
+}

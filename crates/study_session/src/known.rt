@@ -1,0 +1,86 @@
+//! Routers that lines name.
+
+ghost use Rattle.std.specs.Prelude.{◌≡◌, IfOk, option_map};
+ghost use Rattle.lsdb.specs.Slots.{lists_of};
+ghost use Rattle.study_session.specs.Answers.{refused_answer};
+ghost use Rattle.study_session.specs.Expectations.{are_known, is_known_passing};
+ghost use Rattle.study_session.specs.Questions.{is_attached, is_known, no_router};
+
+use crate::answer::Answer;
+use lsa_codec::RouterId;
+use lsdb::Database;
+use routing_table::routers;
+use std::alloc::{AllocError, Allocator};
+use study_script::Passing;
+
+/// Whether a router is attached to an area of a database.
+pub(crate) fn is_attached<A: Allocator + Copy>(
+    alloc: A,
+    database: &Database<A>,
+    router: RouterId,
+) -> Result<bool, AllocError>
+    ensures { IfOk result (λ known. known ≡ is_attached (lists_of database.now) router) }
+{
+    let all = routers(alloc, database)?;
+    Ok(all.iter().any(|other| other.0 == router.0))
+}
+
+/// The answer to a line that names a router which is not attached.
+pub(crate) fn no_router<A: Allocator + Copy>(alloc: A, branch: u8) -> Result<Answer<A>, AllocError>
+    ensures { IfOk result (λ answer. answer ≡ refused_answer branch no_router) }
+{
+    Answer::refused(alloc, branch, "N1", "NoRouter")
+}
+
+/// Whether a router is attached in a database or in the baseline.
+pub(crate) fn is_known<A: Allocator + Copy>(
+    alloc: A,
+    baseline: &Database<A>,
+    database: &Database<A>,
+    router: RouterId,
+) -> Result<bool, AllocError>
+    ensures { IfOk result
+        (λ known. known ≡ is_known (lists_of baseline.now) (lists_of database.now) router) }
+{
+    Ok(is_attached(alloc, database, router)? || is_attached(alloc, baseline, router)?)
+}
+
+/// Whether routers, if some are given, are attached in a database or in the baseline.
+pub(crate) fn are_known<A: Allocator + Copy>(
+    alloc: A,
+    baseline: &Database<A>,
+    database: &Database<A>,
+    those: Option<&[RouterId]>,
+) -> Result<bool, AllocError>
+    ensures { IfOk result (λ known. known ≡ are_known (lists_of baseline.now)
+        (lists_of database.now) (option_map (λ n. n.now) those.entry)) }
+{
+    let Some(those) = those else {
+        return Ok(true);
+    };
+    for router in those {
+        if !is_known(alloc, baseline, database, *router)? {
+            return Ok(false);
+        }
+    }
+    Ok(true)
+}
+
+/// Whether the router that walks have to pass, or must not, is attached in a database or in the
+/// baseline.
+pub(crate) fn is_known_passing<A: Allocator + Copy>(
+    alloc: A,
+    baseline: &Database<A>,
+    database: &Database<A>,
+    passing: Passing,
+) -> Result<bool, AllocError>
+    ensures { IfOk result (λ known. known
+        ≡ is_known_passing (lists_of baseline.now) (lists_of database.now) passing) }
+{
+    match passing {
+        Passing::Via(router) | Passing::Avoids(router) => {
+            is_known(alloc, baseline, database, router)
+        }
+        Passing::Delivered => Ok(true),
+    }
+}

@@ -1,0 +1,42 @@
+//! The session of a study: its branches, its baseline and its names, and the answer to each line.
+//!
+//! [`StudySession::answer`] carries out one line: a command of `ospf-plan`, the same with names, a
+//! question or an expectation. A line that `ospf-plan` takes has the same reply, and leaves the same
+//! sessions.
+#![tactic(auto)]
+
+// What a line is answered.
+mod answer;
+mod text;
+
+// Commands.
+mod link_edit;
+mod named;
+mod plan;
+
+// Questions.
+mod changes;
+mod help;
+mod known;
+mod links;
+mod log;
+mod loops;
+mod questions;
+mod routes;
+
+// Expectations.
+mod change_conditions;
+mod conditions;
+mod expectations;
+mod loop_conditions;
+mod verdict;
+
+// Lines, one after another.
+mod session;
+
+// What holds of the definitions.
+mod laws;
+
+pub use answer::{Answer, Outcome};
+pub use laws::plan_lines_are_answered_alike;
+pub use session::StudySession;

@@ -1,0 +1,45 @@
+//! The edits that are done.
+
+ghost use Rattle.std.specs.Prelude.{◌≡◌, ◌++◌, IfOk, OnOk};
+ghost use Rattle.edit_history.specs.Session.{edits_of};
+ghost use Rattle.saved_sessions.specs.Lines.{lines_of};
+ghost use Rattle.study_session.specs.Questions.{log_answer};
+
+use crate::answer::Answer;
+use crate::text::{head, push_number_after, push_word};
+use edit_history::Record;
+use recalculate::Planner;
+use saved_sessions::put_line;
+use std::alloc::{AllocError, Allocator};
+use study_words::SeeWord;
+
+/// Adds the lines of the edits of records.
+fn push_edits<A: Allocator + Copy>(
+    alloc: A,
+    text: &mut Vec<u8, A>,
+    records: &[Record<A>],
+) -> Result<(), AllocError>
+    ensures { OnOk result
+        (text.new.items ≡ text.old.items ++ lines_of (edits_of records.now)) }
+{
+    for record in records {
+        put_line(alloc, text, &record.edit())?;
+    }
+    Ok(())
+}
+
+/// The answer to `log`.
+pub(crate) fn log<A: Allocator + Copy>(
+    alloc: A,
+    branch: u8,
+    planner: &Planner<A>,
+) -> Result<Answer<A>, AllocError>
+    ensures { IfOk result (λ answer. answer ≡ log_answer branch planner.now.session) }
+{
+    let done = planner.done();
+    let mut text = head(alloc, branch, SeeWord::Log)?;
+    push_number_after(&mut text, done as u64)?;
+    push_word(&mut text, "\n")?;
+    push_edits(alloc, &mut text, &planner.records()[..done])?;
+    Ok(Answer::accepted(alloc, text))
+}

@@ -1,0 +1,100 @@
+//! Answers about loops.
+
+ghost use Rattle.std.specs.Prelude.{◌≡◌, ◌<◌, IfOk};
+ghost use Rattle.network_names.specs.Names.{called};
+ghost use Rattle.lsdb.specs.Slots.{lists_of};
+ghost use Rattle.edit_history.specs.Session.{state};
+ghost use Rattle.branches.specs.Branches.{before_last, sessions_of};
+ghost use Rattle.study_session.specs.Questions.{IsLoopsAnswer, IsMicroloopsAnswer, loops_reply, microloops_reply};
+
+use crate::answer::Answer;
+use crate::text::{head, push_number_after, push_word};
+use branches::Branches;
+use loop_report::{LoopReport, PrefixLoop, joint_loops, push_blackhole_lines, push_loop_lines};
+use lsdb::Database;
+use network_names::Names;
+use spf::Meter;
+use std::alloc::{AllocError, Allocator};
+use study_words::SeeWord;
+
+/// The text of `loops`.
+fn loops_reply<A: Allocator + Copy>(
+    alloc: A,
+    names: &Names<'_, A>,
+    branch: u8,
+    report: &LoopReport<A>,
+) -> Result<Vec<u8, A>, AllocError>
+    ensures { IfOk result (λ text. text.items
+        ≡ loops_reply (called names.now) branch report.now.loops report.now.blackholes) }
+{
+    let (loops, holes) = (report.loops(), report.blackholes());
+    let mut text = head(alloc, branch, SeeWord::Loops)?;
+    push_number_after(&mut text, loops.len() as u64 + holes.len() as u64)?;
+    push_word(&mut text, " loops")?;
+    push_number_after(&mut text, loops.len() as u64)?;
+    push_word(&mut text, " blackholes")?;
+    push_number_after(&mut text, holes.len() as u64)?;
+    push_word(&mut text, "\n")?;
+    push_loop_lines(&mut text, names, loops)?;
+    push_blackhole_lines(&mut text, names, holes)?;
+    Ok(text)
+}
+
+/// The answer to `loops`.
+pub(crate) fn loops_answer<A: Allocator + Copy>(
+    alloc: A,
+    names: &Names<'_, A>,
+    branch: u8,
+    baseline: &Database<A>,
+    database: &Database<A>,
+) -> Result<Answer<A>, AllocError>
+    ensures { IfOk result (IsLoopsAnswer (called names.now) branch (lists_of database.now)
+        (lists_of baseline.now)) }
+{
+    let report = LoopReport::between(alloc, baseline, database, &mut Meter::new())?;
+    let text = loops_reply(alloc, names, branch, &report)?;
+    Ok(Answer::accepted(alloc, text))
+}
+
+/// The text of `microloops`.
+fn microloops_reply<A: Allocator + Copy>(
+    alloc: A,
+    names: &Names<'_, A>,
+    branch: u8,
+    count: u32,
+    loops: &[PrefixLoop<A>],
+) -> Result<Vec<u8, A>, AllocError>
+    ensures { IfOk result (λ text. text.items
+        ≡ microloops_reply (called names.now) branch count loops.now) }
+{
+    let mut text = head(alloc, branch, SeeWord::Microloops)?;
+    push_number_after(&mut text, u64::from(count))?;
+    push_number_after(&mut text, loops.len() as u64)?;
+    push_word(&mut text, "\n")?;
+    push_loop_lines(&mut text, names, loops)?;
+    Ok(text)
+}
+
+/// The answer to `microloops`. All sessions stay.
+pub(crate) fn microloops_answer<A: Allocator + Copy>(
+    alloc: A,
+    branches: &mut Branches<A>,
+    names: &Names<'_, A>,
+    branch: u8,
+    count: u32,
+) -> Result<Answer<A>, AllocError>
+    requires { branch < 8 }
+    ensures answer { IfOk result (IsMicroloopsAnswer (called names.now) branch
+        (state (sessions_of branches.old branch)) count
+        (before_last count (sessions_of branches.old branch))) }
+    ensures kept { sessions_of branches.new ≡ sessions_of branches.old }
+{
+    let Some(before) = branches.before_last(branch, count)? else {
+        return Answer::refused(alloc, branch, "U1", "NothingToUndo");
+    };
+    branches.prepare(branch)?;
+    let database = branches.planner(branch).database();
+    let loops = joint_loops(alloc, &before, database, &mut Meter::new())?;
+    let text = microloops_reply(alloc, names, branch, count, &loops)?;
+    Ok(Answer::accepted(alloc, text))
+}

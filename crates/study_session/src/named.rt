@@ -1,0 +1,147 @@
+//! Commands of `ospf-plan` in whose lines names stand.
+
+ghost use Rattle.std.specs.Prelude.{◌≡◌, ◌<◌, IfOk, OnOk};
+ghost use Rattle.network_names.specs.Names.{called};
+ghost use Rattle.branches.specs.Branches.{sessions_of};
+ghost use Rattle.study_session.specs.NamedCommands.{change_text, link_answer, link_stepped, named_answer, named_number, named_stepped, number_found, one_of};
+
+use crate::answer::Answer;
+use crate::link_edit::{LinkEdit, change_text};
+use crate::plan::{changing, plan};
+use branches::Branches;
+use link_report::{link_line_at, link_numbers, router_lsa_of_any_age};
+use lsa_codec::{AreaId, RouterId};
+use network_names::Names;
+use recalculate::Planner;
+use std::alloc::{AllocError, Allocator};
+use study_arguments::LinkName;
+use study_script::NamedCommand;
+
+/// The edits that may be done at a time.
+const MOST_EDITS: usize = 10_000;
+
+/// The one number of some, 0 where there is none, and `None` where there are several.
+fn one_of(numbers: &[u16]) -> Option<u16>
+    ensures { result ≡ one_of numbers.now }
+{
+    match numbers {
+        [] => Some(0),
+        [number] => Some(*number),
+        _ => None,
+    }
+}
+
+/// The number of the link that a word names, 0 where there is none, and `None` where there are
+/// several. Where no edit may be done any more, none is looked up.
+fn number_found<A: Allocator + Copy>(
+    alloc: A,
+    planner: &Planner<A>,
+    area: AreaId,
+    router: RouterId,
+    name: LinkName,
+) -> Result<Option<u16>, AllocError>
+    ensures { IfOk result
+        (λ number. number ≡ number_found planner.now.session area router name) }
+{
+    if planner.done() >= MOST_EDITS {
+        return Ok(Some(0));
+    }
+    let Some(lsa) = router_lsa_of_any_age(planner.database(), area, router) else {
+        return Ok(Some(0));
+    };
+    let numbers = link_numbers(alloc, &lsa, name)?;
+    Ok(one_of(&numbers))
+}
+
+/// The number of the link that is named, 0 where there is none, and `None` where there are several.
+fn named_number<A: Allocator + Copy>(
+    alloc: A,
+    planner: &Planner<A>,
+    area: AreaId,
+    router: RouterId,
+    name: LinkName,
+) -> Result<Option<u16>, AllocError>
+    ensures { IfOk result
+        (λ number. number ≡ named_number planner.now.session area router name) }
+{
+    match name {
+        LinkName::Number(number) => Ok(Some(number)),
+        LinkName::Address(_) => number_found(alloc, planner, area, router, name),
+        LinkName::Prefix(_) => number_found(alloc, planner, area, router, name),
+    }
+}
+
+/// Carries out an edit of a link that is named, and says what it changed; refused where several
+/// links are named.
+fn edit_link<A: Allocator + Copy>(
+    alloc: A,
+    branches: &mut Branches<A>,
+    names: &Names<'_, A>,
+    branch: u8,
+    place: (AreaId, RouterId, LinkName),
+    edit: LinkEdit,
+) -> Result<Answer<A>, AllocError>
+    requires { branch < 8 }
+    ensures answer { IfOk result (λ answer. answer
+        ≡ link_answer (called names.now) (sessions_of branches.old branch) branch place.0 place.1
+        edit (named_number (sessions_of branches.old branch) place.0 place.1 place.2)) }
+    ensures sessions { OnOk result (sessions_of branches.new
+        ≡ link_stepped branch place.0 place.1 edit
+        (named_number (sessions_of branches.old branch) place.0 place.1 place.2)
+        (sessions_of branches.old)) }
+{
+    let (area, router, name) = place;
+    branches.prepare(branch)?;
+    let planner = branches.planner(branch);
+    let Some(number) = named_number(alloc, planner, area, router, name)? else {
+        return Answer::refused(alloc, branch, "E14", "ManyLinks");
+    };
+    let line = link_line_at(alloc, planner.database(), area, router, number)?;
+    let change = change_text(alloc, names, edit, line.as_ref())?;
+    changing(
+        alloc,
+        branches,
+        branch,
+        &edit.command(area, router, number),
+        &change,
+    )
+}
+
+/// Carries out a command of `ospf-plan` in whose line names stand.
+pub(crate) fn named<A: Allocator + Copy>(
+    alloc: A,
+    branches: &mut Branches<A>,
+    names: &Names<'_, A>,
+    branch: u8,
+    command: &NamedCommand,
+) -> Result<Answer<A>, AllocError>
+    requires { branch < 8 }
+    ensures answer { IfOk result (λ answer. answer
+        ≡ named_answer (called names.now) (sessions_of branches.old branch) branch command.now) }
+    ensures sessions { OnOk result (sessions_of branches.new
+        ≡ named_stepped branch command.now (sessions_of branches.old)) }
+{
+    match *command {
+        NamedCommand::Command(command) => plan(alloc, branches, branch, &command),
+        NamedCommand::Cost {
+            area,
+            router,
+            link,
+            metric,
+        } => {
+            let place = (area, router, link);
+            edit_link(
+                alloc,
+                branches,
+                names,
+                branch,
+                place,
+                LinkEdit::Cost(metric),
+            )
+        }
+        NamedCommand::DropLink { area, router, link } => {
+            let place = (area, router, link);
+            edit_link(alloc, branches, names, branch, place, LinkEdit::Drop)
+        }
+    }
+}

@@ -1,0 +1,6 @@
+//! Tests of what is said of routers, links and networks, over small networks that are worked out by
+//! hand.
+#![tactic(auto)]
+
+#[cfg(test)]
+mod tests;

@@ -1,0 +1,6 @@
+//! The lines of small networks.
+
+// What the tests share.
+mod built;
+mod lines;
+mod links;
