@@ -3,8 +3,8 @@
 ghost use Rattle.std.specs.Prelude.{◌≡◌, IfOk, option_map};
 ghost use Rattle.lsdb.specs.Slots.{lists_of};
 ghost use Rattle.study_session.specs.Answers.{refused_answer};
-ghost use Rattle.study_session.specs.Expectations.{are_known, is_known_passing};
-ghost use Rattle.study_session.specs.Questions.{is_attached, is_known, no_router};
+ghost use Rattle.study_session.specs.Verdicts.{are_known, is_known_passing};
+ghost use Rattle.study_session.specs.Known.{is_attached, is_known, no_router};
 
 use crate::answer::Answer;
 use lsa_codec::RouterId;
