@@ -14,7 +14,6 @@ use Rattle.change_report.specs.Lines.{gone_lines, lines_of_changes, lost_lines}
 use Rattle.study_session.specs.Answers.{AnswerValue, accepted_answer}
 use Rattle.study_session.specs.Texts.{head_of, number_after, router_after}
 use Rattle.study_session.specs.Known.{is_known, unless_unknown}
-use Rattle.study_session.specs.NamedCommands.{change_text}
 
 -- two databases beside each other
 abbrev pub beside : Lists → Lists → Compared
