@@ -1,6 +1,6 @@
 use Rattle.std.proofs.Common.{ap, arith, Err}
 use Rattle.whole_run.proofs.ReadBytes.{consumes_less, reads_on}
-use Rattle.whole_run.proofs.inputs.read_bytes.Goals as goal
+use Rattle.whole_run.proofs.inputs.read_dump.Goals as goal
 
 pub returns-in-Err-TooLarge-clause-bounded : goal.returns-in-Err-TooLarge-clause-bounded
 returns-in-Err-TooLarge-clause-bounded g c =
