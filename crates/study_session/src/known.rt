@@ -1,6 +1,7 @@
 //! Routers that lines name.
 
-ghost use Rattle.std.specs.Prelude.{◌≡◌, IfOk, option_map};
+ghost use Rattle.std.specs.Prelude.{◌≡◌, ◌==◌, IfOk, option_map};
+ghost use Rattle.std.specs.List.{list_any};
 ghost use Rattle.lsdb.specs.Slots.{lists_of};
 ghost use Rattle.study_session.specs.Answers.{refused_answer};
 ghost use Rattle.study_session.specs.Verdicts.{are_known, is_known_passing};
@@ -13,6 +14,13 @@ use routing_table::routers;
 use std::alloc::{AllocError, Allocator};
 use study_script::Passing;
 
+/// Whether a router is one of some.
+fn is_among(routers: &[RouterId], router: RouterId) -> bool
+    ensures { result ≡ list_any (λ other. other.0 == router.0) routers.now }
+{
+    routers.iter().any(|other| other.0 == router.0)
+}
+
 /// Whether a router is attached to an area of a database.
 pub(crate) fn is_attached<A: Allocator + Copy>(
     alloc: A,
@@ -21,8 +29,7 @@ pub(crate) fn is_attached<A: Allocator + Copy>(
 ) -> Result<bool, AllocError>
     ensures { IfOk result (λ known. known ≡ is_attached (lists_of database.now) router) }
 {
-    let all = routers(alloc, database)?;
-    Ok(all.iter().any(|other| other.0 == router.0))
+    Ok(is_among(&routers(alloc, database)?, router))
 }
 
 /// The answer to a line that names a router which is not attached.
@@ -58,12 +65,9 @@ pub(crate) fn are_known<A: Allocator + Copy>(
     let Some(those) = those else {
         return Ok(true);
     };
-    for router in those {
-        if !is_known(alloc, baseline, database, *router)? {
-            return Ok(false);
-        }
-    }
-    Ok(true)
+    let (now, before) = (routers(alloc, database)?, routers(alloc, baseline)?);
+    let mut those = those.iter();
+    Ok(those.all(|router| is_among(&now, *router) || is_among(&before, *router)))
 }
 
 /// Whether the router that walks have to pass, or must not, is attached in a database or in the
