@@ -1,7 +1,7 @@
 //! Routers that lines name.
 
-ghost use Rattle.std.specs.Prelude.{◌≡◌, ◌==◌, IfOk, option_map};
-ghost use Rattle.std.specs.List.{list_any};
+ghost use Rattle.std.specs.Prelude.{◌≡◌, ◌==◌, ◌||◌, IfOk, option_map};
+ghost use Rattle.std.specs.List.{list_all, list_any};
 ghost use Rattle.lsdb.specs.Slots.{lists_of};
 ghost use Rattle.study_session.specs.Answers.{refused_answer};
 ghost use Rattle.study_session.specs.Verdicts.{are_known, is_known_passing};
@@ -52,6 +52,15 @@ pub(crate) fn is_known<A: Allocator + Copy>(
     Ok(is_attached(alloc, database, router)? || is_attached(alloc, baseline, router)?)
 }
 
+/// Whether each of these routers is one of two lists.
+fn are_among(now: &[RouterId], before: &[RouterId], those: &[RouterId]) -> bool
+    ensures { result ≡ list_all (λ router. list_any (λ other. other.0 == router.0) now.now
+        || list_any (λ other. other.0 == router.0) before.now) those.now }
+{
+    let mut those = those.iter();
+    those.all(|router| is_among(now, *router) || is_among(before, *router))
+}
+
 /// Whether routers, if some are given, are attached in a database or in the baseline.
 pub(crate) fn are_known<A: Allocator + Copy>(
     alloc: A,
@@ -62,12 +71,13 @@ pub(crate) fn are_known<A: Allocator + Copy>(
     ensures { IfOk result (λ known. known ≡ are_known (lists_of baseline.now)
         (lists_of database.now) (option_map (λ n. n.now) those.entry)) }
 {
-    let Some(those) = those else {
-        return Ok(true);
-    };
-    let (now, before) = (routers(alloc, database)?, routers(alloc, baseline)?);
-    let mut those = those.iter();
-    Ok(those.all(|router| is_among(&now, *router) || is_among(&before, *router)))
+    match those {
+        Some(those) => {
+            let (now, before) = (routers(alloc, database)?, routers(alloc, baseline)?);
+            Ok(are_among(&now, &before, those))
+        }
+        None => Ok(true),
+    }
 }
 
 /// Whether the router that walks have to pass, or must not, is attached in a database or in the
