@@ -1,10 +1,12 @@
 -- How a run ends, by what was carried out.
-use Rattle.std.proofs.Common.{◌≡◌, ◌∙◌, sym, ap, subst, refl, ℕ, ◌+◌, ◌<◌, ◌≤◌, eqb, zero-add, Bool, true, false, cond, List, [], ◌∷◌, ◌++◌, append-nil, length, map, length-map, Option, None, Some, inl, inr, arith}
+use Rattle.std.proofs.Common.{◌≡◌, ◌∙◌, sym, ap, subst, refl, ℕ, ◌+◌, ◌<◌, ◌≤◌, eqb, zero-add, Bool, true, false, cond, List, [], ◌∷◌, ◌++◌, append-nil, length, map, Option, None, Some, inl, inr, arith}
 use Rattle.std.specs.Prelude.{◌&&◌, ◌||◌, All, IfSome, count_by, nat_lt, unwrap_or}
 use Rattle.std.specs.List.{list_all, list_any}
 use Rattle.std.specs.Io.KnownBytes.{Appends}
 use Rattle.std.proofs.KnownBytes.{Appends-trans}
-use Rattle.std.proofs.lemmas.Bool.{ltb-lt, ne_eqb}
+use Rattle.std.proofs.lemmas.Bool.{ltb-true, ne_eqb}
+use Rattle.std.proofs.lemmas.List.{length-map}
+use Rattle.std.proofs.lemmas.List.Sums.{sum_by-cons}
 use Rattle.std.proofs.lemmas.List.Folds.{list_all-append}
 use Rattle.host_io.specs.WholeText.{AppendsPrefix}
 use Rattle.study_session.specs.declared.answer.Outcome.{Outcome}
@@ -43,8 +45,11 @@ passed_by Failed r f all e = no_second (eqb (0 + r) 0) (eqb (1 + f) 0) (ne_eqb (
 pub passed_all : (given : List Answered) → has_passed (summary_of given) ≡ list_all is_accepted given
 passed_all [] = refl
 passed_all (x ∷ xs) =
-    passed_by x.answer.outcome (count_by (λ (a : Answered). was_refused a.answer.outcome) xs) (count_by (λ (a : Answered). was_failed a.answer.outcome) xs)
-    (list_all is_accepted xs) (passed_all xs)
+    let refused : Answered → Bool = λ a. was_refused a.answer.outcome in
+    let failed : Answered → Bool = λ a. was_failed a.answer.outcome in
+    ap (λ (n : ℕ). eqb n 0 && eqb (count_by failed (x ∷ xs)) 0) (sum_by-cons (λ (a : Answered). cond (refused a) 1 0) x xs)
+    ∙ ap (λ (n : ℕ). eqb (cond (refused x) 1 0 + count_by refused xs) 0 && eqb n 0) (sum_by-cons (λ (a : Answered). cond (failed a) 1 0) x xs)
+    ∙ passed_by x.answer.outcome (count_by refused xs) (count_by failed xs) (list_all is_accepted xs) (passed_all xs)
 
 stopped_fails : (given : List Answered) → StopsAtLast given → list_all is_accepted given ≡ true → ⊥
 stopped_fails given stop e =
@@ -83,7 +88,9 @@ module _ (keep_going : Bool) (s : Study) (lines : List Line) (old : Written) (be
 
   all_in : list_all is_accepted one.given ≡ true → lines ≡ one.front
   all_in e =
-      one.split ∙ ap (λ (l : List Line). one.front ++ l) (none_left keep_going one.left one.given gives_of.stop e) ∙ append-nil one.front
+      one.split
+      ∙ ap (λ (l : List Line). one.front ++ l) (none_left keep_going one.left one.given (stop_of keep_going on one.left one.given one.stop) e)
+      ∙ append-nil one.front
 
   pub complete_of : list_all is_accepted one.given ≡ true → AreAnswered s lines one.given
   complete_of e = subst (λ (l : List Line). AreAnswered s l one.given) (sym (all_in e)) one.answered
@@ -98,6 +105,14 @@ module _ (keep_going : Bool) (s : Study) (lines : List Line) (old : Written) (be
   pub dump_is : (wants : Bool) (dump : Option (List ℕ)) → dump ≡ cond (wants && list_all is_accepted one.given) (Some (dump_of after)) None
       → dump ≡ dump_left wants s lines one.given
   dump_is wants dump is = dump_by wants (list_all is_accepted one.given) dump refl is
+
+  pub passed_is : before ≡ summary_of [] → has_passed counted ≡ list_all is_accepted one.given
+  passed_is e = ap has_passed (counted_is e) ∙ passed_all one.given
+
+  pub dump_end : before ≡ summary_of [] → (wants : Bool) (dump : Option (List ℕ))
+      → dump ≡ cond (wants && has_passed counted) (Some (dump_of after)) None → dump ≡ dump_left wants s lines one.given
+  dump_end e wants dump is =
+      dump_is wants dump (subst (λ (b : Bool). dump ≡ cond (wants && b) (Some (dump_of after)) None) (passed_is e) is)
 
   -- the replies and the summary are written
   pub replies_of_all : before ≡ summary_of [] → (end : Option (List ℕ)) → Appends new.replies end (summary_text counted)
@@ -137,14 +152,14 @@ short_or : (names : Option (List ℕ)) → IfSome names (λ bytes. length bytes 
 short_or None short long = omega (arith, long)
 short_or (Some bytes) short long = omega (arith, short, long)
 
+longer_by : (b c : Bool) (rest : Type 0) → (b ≡ true → rest) → (c ≡ true → rest) → (b || c) ≡ true → rest
+longer_by true c rest first second e = first refl
+longer_by false c rest first second e = second e
+
 no_longer : {A : Type 0} (texts : List (StudyText A)) → All HasFewBytes texts → HasLonger (map named_text texts) → ⊥
 no_longer [] short longer = absurd cc
-no_longer (t ∷ texts) short longer = by (nat_lt most (length t.text.items)) refl longer
-  where
-    by : (b : Bool) → nat_lt most (length t.text.items) ≡ b
-        → (b || list_any (λ (study : NamedText). nat_lt most (length study.text)) (map named_text texts)) ≡ true → ⊥
-    by true e long = omega (arith, ltb-lt most (length t.text.items) e, short.0)
-    by false e long = no_longer texts short.1 long
+no_longer (t ∷ texts) short longer =
+    longer_by (nat_lt most (length t.text.items)) _ ⊥ (λ e. omega (arith, ltb-true most (length t.text.items) e, short.0)) (no_longer texts short.1) longer
 
 pub not_much : {A : Type 0} (texts : Texts A) → length texts.studies.items ≤ most → IfSome (bytes_in texts.names) (λ bytes. length bytes ≤ most)
     → All HasFewBytes texts.studies.items → IsTooMuch (given_in texts) → ⊥

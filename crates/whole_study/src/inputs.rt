@@ -1,6 +1,6 @@
 //! The inputs of a run, read whole.
 
-ghost use Rattle.std.specs.Prelude.{◌≡◌, ◌≢◌, ◌↔◌, ◌≤◌, All, IfErr, IfOk, IfSome, OnOk, Some, false, is_some, length, true, vec_len};
+ghost use Rattle.std.specs.Prelude.{◌≡◌, ◌||◌, ◌↔◌, ◌≤◌, All, IfErr, IfOk, IfSome, OnOk, Some, false, is_some, length, true, vec_len};
 ghost use Rattle.std.specs.List.{AllZip};
 ghost use Rattle.host_io.specs.Watched.{inner_of, has_failed};
 ghost use Rattle.host_io.specs.WholeText.{IsAll, IsLonger};
