@@ -4,11 +4,12 @@
 ghost use Rattle.std.specs.Prelude.{◌≡◌, ◌<◌, ◌^◌, IfOk, option_map};
 ghost use Rattle.std.specs.Option.{option_copied};
 ghost use Rattle.lsa_codec.specs.Links.{is_transit};
+ghost use Rattle.interfaces.specs.Networks.{network_lsa_in};
 ghost use Rattle.link_report.specs.Links.{back_of, cost_from_network, interface_numbered, is_listed, net_of_link, network_of, owner_of, stub_of};
 
 use area_graph::VertexLsa;
 use interfaces::{Interface, costs_back, lists_router, network_lsa_in, stub_between};
-use lsa_codec::{Link, LinkKind, NetworkView, Prefix, RouterId};
+use lsa_codec::{Addr, Link, LinkKind, NetworkView, Prefix, RouterId};
 use std::alloc::{AllocError, Allocator};
 
 /// The stub link of an interface.
@@ -27,6 +28,17 @@ fn is_transit(link: Link) -> bool
     matches!(link.kind, LinkKind::Transit)
 }
 
+/// The network-LSA in use of the network whose Designated Router has this address.
+fn network_with<'a, A: Allocator + Copy>(
+    used: &[VertexLsa<'a, A>],
+    address: Addr,
+) -> Option<NetworkView<'a>>
+    ensures { result ≡ network_lsa_in used.now address }
+{
+    let lsa = network_lsa_in(used, address)?;
+    lsa.network()
+}
+
 /// The network-LSA in use of the network that a transit link leads to. Other links have none.
 pub(crate) fn network_of<'a, A: Allocator + Copy>(
     used: &[VertexLsa<'a, A>],
@@ -34,11 +46,11 @@ pub(crate) fn network_of<'a, A: Allocator + Copy>(
 ) -> Option<NetworkView<'a>>
     ensures { result ≡ network_of used.now link }
 {
-    if !is_transit(link) {
-        return None;
+    if is_transit(link) {
+        network_with(used, link.id)
+    } else {
+        None
     }
-    let lsa = network_lsa_in(used, link.id)?;
-    lsa.network()
 }
 
 /// Whether a network-LSA is there and lists a router.

@@ -27,10 +27,10 @@ fn leads_to_router(link: Link, router: Addr) -> bool
 }
 
 /// Whether a word names a link with this number.
-fn is_named(name: LinkName, number: u16, link: Link) -> bool
-    ensures { result ≡ is_named name number link }
+fn is_named(name: &LinkName, number: u16, link: Link) -> bool
+    ensures { result ≡ is_named name.now number link }
 {
-    match name {
+    match *name {
         LinkName::Number(named) => named == number,
         LinkName::Address(address) => has_address(link, address) || leads_to_router(link, address),
         LinkName::Prefix(prefix) => link.net() == Some(prefix),
@@ -40,12 +40,12 @@ fn is_named(name: LinkName, number: u16, link: Link) -> bool
 /// Adds the number of a link, if a word names the link.
 fn push_named<A: Allocator + Copy>(
     numbers: &mut Vec<u16, A>,
-    name: LinkName,
+    name: &LinkName,
     number: u16,
     link: Link,
 ) -> Result<(), AllocError>
     ensures { OnOk result (numbers.new.items
-        ≡ numbers.old.items ++ (if is_named name number link then number ∷ [] else [])) }
+        ≡ numbers.old.items ++ (if is_named name.now number link then number ∷ [] else [])) }
 {
     if is_named(name, number, link) {
         numbers.push(number)?;
@@ -63,9 +63,9 @@ fn push_named<A: Allocator + Copy>(
 pub fn link_numbers<A: Allocator + Copy>(
     alloc: A,
     lsa: &RouterView<'_>,
-    name: LinkName,
+    name: &LinkName,
 ) -> Result<Vec<u16, A>, AllocError>
-    ensures { IfOk result (λ numbers. numbers.items ≡ link_numbers name lsa.now) }
+    ensures { IfOk result (λ numbers. numbers.items ≡ link_numbers name.now lsa.now) }
 {
     let links = links_of(alloc, lsa)?;
     let mut numbers = Vec::new(alloc);

@@ -68,6 +68,7 @@ point-to-point 3.3.3.3 data=10.0.34.4 cost=10, stub 10.4.0.0/16 cost=1";
 
 /// What it is, the baseline, the network, and the lines of `loops` and of `microloops`.
 const CASES: &[(&str, &str, &str, &str)] = &[
+    // Before, 1.1.1.1 sends to 3.3.3.3; now 3.3.3.3 sends to 1.1.1.1 for the longer prefix.
     (
         "a loop, and a new blackhole",
         NO_LOOP,
@@ -75,7 +76,7 @@ const CASES: &[(&str, &str, &str, &str)] = &[
         "loop 10.1.0.0/16 at r1,r2
 blackhole 20.1.0.0/16 at r2 from r1
 joint
-loop 10.1.0.0/16 at r1,r2
+loop 10.1.0.0/16 at r1,r2,r3
 ",
     ),
     (
@@ -92,7 +93,7 @@ loop 10.1.0.0/16 at r1,r2
         LOOP,
         NO_LOOP,
         "joint
-loop 10.1.0.0/16 at r1,r2
+loop 10.1.0.0/16 at r1,r2,r3
 ",
     ),
     (

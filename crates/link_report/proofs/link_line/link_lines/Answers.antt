@@ -12,16 +12,15 @@ no_router = record { 0 = 0 }
 
 pub loop-router-preserved : goal.loop-router-preserved
 loop-router-preserved g c =
-    let db = lists_of c.args.database.now in
+    let areas = used_areas (lists_of c.args.database.now) in
     let i = c.loop-router.router-index in
     let router : RouterId = get_or c.args.routers.now i no_router in
-    made_at (flat_map_adds (links_in_areas db (used_areas db))) c.args.routers.now i no_router c.loop-router.lines.items _ c.loop-router-test.true
+    made_at (flat_map_adds (links_in_areas areas)) c.args.routers.now i no_router c.loop-router.lines.items _ c.loop-router-test.true
     c.loop-router.invariant
     (c.in_ok-push_links_in_areas.ensures
-    ∙ ap (λ (areas : List UsedAreaValue). c.loop-router.lines.items ++ links_in_areas db areas router) (c.deref.ensures.value ∙ c.in_ok-areas.ensures))
+    ∙ ap (λ (all : List UsedAreaValue). c.loop-router.lines.items ++ links_in_areas all router) (c.deref.ensures.value ∙ c.in_ok-areas.ensures))
 
 pub returns : goal.returns
 returns g c =
-    let db = lists_of c.args.database.now in
-    made_all (flat_map_adds (links_in_areas db (used_areas db))) c.args.routers.now c.loop-router.router-index c.loop-router.lines.items
-    c.loop-router-test.false c.loop-router.invariant
+    made_all (flat_map_adds (links_in_areas (used_areas (lists_of c.args.database.now)))) c.args.routers.now c.loop-router.router-index
+    c.loop-router.lines.items c.loop-router-test.false c.loop-router.invariant
