@@ -71,16 +71,16 @@ fn names_line(alloc: Global, file: &str, refusal: &NamesRefusal) -> Result<Vec<u
 fn run_line(alloc: Global, names: &str, fault: &RunFault) -> Result<Vec<u8>, AllocError>
     ensures { IfOk result (λ line. line.items ≡ run_text names.now fault.now) }
 {
-    let line: &[u8] = match fault {
+    let line = match fault {
         RunFault::Dump(fault) => return dump_line(alloc, "dump", *fault),
         RunFault::Baseline(fault) => return dump_line(alloc, "baseline", *fault),
         RunFault::Names(refusal) => return names_line(alloc, names, refusal),
-        RunFault::Read => b"file: Read\n",
-        RunFault::Write => b"file: Write\n",
-        RunFault::TooLarge => b"file: TooLarge\n",
-        RunFault::OutOfMemory => b"memory: OutOfMemory\n",
+        RunFault::Read => "file: Read\n",
+        RunFault::Write => "file: Write\n",
+        RunFault::TooLarge => "file: TooLarge\n",
+        RunFault::OutOfMemory => "memory: OutOfMemory\n",
     };
-    Vec::from_slice(alloc, line)
+    Vec::from_slice(alloc, line.as_bytes())
 }
 
 /// The line of a file that cannot be opened.

@@ -2,6 +2,7 @@ pub mod FirstLine
 pub mod ScriptLines
 pub mod KnownInputs
 pub mod BranchesApart
+pub mod OpeningLemmas
 pub mod ReadBytes
 pub mod AcceptedEdits
 pub mod FailedReads

@@ -1,3 +1,6 @@
 pub mod CarriedLines
 pub mod ReadInputs
 pub mod ReadEnds
+pub mod RunEnds
+pub mod Begun
+pub mod Opened

@@ -19,12 +19,12 @@ use Rattle.whole_study.specs.declared.running.Manner.{Manner}
 -- ---- what is written
 
 -- what is given of lines, where a run carries them out: it is written and counted, and the dump is that of the study after them
-pub record Ends {A : Type 0} (manner : Manner) (s : Study) (lines : List Line) (replies new_replies errors new_errors : Option (List ℕ)) (ended : Ended A)
+pub record Ends {A : Type 0} (manner : Manner) (s : Study) (lines : List Line) (old_replies new_replies old_errors new_errors : Option (List ℕ)) (ended : Ended A)
     : Type 0 where
   pub given : List Answered
   pub gives : Gives manner.keep_going s lines given
-  pub replies : Appends replies new_replies (whole_replies given)
-  pub errors : Appends errors new_errors (errors_of given)
+  pub replies : Appends old_replies new_replies (whole_replies given)
+  pub errors : Appends old_errors new_errors (errors_of given)
   pub summary : ended.summary ≡ summary_of given
   pub verdict : has_passed ended.summary ≡ list_all is_accepted given
   pub complete : has_passed ended.summary ≡ true → AreAnswered s lines given
@@ -32,14 +32,14 @@ pub record Ends {A : Type 0} (manner : Manner) (s : Study) (lines : List Line) (
 
 -- a prefix of the replies to the first lines, or to all that a run gives and of the summary
 pub data IsPart (keep_going : Bool) (s : Study) (lines : List Line) (given : List Answered) (replies new_replies : Option (List ℕ)) : Type 0 where
-  first : GivesFirst keep_going s lines given → AppendsPrefix replies new_replies (replies_of given) → IsPart keep_going s lines given replies new_replies
-  whole : Gives keep_going s lines given → AppendsPrefix replies new_replies (whole_replies given) → IsPart keep_going s lines given replies new_replies
+  of_first : GivesFirst keep_going s lines given → AppendsPrefix replies new_replies (replies_of given) → IsPart keep_going s lines given replies new_replies
+  of_all : Gives keep_going s lines given → AppendsPrefix replies new_replies (whole_replies given) → IsPart keep_going s lines given replies new_replies
 
 -- in any case both writers got a prefix of what is given of lines
-pub record WritesPrefix (keep_going : Bool) (s : Study) (lines : List Line) (replies new_replies errors new_errors : Option (List ℕ)) : Type 0 where
+pub record WritesPrefix (keep_going : Bool) (s : Study) (lines : List Line) (old_replies new_replies old_errors new_errors : Option (List ℕ)) : Type 0 where
   pub given : List Answered
-  pub replies : IsPart keep_going s lines given replies new_replies
-  pub errors : AppendsPrefix errors new_errors (errors_of given)
+  pub replies : IsPart keep_going s lines given old_replies new_replies
+  pub errors : AppendsPrefix old_errors new_errors (errors_of given)
 
 -- ---- faults
 

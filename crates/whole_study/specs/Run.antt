@@ -115,11 +115,18 @@ abbrev pub result_word : Bool → List ℕ
 result_word true = codes "ok"
 result_word false = codes "failed"
 
+-- a word, and after it a number
+abbrev pub with_count : List ℕ → ℕ → List ℕ
+with_count word count = word ++ decimal count
+
+unfoldable pub counts_text : Summary → List ℕ
+counts_text summary =
+    with_count (codes " lines ") summary.lines ++ with_count (codes " refused ") summary.refused
+    ++ with_count (codes " expectations ") summary.expectations ++ with_count (codes " failed ") summary.failed
+
 -- `study RESULT lines N refused N expectations N failed N`
 abbrev pub summary_text : Summary → List ℕ
-summary_text summary =
-    codes "study " ++ result_word (has_passed summary) ++ codes " lines " ++ decimal summary.lines ++ codes " refused " ++ decimal summary.refused
-    ++ codes " expectations " ++ decimal summary.expectations ++ codes " failed " ++ decimal summary.failed ++ codes "\n"
+summary_text summary = codes "study " ++ result_word (has_passed summary) ++ counts_text summary ++ codes "\n"
 
 -- the replies, and the summary as the last line
 abbrev pub whole_replies : List Answered → List ℕ

@@ -22,12 +22,12 @@ pub record HasText {S : Type 0} (remaining : S → Option (List ℕ)) (file : St
   pub text : remaining (inner_of file.reader) ≡ Some study.text
 
 -- the readers have the bytes that are given
-pub record HaveBytes {R S : Type 0} (of_file : R → Option (List ℕ)) (of_study : S → Option (List ℕ)) (files : RunFiles R) (studies : List (StudyFile S))
-    (given : Given) : Type 0 where
+pub record HaveBytes {R S : Type 0} (of_file : R → Option (List ℕ)) (of_study : S → Option (List ℕ)) (files : RunFiles R)
+    (study_files : List (StudyFile S)) (given : Given) : Type 0 where
   pub dump : of_file (inner_of files.dump) ≡ Some given.dump
   pub baseline : HasBytes of_file files.baseline given.baseline
   pub names : HasBytes of_file files.names given.names
-  pub studies : AllZip (HasText of_study) studies given.studies
+  pub studies : AllZip (HasText of_study) study_files given.studies
 
 -- ---- whether they have failed
 

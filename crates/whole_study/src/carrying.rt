@@ -1,11 +1,11 @@
 //! Studies carried out, line after line.
 
-ghost use Rattle.std.specs.Prelude.{◌≡◌, ◌+◌, ◌*◌, ◌≤◌, ◌∷◌, ◌↔◌, [], All, IfErr, IfOk, OnOk, false, length, map, true};
+ghost use Rattle.std.specs.Prelude.{◌≡◌, ◌+◌, ◌*◌, ◌≤◌, ◌∷◌, ◌||◌, ◌↔◌, [], All, IfErr, IfOk, OnOk, false, length, map, true};
 ghost use Rattle.host_io.specs.Watched.{has_failed, is_flushed};
 ghost use Rattle.study_session.specs.Answers.{study_of};
 ghost use Rattle.whole_study.specs.Calls.{most};
 ghost use Rattle.whole_study.specs.Lines.{study_lines};
-ghost use Rattle.whole_study.specs.Run.{summary_of};
+ghost use Rattle.whole_study.specs.Run.{summary_of, was_accepted};
 ghost use Rattle.whole_study.specs.Streams.{has_writer_failed};
 ghost use Rattle.whole_study.specs.steps.Carrying.{CarriesOut, WritesPart, line_at, written};
 ghost use Rattle.whole_study.specs.steps.Counting.{Grows, HasRoom};
@@ -18,8 +18,15 @@ use crate::output::{Line, Output, was_accepted, write_answer};
 use crate::summary::Summary;
 use std::alloc::Allocator;
 use std::io::Write;
-use study_session::StudySession;
+use study_session::{Outcome, StudySession};
 use text_words::cut_at;
+
+/// Whether a run goes on after a line.
+fn goes_on(keep_going: bool, outcome: Outcome) -> bool
+    ensures { result ≡ (keep_going || was_accepted outcome) }
+{
+    keep_going || was_accepted(outcome)
+}
 
 /// Carries out one line, writes its answer if it has one, and counts it. Returns whether the run
 /// goes on.
@@ -48,7 +55,7 @@ fn carry_out_line<A: Allocator + Copy, W: Write, E: Write>(
     };
     write_answer(alloc, line, &answer, output)?;
     summary.count(&answer);
-    Ok(keep_going || was_accepted(answer.outcome))
+    Ok(goes_on(keep_going, answer.outcome))
 }
 
 /// Carries out the lines of a study, up to the first that is not accepted unless the run keeps

@@ -1,12 +1,12 @@
 //! The inputs of a run, read whole.
 
-ghost use Rattle.std.specs.Prelude.{◌≡◌, ◌≢◌, ◌↔◌, ◌≤◌, All, IfErr, IfOk, OnOk, Some, false, is_some, length, true, vec_len};
+ghost use Rattle.std.specs.Prelude.{◌≡◌, ◌||◌, ◌↔◌, ◌≤◌, All, IfErr, IfOk, IfSome, OnOk, Some, false, is_some, length, true, vec_len};
 ghost use Rattle.std.specs.List.{AllZip};
 ghost use Rattle.host_io.specs.Watched.{inner_of, has_failed};
 ghost use Rattle.host_io.specs.WholeText.{IsAll, IsLonger};
 ghost use Rattle.whole_run.specs.Inputs.{IsRefusedDump};
 ghost use Rattle.whole_run.specs.Streams.{contents_of, has_any_failed};
-ghost use Rattle.whole_study.specs.Calls.{MayEndRun, most};
+ghost use Rattle.whole_study.specs.Calls.{IsBeforeReplies, IsTooMuch, MayEndRun, most};
 ghost use Rattle.whole_study.specs.Given.{Given};
 ghost use Rattle.whole_study.specs.Streams.{HaveBytes, has_file_failed, has_study_failed};
 ghost use Rattle.whole_study.specs.steps.Texts.{HasFewBytes, IsLongBaseline, IsLongIn, IsReadEnd, IsReadOf, IsTextOf, Never, bytes_in, given_in};
@@ -201,6 +201,7 @@ pub(crate) fn read_all<'a, A: Allocator + Copy, R: Read, S: Read>(
         → given_in texts ≡ given) }
     ensures few { IfOk result (λ texts. length texts.studies.items ≤ most) }
     ensures within { IfOk result (λ texts. All HasFewBytes texts.studies.items) }
+    ensures much { IfOk result (λ texts. IsTooMuch (given_in texts) → ⊥) }
     ensures end { (given : Given) → HaveBytes R.remaining S.remaining files.old studies.old given
         → IfErr result (MayEndRun given) }
     ensures early { IfErr result IsBeforeReplies }

@@ -1,16 +1,16 @@
 //! The whole run: inputs are read, studies are carried out, and their replies are written.
 
-ghost use Rattle.std.specs.Prelude.{◌≡◌, ◌||◌, ◌⊎◌, ◌↔◌, ◌≤◌, All, IfErr, IfOk, None, OnOk, Some, false, if◌then◌else◌, length, option_map, true};
+ghost use Rattle.std.specs.Prelude.{◌≡◌, ◌&&◌, ◌||◌, ◌⊎◌, ◌↔◌, ◌≤◌, All, IfErr, IfOk, None, OnOk, Some, false, if◌then◌else◌, length, true};
 ghost use Rattle.host_io.specs.Watched.{inner_of, has_failed, is_flushed};
 ghost use Rattle.study_session.specs.Answers.{Study, study_of};
 ghost use Rattle.whole_study.specs.Begin.{Begins};
 ghost use Rattle.whole_study.specs.Calls.{Ends, FitsInputs, IsBeforeReplies, WritesPrefix, most};
 ghost use Rattle.whole_study.specs.Given.{Given};
 ghost use Rattle.whole_study.specs.Lines.{all_lines};
-ghost use Rattle.whole_study.specs.Run.{dump_of};
+ghost use Rattle.whole_study.specs.Run.{dump_of, has_passed};
 ghost use Rattle.whole_study.specs.Streams.{HaveBytes, has_file_failed, has_study_failed, has_writer_failed};
 ghost use Rattle.whole_study.specs.steps.Endings.{MayEndWriting};
-ghost use Rattle.whole_study.specs.steps.Texts.{HasFewBytes, lines_in};
+ghost use Rattle.whole_study.specs.steps.Texts.{HasFewBytes, bytes_in, lines_in};
 
 use crate::carrying::carry_out;
 use crate::fault::RunFault;
@@ -124,19 +124,20 @@ fn run_studies<A: Allocator + Copy, W: Write, E: Write>(
         &mut summary,
     )?;
     write_summary(alloc, &summary, output)?;
-    let dump = dump_left(session, manner.wants_dump && summary.has_passed())?;
+    let dump = dump_left(session, manner.wants_dump, &summary)?;
     Ok(Ended { summary, dump })
 }
 
-/// The dump of branch 0, where it is wanted.
+/// The dump of branch 0, where it is wanted and the run has passed.
 fn dump_left<A: Allocator + Copy>(
     session: &mut StudySession<'_, A>,
-    is_wanted: bool,
+    wants_dump: bool,
+    summary: &Summary,
 ) -> Result<Option<Vec<u8, A>>, AllocError>
-    ensures { IfOk result (λ dump. option_map (λ d. d.items) dump
-        ≡ (if is_wanted then Some (dump_of (study_of session.old)) else None)) }
+    ensures { IfOk result (λ dump. bytes_in dump ≡ (if wants_dump && has_passed summary.now
+        then Some (dump_of (study_of session.old)) else None)) }
 {
-    if is_wanted {
+    if wants_dump && summary.has_passed() {
         Ok(Some(session.dump(0)?))
     } else {
         Ok(None)

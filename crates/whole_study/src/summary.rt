@@ -1,8 +1,8 @@
 //! The summary of a run.
 
-ghost use Rattle.std.specs.Prelude.{◌≡◌, ◌++◌, ◌∷◌, [], IfOk, List, OnOk, decimal};
+ghost use Rattle.std.specs.Prelude.{◌≡◌, ◌++◌, ◌∷◌, [], IfOk, List, OnOk};
 ghost use Rattle.whole_study.specs.Lines.{Line};
-ghost use Rattle.whole_study.specs.Run.{Answered, has_passed, result_word, summary_of, summary_text};
+ghost use Rattle.whole_study.specs.Run.{Answered, counts_text, has_passed, result_word, summary_of, summary_text, with_count};
 ghost use Rattle.whole_study.specs.steps.Counting.{Grows, HasRoom};
 
 use std::alloc::{AllocError, Allocator};
@@ -74,10 +74,24 @@ fn push_count<A: Allocator + Copy>(
     word: &str,
     count: u64,
 ) -> Result<(), AllocError>
-    ensures { OnOk result (text.new.items ≡ text.old.items ++ (word.now ++ decimal count)) }
+    ensures { OnOk result (text.new.items ≡ text.old.items ++ with_count word.now count) }
 {
     text.extend_from_slice(word.as_bytes())?;
     push_number(text, count)
+}
+
+/// Adds the counts.
+#[tactic(auto, unfolding(crate::specs::Run::counts_text))]
+fn push_counts<A: Allocator + Copy>(
+    text: &mut Vec<u8, A>,
+    summary: &Summary,
+) -> Result<(), AllocError>
+    ensures { OnOk result (text.new.items ≡ text.old.items ++ counts_text summary.now) }
+{
+    push_count(text, " lines ", summary.lines)?;
+    push_count(text, " refused ", summary.refused)?;
+    push_count(text, " expectations ", summary.expectations)?;
+    push_count(text, " failed ", summary.failed)
 }
 
 /// The last line of a run: `study RESULT lines N refused N expectations N failed N`.
@@ -90,10 +104,7 @@ pub(crate) fn summary_line<A: Allocator + Copy>(
     let mut text = Vec::new(alloc);
     text.extend_from_slice(b"study ")?;
     text.extend_from_slice(result_word(summary.has_passed()).as_bytes())?;
-    push_count(&mut text, " lines ", summary.lines)?;
-    push_count(&mut text, " refused ", summary.refused)?;
-    push_count(&mut text, " expectations ", summary.expectations)?;
-    push_count(&mut text, " failed ", summary.failed)?;
+    push_counts(&mut text, summary)?;
     text.push(b'\n')?;
     Ok(text)
 }

@@ -1,7 +1,6 @@
 -- The inputs of a run as they are read, and how the reading may end.
-use Rattle.std.specs.Prelude.{◌≡◌, ℕ, ◌≤◌, false, true, List, length, map, Option, option_map, Some, Err, IfSome, is_some}
+use Rattle.std.specs.Prelude.{◌≡◌, ℕ, ◌≤◌, false, true, List, length, map, Option, option_map, Some, Err, IfSome, Vec, is_some}
 use Rattle.std.specs.List.{AllZip}
-use Rattle.std.specs.Vec.{Vec}
 use Rattle.host_io.specs.Watched.{inner_of}
 use Rattle.host_io.specs.declared.watch.Watched.{Watched}
 use Rattle.host_io.specs.WholeText.{IsAll}

@@ -2,7 +2,7 @@ use Rattle.host_io.specs.Watched.{inner_of}
 use Rattle.host_io.specs.WholeText.{IsAll}
 use Rattle.std.proofs.Common.{ap, Err}
 use Rattle.whole_run.proofs.KnownInputs.{known_first}
-use Rattle.whole_run.proofs.ReadBytes.{if_too_long}
+use Rattle.whole_run.proofs.OpeningLemmas.{if_too_long}
 use Rattle.whole_run.proofs.inputs.read_branches.Goals as goal
 
 pub returns-in-Err-TooLarge-clause-refused : goal.returns-in-Err-TooLarge-clause-refused

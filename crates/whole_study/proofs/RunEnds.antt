@@ -1,0 +1,179 @@
+-- How a run ends, by what was carried out.
+use Rattle.std.proofs.Common.{◌≡◌, ◌∙◌, sym, ap, subst, refl, ℕ, ◌+◌, ◌<◌, ◌≤◌, eqb, zero-add, Bool, true, false, cond, List, [], ◌∷◌, ◌++◌, append-nil, length, map, Option, None, Some, inl, inr, arith}
+use Rattle.std.specs.Prelude.{◌&&◌, ◌||◌, All, IfSome, count_by, nat_lt, unwrap_or}
+use Rattle.std.specs.List.{list_all, list_any}
+use Rattle.std.specs.Io.KnownBytes.{Appends}
+use Rattle.std.proofs.KnownBytes.{Appends-trans}
+use Rattle.std.proofs.lemmas.Bool.{ltb-true, ne_eqb}
+use Rattle.std.proofs.lemmas.List.{length-map}
+use Rattle.std.proofs.lemmas.List.Sums.{sum_by-cons}
+use Rattle.std.proofs.lemmas.List.Folds.{list_all-append}
+use Rattle.host_io.specs.WholeText.{AppendsPrefix}
+use Rattle.study_session.specs.declared.answer.Outcome.{Outcome}
+use Rattle.study_session.specs.declared.answer.Outcome.TheVariants.{Accepted, Refused, Failed}
+use Rattle.study_session.specs.Answers.{Study}
+use Rattle.whole_study.specs.Begin.{AreAccepted}
+use Rattle.whole_study.specs.Calls.{HasLonger, IsTooMuch, MayEndRun, WritesPrefix, most, of_all, of_first}
+use Rattle.whole_study.specs.Given.{Given, NamedText}
+use Rattle.whole_study.specs.Lines.{Line}
+use Rattle.whole_study.specs.Run.{Answered, AreAnswered, Gives, IsStop, StopsAtLast, dump_left, dump_of, errors_of, goes_on, has_passed, is_accepted, replies_of, study_after, summary_of, summary_text, was_accepted, was_failed, was_refused, whole_replies}
+use Rattle.whole_study.specs.steps.Carrying.{CarriesOut, IsStopBy, WritesPart, Written}
+use Rattle.whole_study.specs.steps.Endings.{MayEndWriting}
+use Rattle.whole_study.specs.steps.Texts.{HasFewBytes, bytes_in, given_in, named_text}
+use Rattle.whole_study.specs.declared.fault.RunFault.{RunFault}
+use Rattle.whole_study.specs.declared.fault.RunFault.TheVariants.{Dump, Baseline, Names, Read, Write, TooLarge, OutOfMemory}
+use Rattle.whole_study.specs.declared.inputs.StudyText.{StudyText}
+use Rattle.whole_study.specs.declared.inputs.Texts.{Texts}
+use Rattle.whole_study.specs.declared.running.Ended.{Ended}
+use Rattle.whole_study.specs.declared.running.Manner.{Manner}
+use Rattle.whole_study.specs.declared.summary.Summary.{Summary}
+use Rattle.whole_study.proofs.CarriedLines.{prefix_both, prefix_whole}
+
+-- ---- the verdict
+
+passed_by : (o : Outcome) (r f : ℕ) (all : Bool) → (eqb r 0 && eqb f 0) ≡ all
+    → (eqb (cond (was_refused o) 1 0 + r) 0 && eqb (cond (was_failed o) 1 0 + f) 0) ≡ (was_accepted o && all)
+passed_by Accepted r f all e = ap (λ (n : ℕ). eqb n 0 && eqb (0 + f) 0) (zero-add r) ∙ ap (λ (n : ℕ). eqb r 0 && eqb n 0) (zero-add f) ∙ e
+passed_by Refused r f all e = ap (λ (b : Bool). b && eqb (0 + f) 0) (ne_eqb (1 + r) 0 (λ h. omega (arith, h)))
+passed_by Failed r f all e = no_second (eqb (0 + r) 0) (eqb (1 + f) 0) (ne_eqb (1 + f) 0 (λ h. omega (arith, h)))
+  where
+    no_second : (a b : Bool) → b ≡ false → (a && b) ≡ false
+    no_second true b e = e
+    no_second false b e = refl
+
+-- a run has passed where all answers are accepted
+pub passed_all : (given : List Answered) → has_passed (summary_of given) ≡ list_all is_accepted given
+passed_all [] = refl
+passed_all (x ∷ xs) =
+    let refused : Answered → Bool = λ a. was_refused a.answer.outcome in
+    let failed : Answered → Bool = λ a. was_failed a.answer.outcome in
+    ap (λ (n : ℕ). eqb n 0 && eqb (count_by failed (x ∷ xs)) 0) (sum_by-cons (λ (a : Answered). cond (refused a) 1 0) x xs)
+    ∙ ap (λ (n : ℕ). eqb (cond (refused x) 1 0 + count_by refused xs) 0 && eqb n 0) (sum_by-cons (λ (a : Answered). cond (failed a) 1 0) x xs)
+    ∙ passed_by x.answer.outcome (count_by refused xs) (count_by failed xs) (list_all is_accepted xs) (passed_all xs)
+
+stopped_fails : (given : List Answered) → StopsAtLast given → list_all is_accepted given ≡ true → ⊥
+stopped_fails given stop e =
+    let last : (list_all is_accepted stop.front && (is_accepted stop.last && true)) ≡ true =
+    sym (list_all-append is_accepted stop.front (stop.last ∷ [])) ∙ ap (list_all is_accepted) (sym stop.split) ∙ e in
+    both (list_all is_accepted stop.front) (is_accepted stop.last) stop.stops last
+  where
+    both : (a b : Bool) → b ≡ false → (a && (b && true)) ≡ true → ⊥
+    both true true e f = absurd cc
+    both true false e f = absurd cc
+    both false b e f = absurd cc
+
+-- ---- what a run gives
+
+stop_of : (keep_going on : Bool) (left : List Line) (given : List Answered) → IsStopBy keep_going on left given → IsStop keep_going left given
+stop_of keep_going true left given stop = inl stop
+stop_of keep_going false left given stop = inr stop
+
+none_left : (keep_going : Bool) (left : List Line) (given : List Answered) → IsStop keep_going left given → list_all is_accepted given ≡ true → left ≡ []
+none_left keep_going left given (inl stop) e = stop.0
+none_left keep_going left given (inr stop) e = absurd (stopped_fails given stop.1 e)
+
+module _ (keep_going : Bool) (s : Study) (lines : List Line) (old : Written) (before : Summary) (on : Bool) (after : Study) (new : Written) (counted : Summary)
+    (one : CarriesOut keep_going s lines old before on after new counted) where
+  pub gives_of : Gives keep_going s lines one.given
+  gives_of = record {
+    front = one.front;
+    left = one.left;
+    split = one.split;
+    answered = one.answered;
+    stop = stop_of keep_going on one.left one.given one.stop;
+  }
+
+  pub counted_is : before ≡ summary_of [] → counted ≡ summary_of one.given
+  counted_is e = one.summary [] e
+
+  all_in : list_all is_accepted one.given ≡ true → lines ≡ one.front
+  all_in e =
+      one.split
+      ∙ ap (λ (l : List Line). one.front ++ l) (none_left keep_going one.left one.given (stop_of keep_going on one.left one.given one.stop) e)
+      ∙ append-nil one.front
+
+  pub complete_of : list_all is_accepted one.given ≡ true → AreAnswered s lines one.given
+  complete_of e = subst (λ (l : List Line). AreAnswered s l one.given) (sym (all_in e)) one.answered
+
+  dump_by : (wants all : Bool) (dump : Option (List ℕ)) → list_all is_accepted one.given ≡ all
+      → dump ≡ cond (wants && all) (Some (dump_of after)) None → dump ≡ cond (wants && all) (Some (dump_of (study_after s lines))) None
+  dump_by true true dump e is = is ∙ ap (λ (t : Study). let d : Option (List ℕ) = Some (dump_of t) in d)
+      (one.study ∙ ap (study_after s) (sym (all_in e)))
+  dump_by true false dump e is = is
+  dump_by false all dump e is = is
+
+  pub dump_is : (wants : Bool) (dump : Option (List ℕ)) → dump ≡ cond (wants && list_all is_accepted one.given) (Some (dump_of after)) None
+      → dump ≡ dump_left wants s lines one.given
+  dump_is wants dump is = dump_by wants (list_all is_accepted one.given) dump refl is
+
+  pub passed_is : before ≡ summary_of [] → has_passed counted ≡ list_all is_accepted one.given
+  passed_is e = ap has_passed (counted_is e) ∙ passed_all one.given
+
+  pub dump_end : before ≡ summary_of [] → (wants : Bool) (dump : Option (List ℕ))
+      → dump ≡ cond (wants && has_passed counted) (Some (dump_of after)) None → dump ≡ dump_left wants s lines one.given
+  dump_end e wants dump is =
+      dump_is wants dump (subst (λ (b : Bool). dump ≡ cond (wants && b) (Some (dump_of after)) None) (passed_is e) is)
+
+  -- the replies and the summary are written
+  pub replies_of_all : before ≡ summary_of [] → (end : Option (List ℕ)) → Appends new.replies end (summary_text counted)
+      → Appends old.replies end (whole_replies one.given)
+  replies_of_all e end last =
+      Appends-trans old.replies new.replies end (replies_of one.given) (summary_text (summary_of one.given)) one.replies
+      (subst (λ (c : Summary). Appends new.replies end (summary_text c)) (counted_is e) last)
+
+  -- the replies, and a part of the summary
+  pub replies_part : before ≡ summary_of [] → (end : Option (List ℕ)) → AppendsPrefix new.replies end (summary_text counted)
+      → AppendsPrefix old.replies end (whole_replies one.given)
+  replies_part e end last =
+      prefix_both old.replies new.replies end (whole_replies one.given) (replies_of one.given) (summary_text (summary_of one.given)) refl one.replies
+      (subst (λ (c : Summary). AppendsPrefix new.replies end (summary_text c)) (counted_is e) last)
+
+  pub prefix_after : before ≡ summary_of [] → (end errors : Option (List ℕ)) → AppendsPrefix new.replies end (summary_text counted)
+      → errors ≡ new.errors → WritesPrefix keep_going s lines old.replies end old.errors errors
+  prefix_after e end errors last same = record {
+    given = one.given;
+    replies = of_all gives_of (replies_part e end last);
+    errors = subst (λ (x : Option (List ℕ)). AppendsPrefix old.errors x (errors_of one.given)) (sym same)
+        (prefix_whole old.errors new.errors (errors_of one.given) one.errors);
+  }
+
+-- a part of the replies is written
+pub prefix_of_part : (keep_going : Bool) (s : Study) (lines : List Line) (old new : Written) → WritesPart keep_going s lines old new
+    → WritesPrefix keep_going s lines old.replies new.replies old.errors new.errors
+prefix_of_part keep_going s lines old new part = record {
+  given = part.given;
+  replies = of_first part.gives part.replies;
+  errors = part.errors;
+}
+
+-- ---- not too much
+
+short_or : (names : Option (List ℕ)) → IfSome names (λ bytes. length bytes ≤ most) → most < length (unwrap_or names []) → ⊥
+short_or None short long = omega (arith, long)
+short_or (Some bytes) short long = omega (arith, short, long)
+
+longer_by : (b c : Bool) (rest : Type 0) → (b ≡ true → rest) → (c ≡ true → rest) → (b || c) ≡ true → rest
+longer_by true c rest first second e = first refl
+longer_by false c rest first second e = second e
+
+no_longer : {A : Type 0} (texts : List (StudyText A)) → All HasFewBytes texts → HasLonger (map named_text texts) → ⊥
+no_longer [] short longer = absurd cc
+no_longer (t ∷ texts) short longer =
+    longer_by (nat_lt most (length t.text.items)) _ ⊥ (λ e. omega (arith, ltb-true most (length t.text.items) e, short.0)) (no_longer texts short.1) longer
+
+pub not_much : {A : Type 0} (texts : Texts A) → length texts.studies.items ≤ most → IfSome (bytes_in texts.names) (λ bytes. length bytes ≤ most)
+    → All HasFewBytes texts.studies.items → IsTooMuch (given_in texts) → ⊥
+not_much texts few names short (inl many) = omega (arith, few, many, length-map named_text texts.studies.items)
+not_much texts few names short (inr (inl long)) = short_or (bytes_in texts.names) names long
+not_much texts few names short (inr (inr longer)) = no_longer texts.studies.items short longer
+
+-- ---- faults of the writing
+
+pub writing_end : {A : Type 0} (given : Given) (fault : RunFault A) → AreAccepted given → MayEndWriting fault → MayEndRun given fault
+writing_end given (Dump fault) accepted end = absurd end
+writing_end given (Baseline fault) accepted end = absurd end
+writing_end given (Names refusal) accepted end = absurd end
+writing_end given Read accepted end = absurd end
+writing_end given Write accepted end = accepted
+writing_end given TooLarge accepted end = absurd end
+writing_end given OutOfMemory accepted end = tt
