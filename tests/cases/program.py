@@ -12,7 +12,7 @@ LAUNCH = ROOT / "tools" / "launch"
 
 
 def program_of_clone(name: str) -> str:
-    """The path of `ospf-plan` or `ospf-capture` that the launcher of this clone runs, built or unpacked first if need be."""
+    """The path of `ospf-plan`, `ospf-capture` or `ospf-study` that the launcher of this clone runs, built or unpacked first if need be."""
     return subprocess.run([LAUNCH, "--path", name], check=True, stdout=subprocess.PIPE, text=True).stdout.strip()
 
 

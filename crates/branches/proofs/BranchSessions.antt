@@ -177,6 +177,38 @@ not_named first old new branch same other none =
     subst (λ (m : BTreeMap ℕ PlannerValue). has_planner (named_by first m.entries) branch ≡ false) (sym same)
     (unnamed first old.entries branch (ne_eqb branch 0 other) none)
 
+-- a branch without one has none
+pub absent : (first : PlannerValue) (ps : List (ℕ × PlannerValue)) (branch : ℕ) (named : Named) → named_by first ps ≡ named → branch ≢ 0
+    → None ≡ planner_at ps branch → has_planner named branch ≡ true → ⊥
+absent first ps branch named shows other none has =
+    true≢false (sym has ∙ ap (λ (n : Named). has_planner n branch) (sym shows) ∙ unnamed first ps branch (ne_eqb branch 0 other) none)
+
+or_some : (z : Bool) (o : Option Session) (s : Session) → o ≡ Some s → (z || is_some o) ≡ true
+or_some true o s at = refl
+or_some false o s at = ap is_some at
+
+-- one that goes on in the list has one
+pub goes_on_named : (first : Session) (es : List (ℕ × Session)) (branch : ℕ) (s : Session) → found es branch ≡ Some s
+    → has_planner (the_named first es) branch ≡ true
+goes_on_named first es branch s at = or_some (eqb branch 0) (found es branch) s at
+
+is_some-map : (o : Option PlannerValue) → is_some (option_map its_session o) ≡ is_some o
+is_some-map None = refl
+is_some-map (Some p) = refl
+
+-- a branch has one where it is in the map
+pub has_by_map : (first : PlannerValue) (ps : List (ℕ × PlannerValue)) (branch : ℕ)
+    → has_planner (named_by first ps) branch ≡ (eqb branch 0 || is_some (planner_at ps branch))
+has_by_map first ps branch =
+    ap (λ (b : Bool). eqb branch 0 || b) (ap is_some (shown ps branch) ∙ is_some-map (planner_at ps branch))
+
+-- branch 0 has one
+pub not_first : (named : Named) (branch : ℕ) → has_planner named branch ≡ false → eqb branch 0 ≡ false
+not_first named branch none = or_false (eqb branch 0) (is_some (found named.others branch)) none where
+  or_false : (z b : Bool) → (z || b) ≡ false → z ≡ false
+  or_false true b h = h
+  or_false false b h = refl
+
 -- what the planners show of a branch
 module _ (first : PlannerValue) (ps : List (ℕ × PlannerValue)) (branch : ℕ) (named : Named) (shows : named_by first ps ≡ named) where
   pub session_of_first : branch ≡ 0 → first.session ≡ sessions_of named branch

@@ -232,11 +232,18 @@ impl<A: Allocator + Copy> Branches<A> {
         ensures ready { OnOk result (has_planner self.new branch ≡ true) }
         ensures kept { sessions_of self.new ≡ sessions_of self.old }
     {
-        if branch == 0 || self.others.contains_key(&branch) {
+        if self.has_planner(branch) {
             return Ok(());
         }
         let planner = self.begun()?;
         self.name(branch, planner)
+    }
+
+    /// Whether a branch has a planner.
+    fn has_planner(&self, branch: u8) -> bool
+        ensures { result ≡ has_planner self.now branch }
+    {
+        branch == 0 || self.others.contains_key(&branch)
     }
 
     /// The planner of a branch that has one: of branch 0, and of another after

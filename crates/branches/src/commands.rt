@@ -1,9 +1,9 @@
 //! The commands of a script, executed on one planner.
 
-ghost use Rattle.std.specs.Prelude.{◌≡◌, ◌++◌, IfOk, OnOk, OnErr, IsOk, false, filter_map, length, option_map, option_to_list};
+ghost use Rattle.std.specs.Prelude.{◌≡◌, ◌++◌, ◌≤◌, IfOk, OnOk, OnErr, IsOk, false, filter_map, length, option_map, option_to_list};
 ghost use Rattle.std.specs.String.{string_bytes};
 ghost use Rattle.lsdb.specs.Slots.{lists_of};
-ghost use Rattle.edit_history.specs.Session.{accepted_or, state, edited};
+ghost use Rattle.edit_history.specs.Session.{accepted_or, state, edited, moved_on};
 ghost use Rattle.routing_table.specs.Routers.{attached_routers};
 ghost use Rattle.routing_table.specs.Tables.{table_in};
 ghost use Rattle.branches.specs.Branches.{before_last};
@@ -85,13 +85,23 @@ pub(crate) fn before_last<A: Allocator + Copy>(
     ensures kept { planner.new.session ≡ planner.old.session }
 {
     moves();
-    if planner.undo(count).is_err() {
-        return Ok(None);
+    match planner.undo(count) {
+        Err(_) => Ok(None),
+        Ok(()) => {
+            let copy = planner.database().clone_of();
+            redo_all(planner, count);
+            Ok(Some(copy?))
+        }
     }
-    let copy = planner.database().clone_of();
+}
+
+/// Carries the first `count` undone edits out again.
+fn redo_all<A: Allocator + Copy>(planner: &mut Planner<A>, count: u32)
+    requires { count ≤ length planner.old.session.undone }
+    ensures { planner.new.session ≡ moved_on count planner.old.session }
+{
     // It is not refused: that many are undone.
     let _ = planner.redo(count);
-    Ok(Some(copy?))
 }
 
 /// The routing table of a router now, if it is attached to an area.

@@ -2,11 +2,16 @@
 use Rattle.std.specs.Prelude.{ℕ, List, [], Option, Some, true, option_map, unwrap_or}
 use Rattle.clap.specs.Words.{App, Rule, Text, all_of, count_of, first_of, matched_of, matches_of, new_app, new_rule, raw_values}
 use Rattle.clap.specs.declared.builder.action.ArgAction.{ArgAction}
+use Rattle.clap.specs.declared.builder.action.ArgAction.TheVariants.{Count}
 use Rattle.clap.specs.declared.parser.matches.Found.{Found}
 
 -- an option `--NAME VALUE` with this action
 abbrev pub value_rule : Text → ArgAction → Rule
 value_rule name action = record (new_rule name) { long = Some name; action = Some action; value_names = 1 }
+
+-- an option `--NAME` without a value, once or more
+abbrev pub flag_rule : Text → Rule
+flag_rule name = record (new_rule name) { long = Some name; action = Some Count }
 
 -- `--version` prints a version
 abbrev pub with_version : App → App

@@ -2,7 +2,7 @@
 
 ghost use Rattle.std.specs.Prelude.{◌≡◌, false, IfOk};
 ghost use Rattle.clap.specs.Words.{app_of, rule_of};
-ghost use Rattle.host_arguments.specs.Commands.{named, value_rule};
+ghost use Rattle.host_arguments.specs.Commands.{flag_rule, named, value_rule};
 
 use clap::{Arg, ArgAction, Command};
 use std::alloc::{AllocError, Global};
@@ -56,4 +56,15 @@ pub fn value_option<'a>(
         .value_name(value)
         .help(help)
         .action(action)
+}
+
+/// An option `--NAME` without a value. It may be given again.
+pub fn flag_option<'a>(alloc: Global, name: &'a str, help: &'a str) -> Arg<'a>
+    ensures rule { rule_of result ≡ flag_rule name.entry.now }
+    ensures local { result.global ≡ false }
+{
+    Arg::new(alloc, name)
+        .long(name)
+        .help(help)
+        .action(ArgAction::Count)
 }

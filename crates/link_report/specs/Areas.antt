@@ -10,13 +10,14 @@ use Rattle.area_routes.specs.Attached.{id_of}
 abbrev pub area_ids : Lists → List AreaId
 area_ids db = map id_of (areas_of db)
 
--- an area, and its LSAs in use
+-- an area of a database, and its LSAs in use
 pub record UsedAreaValue : Type 0 where
+  pub db : Lists
   pub area : AreaId
   pub lsas : List (List ℕ)
 
 abbrev pub used_area : Lists → AreaId → UsedAreaValue
-used_area db area = record { area = area; lsas = used (lsas_of (Area area) db) }
+used_area db area = record { db = db; area = area; lsas = used (lsas_of (Area area) db) }
 
 abbrev pub used_areas : Lists → List UsedAreaValue
 used_areas db = map (used_area db) (area_ids db)

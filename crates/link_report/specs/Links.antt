@@ -1,5 +1,5 @@
 -- What is said of each link of a router-LSA (RFC 2328, 12.4.1 and A.4.2).
-use Rattle.std.specs.Prelude.{ℕ, ◌+◌, ◌-◌, ◌==◌, if◌then◌else◌, List, [], ◌∷◌, map, slice_get, Option, Some, None}
+use Rattle.std.specs.Prelude.{ℕ, Bool, false, ◌+◌, ◌-◌, ◌==◌, if◌then◌else◌, List, [], ◌∷◌, map, slice_get, Option, Some, None}
 use Rattle.std.specs.List.{enumerate_from, flat_map}
 use Rattle.std.specs.Option.{option_and_then, option_map}
 use Rattle.lsa_codec.specs.declared.address.Addr.{Addr}
@@ -38,10 +38,14 @@ pub record LinkValue : Type 0 where
 abbrev pub network_of : List (List ℕ) → Link → Option (List ℕ)
 network_of used link = if is_transit link.kind then network_lsa_in used link.id else None
 
+-- a network-LSA is there and lists a router
+abbrev pub is_listed : Option (List ℕ) → RouterId → Bool
+is_listed None router = false
+is_listed (Some lsa) router = lists_router lsa router
+
 -- from a network to a router it costs 0, where the network-LSA lists the router (16.1)
 abbrev pub cost_from_network : Option (List ℕ) → RouterId → List ℕ
-cost_from_network None router = []
-cost_from_network (Some lsa) router = if lists_router lsa router then 0 ∷ [] else []
+cost_from_network network router = if is_listed network router then 0 ∷ [] else []
 
 -- the costs back over a link: from the network of a transit link, or of the far ends
 abbrev pub back_of : Option (List ℕ) → RouterId → Link → List Interface → List ℕ
@@ -76,10 +80,10 @@ interface_numbered k all = if k == 0 then None else slice_get all (k - 1)
 abbrev pub neighbor_of : Link → RouterId
 neighbor_of link = record { 0 = link.id.0 }
 
-module _ (db : Lists) (ages : Ages) (area : UsedAreaValue) (router : RouterId) where
+module _ (ages : Ages) (area : UsedAreaValue) (router : RouterId) where
   -- the far ends of an interface
   abbrev pub ends_of : Interface → List Interface
-  ends_of own = far_ends router own (interfaces_by ages db area.area (neighbor_of own.link))
+  ends_of own = far_ends router own (interfaces_by ages area.db area.area (neighbor_of own.link))
 
   -- the link of an interface, where n links stand before it, the last of them that of another one
   abbrev pub link_value : ℕ → Option Interface → Interface → LinkValue
@@ -95,22 +99,23 @@ module _ (db : Lists) (ages : Ages) (area : UsedAreaValue) (router : RouterId) w
     owner = owner_of n before;
   }
 
-  -- the links of the router in the area, in their order
-  abbrev pub link_values : List LinkValue
-  link_values =
-      let all = interfaces_by ages db area.area router in
-      map (λ one. link_value one.0 (interface_numbered one.0 all) one.1) (enumerate_from 0 all)
+-- the links of the live router-LSA of a router in an area, in their order, where these are its interfaces
+abbrev pub values_of : RouterId → UsedAreaValue → List Interface → List LinkValue
+values_of router area all = map (λ one. link_value Live area router one.0 (interface_numbered one.0 all) one.1) (enumerate_from 0 all)
 
--- the links of the live router-LSAs of a router, by area and number
-abbrev pub links_in_areas : Lists → List UsedAreaValue → RouterId → List LinkValue
-links_in_areas db areas router = flat_map (λ area. link_values db Live area router) areas
+abbrev pub link_values : RouterId → UsedAreaValue → List LinkValue
+link_values router area = values_of router area (interfaces_by Live area.db area.area router)
+
+-- the links of a router, by area and number
+abbrev pub links_in_areas : List UsedAreaValue → RouterId → List LinkValue
+links_in_areas areas router = flat_map (link_values router) areas
 
 -- the links of some routers, by router, area and number
 abbrev pub links_of_routers : Lists → List RouterId → List LinkValue
-links_of_routers db routers = flat_map (links_in_areas db (used_areas db)) routers
+links_of_routers db routers = flat_map (links_in_areas (used_areas db)) routers
 
 -- link k of a router in an area, by router-LSAs of any age
 abbrev pub link_at : Lists → AreaId → RouterId → ℕ → Option LinkValue
 link_at db area router k =
     let all = interfaces_by Any db area router in
-    option_map (link_value db Any (used_area db area) router (k - 1) (interface_numbered (k - 1) all)) (interface_numbered k all)
+    option_map (link_value Any (used_area db area) router (k - 1) (interface_numbered (k - 1) all)) (interface_numbered k all)

@@ -37,37 +37,36 @@ abbrev pub network_cmp : NetworkPlace → NetworkPlace → Ordering
 network_cmp a b = ordering_then (prefix_cmp a.net b.net) (nat_cmp a.address.0 b.address.0)
 
 -- the members that have a link to the network
-abbrev pub joined_routers : List Member → List RouterId
-joined_routers members = rising router_cmp (map (λ member. member.router) (filter (λ member. member.is_joined) members))
+abbrev pub joined : List Member → List RouterId
+joined members = map (λ member. member.router) (filter (λ member. member.is_joined) members)
 
 -- the members that have none
-abbrev pub one_way_routers : List Member → List RouterId
-one_way_routers members = rising router_cmp (map (λ member. member.router) (filter (λ member. not member.is_joined) members))
+abbrev pub not_joined : List Member → List RouterId
+not_joined members = map (λ member. member.router) (filter (λ member. not member.is_joined) members)
 
-module _ (db : Lists) where
-  -- the network of a network-LSA
-  abbrev pub network_value : AreaId → NetworkPlace → List ℕ → NetworkValue
-  network_value area place lsa = record {
-    area = area;
-    net = place.net;
-    address = place.address;
-    router = record { 0 = advertising_router_of lsa };
-    members = joined_routers (members_of db area lsa);
-    one_way = one_way_routers (members_of db area lsa);
-  }
+-- the network of a network-LSA
+abbrev pub network_value : UsedAreaValue → NetworkPlace → List ℕ → NetworkValue
+network_value area place lsa = record {
+  area = area.area;
+  net = place.net;
+  address = place.address;
+  router = record { 0 = advertising_router_of lsa };
+  members = rising router_cmp (joined (members_of area.db area.area lsa));
+  one_way = rising router_cmp (not_joined (members_of area.db area.area lsa));
+}
 
-  -- the network with the network-LSA in use at a place
-  abbrev pub network_by : AreaId → NetworkPlace → Option (List ℕ) → List NetworkValue
-  network_by area place None = []
-  network_by area place (Some lsa) = network_value area place lsa ∷ []
+-- the network at a place, if it has a network-LSA in use
+abbrev pub network_by : UsedAreaValue → NetworkPlace → Option (List ℕ) → List NetworkValue
+network_by area place None = []
+network_by area place (Some lsa) = network_value area place lsa ∷ []
 
-  abbrev pub network_in : UsedAreaValue → NetworkPlace → List NetworkValue
-  network_in area place = network_by area.area place (network_lsa_in area.lsas place.address)
+abbrev pub network_in : UsedAreaValue → NetworkPlace → List NetworkValue
+network_in area place = network_by area place (network_lsa_in area.lsas place.address)
 
-  -- the networks of an area, by prefix and Link State ID
-  abbrev pub networks_in : UsedAreaValue → List NetworkValue
-  networks_in area = flat_map (network_in area) (rising network_cmp (filter_map network_place area.lsas))
+-- the networks of an area, by prefix and Link State ID
+abbrev pub networks_in : UsedAreaValue → List NetworkValue
+networks_in area = flat_map (network_in area) (rising network_cmp (filter_map network_place area.lsas))
 
-  -- those of all areas
-  abbrev pub network_values : List NetworkValue
-  network_values = flat_map networks_in (used_areas db)
+-- those of all areas
+abbrev pub network_values : Lists → List NetworkValue
+network_values db = flat_map networks_in (used_areas db)

@@ -10,19 +10,25 @@ use lsdb::{Database, Section};
 use std::alloc::{AllocError, Allocator};
 use std::marker::Model;
 
-/// An area, and its router-LSAs and network-LSAs in use.
+/// An area of a database, and its router-LSAs and network-LSAs in use.
 #[derive(Drop)]
 pub(crate) struct UsedArea<'a, A: Allocator> {
+    database: &'a Database<A>,
     area: AreaId,
     lsas: Vec<VertexLsa<'a, A>, A>,
 }
 
 impl<'a, A: Allocator> Model for UsedArea<'a, A> {
+    ghost use Rattle.lsdb.specs.Slots.{lists_of};
     ghost use Rattle.link_report.specs.Areas.{UsedAreaValue};
 
     ghost Value = { UsedAreaValue };
 
-    ghost view = { λ a. record { area = a.area; lsas = a.lsas.items } };
+    ghost view = { λ a. record {
+      db = lists_of a.database.now;
+      area = a.area;
+      lsas = a.lsas.items;
+    } };
 }
 
 impl<'a, A: Allocator + Copy> UsedArea<'a, A> {
@@ -35,7 +41,18 @@ impl<'a, A: Allocator + Copy> UsedArea<'a, A> {
         ensures { IfOk result (λ used. used ≡ used_area (lists_of database.now) area) }
     {
         let lsas = used_lsas(alloc, database.lsas(Section::Area(area)))?;
-        Ok(UsedArea { area, lsas })
+        Ok(UsedArea {
+            database,
+            area,
+            lsas,
+        })
+    }
+
+    /// The database.
+    pub(crate) fn database(&self) -> &'a Database<A>
+        ensures { lists_of result.now ≡ self.now.db }
+    {
+        self.database
     }
 
     /// The area.

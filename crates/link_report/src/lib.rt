@@ -9,7 +9,7 @@
 // What the values are made from.
 mod ages;
 mod areas;
-mod order;
+mod lists;
 
 // Routers.
 mod router_line;

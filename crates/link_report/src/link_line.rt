@@ -1,6 +1,6 @@
 //! What is said of each link.
 
-ghost use Rattle.std.specs.Prelude.{◌≡◌, ◌<◌, ◌++◌, ◌^◌, IfOk, OnOk, length};
+ghost use Rattle.std.specs.Prelude.{◌≡◌, ◌+◌, ◌<◌, ◌++◌, ◌^◌, IfOk, OnOk, length};
 ghost use Rattle.std.specs.List.{flat_map};
 ghost use Rattle.lsdb.specs.Slots.{lists_of};
 ghost use Rattle.link_report.specs.Areas.{used_areas};
@@ -69,41 +69,31 @@ impl<A: Allocator> LinkLine<A> {
     }
 }
 
-/// Where links are looked up.
-#[derive(Drop)]
-struct Place<'a, A: Allocator> {
-    database: &'a Database<A>,
-    ages: Ages,
-    area: &'a UsedArea<'a, A>,
-    router: RouterId,
-}
-
-/// What is said of a link of a router in an area: that of this interface, with this number, and
-/// another interface before it.
+/// What is said of a link of a router in an area: that of this interface, with this number of links
+/// before it, the last of which is that of another interface.
 fn link_line<A: Allocator + Copy>(
     alloc: A,
-    place: &Place<'_, A>,
+    area: &UsedArea<'_, A>,
+    ages: Ages,
+    router: RouterId,
     number: usize,
     before: Option<Interface>,
     own: Interface,
 ) -> Result<LinkLine<A>, AllocError>
     requires { number + 1 < 2 ^ 63 }
-    ensures { IfOk result (λ line. line
-        ≡ link_value (lists_of place.now.database.now) place.now.ages place.now.area.now
-        place.now.router number before own) }
+    ensures { IfOk result (λ line. line ≡ link_value ages area.now router number before own) }
 {
-    let area = place.area.area();
     let neighbor = RouterId(own.link.id.0);
-    let theirs = interfaces_by(alloc, place.database, place.ages, area, neighbor)?;
-    let ends = far_ends(alloc, place.router, own, &theirs)?;
-    let network = network_of(place.area.lsas(), own.link);
+    let theirs = interfaces_by(alloc, area.database(), ages, area.area(), neighbor)?;
+    let ends = far_ends(alloc, router, own, &theirs)?;
+    let network = network_of(area.lsas(), own.link);
     let network = network.as_ref();
     Ok(LinkLine {
-        router: place.router,
-        area,
+        router,
+        area: area.area(),
         number: number + 1,
         link: own.link,
-        back: costs_of(alloc, network, place.router, own.link, &ends)?,
+        back: costs_of(alloc, network, router, own.link, &ends)?,
         peers: addrs_of(alloc, &ends)?,
         net: net_of(network, own.link),
         stub: stub_of(number + 1, own),
@@ -111,21 +101,20 @@ fn link_line<A: Allocator + Copy>(
     })
 }
 
-/// Adds what is said of each link of a router in an area, in the order of the router-LSA.
+/// Adds what is said of each link of a router in an area, in the order of its live router-LSA.
 fn push_links<A: Allocator + Copy>(
     lines: &mut Vec<LinkLine<A>, A>,
     alloc: A,
-    place: &Place<'_, A>,
+    area: &UsedArea<'_, A>,
+    router: RouterId,
 ) -> Result<(), AllocError>
-    ensures { OnOk result (lines.new.items ≡ lines.old.items
-        ++ link_values (lists_of place.now.database.now) place.now.ages place.now.area.now
-        place.now.router) }
+    ensures { OnOk result (lines.new.items ≡ lines.old.items ++ link_values router area.now) }
 {
-    let area = place.area.area();
-    let all = interfaces_by(alloc, place.database, place.ages, area, place.router)?;
+    let all = interfaces_by(alloc, area.database(), Ages::Live, area.area(), router)?;
     for number in 0..all.len() {
         let before = interface_numbered(number, &all);
-        lines.push(link_line(alloc, place, number, before, all[number])?)?;
+        let own = all[number];
+        lines.push(link_line(alloc, area, Ages::Live, router, number, before, own)?)?;
     }
     Ok(())
 }
@@ -134,32 +123,21 @@ fn push_links<A: Allocator + Copy>(
 fn push_links_in_areas<A: Allocator + Copy>(
     lines: &mut Vec<LinkLine<A>, A>,
     alloc: A,
-    database: &Database<A>,
     areas: &[UsedArea<'_, A>],
     router: RouterId,
 ) -> Result<(), AllocError>
-    ensures { OnOk result (lines.new.items ≡ lines.old.items
-        ++ links_in_areas (lists_of database.now) areas.now router) }
+    ensures { OnOk result (lines.new.items
+        ≡ lines.old.items ++ links_in_areas areas.now router) }
 {
     for area in areas {
-        let ages = Ages::Live;
-        push_links(
-            lines,
-            alloc,
-            &Place {
-                database,
-                ages,
-                area,
-                router,
-            },
-        )?;
+        push_links(lines, alloc, area, router)?;
     }
     Ok(())
 }
 
 /// What is said of each link of the live router-LSAs of some routers, by router, area and number.
 ///
-/// It takes time in proportion to the number of links of each neighbor, for each link.
+/// For each link, it takes time in proportion to the number of the neighbor's links.
 ///
 /// # Errors
 ///
@@ -175,7 +153,7 @@ pub fn link_lines<A: Allocator + Copy>(
     let areas = used_areas(alloc, database)?;
     let mut lines = Vec::new(alloc);
     for router in routers {
-        push_links_in_areas(&mut lines, alloc, database, &areas, *router)?;
+        push_links_in_areas(&mut lines, alloc, &areas, *router)?;
     }
     Ok(lines)
 }
@@ -201,13 +179,9 @@ pub fn link_line_at<A: Allocator + Copy>(
     let Some(own) = interface_numbered(number, &all) else {
         return Ok(None);
     };
-    let before = number.saturating_sub(1);
-    let place = Place {
-        database,
-        ages: Ages::Any,
-        area: &UsedArea::of(alloc, database, area)?,
-        router,
-    };
-    let line = link_line(alloc, &place, before, interface_numbered(before, &all), own)?;
+    let last = number.saturating_sub(1);
+    let before = interface_numbered(last, &all);
+    let used = UsedArea::of(alloc, database, area)?;
+    let line = link_line(alloc, &used, Ages::Any, router, last, before, own)?;
     Ok(Some(line))
 }

@@ -3,11 +3,13 @@
 
 ghost use Rattle.std.specs.Prelude.{◌≡◌, ◌<◌, ◌^◌, IfOk, option_map};
 ghost use Rattle.std.specs.Option.{option_copied};
-ghost use Rattle.link_report.specs.Links.{back_of, interface_numbered, net_of_link, network_of, owner_of, stub_of};
+ghost use Rattle.lsa_codec.specs.Links.{is_transit};
+ghost use Rattle.interfaces.specs.Networks.{network_lsa_in};
+ghost use Rattle.link_report.specs.Links.{back_of, cost_from_network, interface_numbered, is_listed, net_of_link, network_of, owner_of, stub_of};
 
 use area_graph::VertexLsa;
 use interfaces::{Interface, costs_back, lists_router, network_lsa_in, stub_between};
-use lsa_codec::{Link, LinkKind, NetworkView, Prefix, RouterId};
+use lsa_codec::{Addr, Link, LinkKind, NetworkView, Prefix, RouterId};
 use std::alloc::{AllocError, Allocator};
 
 /// The stub link of an interface.
@@ -26,6 +28,17 @@ fn is_transit(link: Link) -> bool
     matches!(link.kind, LinkKind::Transit)
 }
 
+/// The network-LSA in use of the network whose Designated Router has this address.
+fn network_with<'a, A: Allocator + Copy>(
+    used: &[VertexLsa<'a, A>],
+    address: Addr,
+) -> Option<NetworkView<'a>>
+    ensures { result ≡ network_lsa_in used.now address }
+{
+    let lsa = network_lsa_in(used, address)?;
+    lsa.network()
+}
+
 /// The network-LSA in use of the network that a transit link leads to. Other links have none.
 pub(crate) fn network_of<'a, A: Allocator + Copy>(
     used: &[VertexLsa<'a, A>],
@@ -33,11 +46,21 @@ pub(crate) fn network_of<'a, A: Allocator + Copy>(
 ) -> Option<NetworkView<'a>>
     ensures { result ≡ network_of used.now link }
 {
-    if !is_transit(link) {
-        return None;
+    if is_transit(link) {
+        network_with(used, link.id)
+    } else {
+        None
     }
-    let lsa = network_lsa_in(used, link.id)?;
-    lsa.network()
+}
+
+/// Whether a network-LSA is there and lists a router.
+fn is_listed(network: Option<&NetworkView<'_>>, router: RouterId) -> bool
+    ensures { result ≡ is_listed (option_copied network.entry) router }
+{
+    match network {
+        Some(lsa) => lists_router(lsa, router),
+        None => false,
+    }
 }
 
 /// The cost from a network to a router, 0, where the network's LSA lists the router.
@@ -50,9 +73,7 @@ fn cost_from_network<A: Allocator + Copy>(
         (λ costs. costs.items ≡ cost_from_network (option_copied network.entry) router) }
 {
     let mut costs = Vec::new(alloc);
-    if let Some(network) = network
-        && lists_router(network, router)
-    {
+    if is_listed(network, router) {
         costs.push(0)?;
     }
     Ok(costs)

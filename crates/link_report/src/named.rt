@@ -1,8 +1,9 @@
 //! The links that a word of an edit names.
 
-ghost use Rattle.std.specs.Prelude.{◌≡◌, IfOk};
+ghost use Rattle.std.specs.Prelude.{◌≡◌, [], ◌∷◌, ◌++◌, if◌then◌else◌, IfOk, OnOk};
 ghost use Rattle.link_report.specs.NamedLinks.{has_address, is_named, leads_to_router, link_numbers};
 
+use crate::lists::links_of;
 use lsa_codec::{Addr, Link, LinkKind, RouterView};
 use std::alloc::{AllocError, Allocator};
 use study_arguments::LinkName;
@@ -26,14 +27,30 @@ fn leads_to_router(link: Link, router: Addr) -> bool
 }
 
 /// Whether a word names a link with this number.
-fn is_named(name: LinkName, number: u16, link: Link) -> bool
-    ensures { result ≡ is_named name number link }
+fn is_named(name: &LinkName, number: u16, link: Link) -> bool
+    ensures { result ≡ is_named name.now number link }
 {
-    match name {
+    match *name {
         LinkName::Number(named) => named == number,
         LinkName::Address(address) => has_address(link, address) || leads_to_router(link, address),
         LinkName::Prefix(prefix) => link.net() == Some(prefix),
     }
+}
+
+/// Adds the number of a link, if a word names the link.
+fn push_named<A: Allocator + Copy>(
+    numbers: &mut Vec<u16, A>,
+    name: &LinkName,
+    number: u16,
+    link: Link,
+) -> Result<(), AllocError>
+    ensures { OnOk result (numbers.new.items
+        ≡ numbers.old.items ++ (if is_named name.now number link then number ∷ [] else [])) }
+{
+    if is_named(name, number, link) {
+        numbers.push(number)?;
+    }
+    Ok(())
 }
 
 /// The numbers of the links of a router-LSA that a word names, in rising order, counted from 1: the
@@ -46,17 +63,14 @@ fn is_named(name: LinkName, number: u16, link: Link) -> bool
 pub fn link_numbers<A: Allocator + Copy>(
     alloc: A,
     lsa: &RouterView<'_>,
-    name: LinkName,
+    name: &LinkName,
 ) -> Result<Vec<u16, A>, AllocError>
-    ensures { IfOk result (λ numbers. numbers.items ≡ link_numbers name lsa.now) }
+    ensures { IfOk result (λ numbers. numbers.items ≡ link_numbers name.now lsa.now) }
 {
-    let links: Vec<Link, A> = lsa.links().collect(alloc)?;
+    let links = links_of(alloc, lsa)?;
     let mut numbers = Vec::new(alloc);
     for place in 0..lsa.link_count() {
-        let number = place + 1;
-        if is_named(name, number, links[usize::from(place)]) {
-            numbers.push(number)?;
-        }
+        push_named(&mut numbers, name, place + 1, links[usize::from(place)])?;
     }
     Ok(numbers)
 }

@@ -1,14 +1,12 @@
 //! What is said of each transit network.
 
-ghost use Rattle.std.specs.Prelude.{◌≡◌, ◌++◌, IfOk, OnOk, filter, map, not};
-ghost use Rattle.std.specs.List.{filter_map, flat_map};
-ghost use Rattle.lsa_codec.specs.Order.{router_cmp};
+ghost use Rattle.std.specs.Prelude.{◌≡◌, ◌++◌, IfOk, OnOk};
+ghost use Rattle.std.specs.List.{filter_map};
 ghost use Rattle.lsdb.specs.Slots.{lists_of};
-ghost use Rattle.area_graph.specs.Rising.{rising};
-ghost use Rattle.link_report.specs.Networks.{joined_routers, network_cmp, network_in, network_place, network_value, networks_in, network_values, one_way_routers};
+ghost use Rattle.link_report.specs.Networks.{joined, network_in, network_place, network_value, network_values, networks_in, not_joined};
 
 use crate::areas::{UsedArea, used_areas};
-use crate::order::rising;
+use crate::lists::rising;
 use area_graph::VertexLsa;
 use interfaces::{Member, members_of, network_lsa_in};
 use lsa_codec::{Addr, AreaId, Lsa, Prefix, RouterId};
@@ -66,70 +64,60 @@ fn network_place<A: Allocator + Copy>(lsa: &Lsa<A>) -> Option<NetworkPlace>
     })
 }
 
-/// The places of the network-LSAs of an area, in their order.
+/// The places of the network-LSAs of an area.
 fn places<A: Allocator + Copy>(
     alloc: A,
     used: &[VertexLsa<'_, A>],
 ) -> Result<Vec<NetworkPlace, A>, AllocError>
-    ensures { IfOk result (λ places. places.items
-        ≡ rising network_cmp (filter_map network_place used.now)) }
+    ensures { IfOk result (λ places. places.items ≡ filter_map network_place used.now) }
 {
-    let found: Vec<NetworkPlace, A> = used
-        .iter()
+    used.iter()
         .filter_map(|vertex| network_place(vertex.lsa()))
-        .collect(alloc)?;
-    rising(alloc, &found)
+        .collect(alloc)
 }
 
-/// The members that have a link to the network, in rising order.
-fn joined_routers<A: Allocator + Copy>(
-    alloc: A,
-    members: &[Member],
-) -> Result<Vec<RouterId, A>, AllocError>
-    ensures { IfOk result (λ routers. routers.items ≡ joined_routers members.now) }
+/// The members that have a link to the network.
+fn joined<A: Allocator + Copy>(alloc: A, members: &[Member]) -> Result<Vec<RouterId, A>, AllocError>
+    ensures { IfOk result (λ routers. routers.items ≡ joined members.now) }
 {
-    let found: Vec<RouterId, A> = members
+    members
         .iter()
         .filter(|member| member.is_joined)
         .map(|member| member.router)
-        .collect(alloc)?;
-    rising(alloc, &found)
+        .collect(alloc)
 }
 
-/// The members that have no link to the network, in rising order.
-fn one_way_routers<A: Allocator + Copy>(
+/// The members that have no link to the network.
+fn not_joined<A: Allocator + Copy>(
     alloc: A,
     members: &[Member],
 ) -> Result<Vec<RouterId, A>, AllocError>
-    ensures { IfOk result (λ routers. routers.items ≡ one_way_routers members.now) }
+    ensures { IfOk result (λ routers. routers.items ≡ not_joined members.now) }
 {
-    let found: Vec<RouterId, A> = members
+    members
         .iter()
         .filter(|member| !member.is_joined)
         .map(|member| member.router)
-        .collect(alloc)?;
-    rising(alloc, &found)
+        .collect(alloc)
 }
 
 /// What is said of the network at a place.
 fn network_line<A: Allocator + Copy>(
     alloc: A,
-    database: &Database<A>,
-    area: AreaId,
+    area: &UsedArea<'_, A>,
     place: NetworkPlace,
     lsa: &Lsa<A>,
 ) -> Result<NetworkLine<A>, AllocError>
-    ensures { IfOk result
-        (λ line. line ≡ network_value (lists_of database.now) area place lsa.now) }
+    ensures { IfOk result (λ line. line ≡ network_value area.now place lsa.now) }
 {
-    let members = members_of(alloc, database, area, lsa)?;
+    let members = members_of(alloc, area.database(), area.area(), lsa)?;
     Ok(NetworkLine {
-        area,
+        area: area.area(),
         net: place.net,
         address: place.address,
         router: lsa.key().adv,
-        members: joined_routers(alloc, &members)?,
-        one_way: one_way_routers(alloc, &members)?,
+        members: rising(alloc, &joined(alloc, &members)?)?,
+        one_way: rising(alloc, &not_joined(alloc, &members)?)?,
     })
 }
 
@@ -137,15 +125,13 @@ fn network_line<A: Allocator + Copy>(
 fn push_network<A: Allocator + Copy>(
     lines: &mut Vec<NetworkLine<A>, A>,
     alloc: A,
-    database: &Database<A>,
     area: &UsedArea<'_, A>,
     place: NetworkPlace,
 ) -> Result<(), AllocError>
-    ensures { OnOk result (lines.new.items
-        ≡ lines.old.items ++ network_in (lists_of database.now) area.now place) }
+    ensures { OnOk result (lines.new.items ≡ lines.old.items ++ network_in area.now place) }
 {
     if let Some(lsa) = network_lsa_in(area.lsas(), place.address) {
-        lines.push(network_line(alloc, database, area.area(), place, lsa)?)?;
+        lines.push(network_line(alloc, area, place, lsa)?)?;
     }
     Ok(())
 }
@@ -154,15 +140,13 @@ fn push_network<A: Allocator + Copy>(
 fn push_networks<A: Allocator + Copy>(
     lines: &mut Vec<NetworkLine<A>, A>,
     alloc: A,
-    database: &Database<A>,
     area: &UsedArea<'_, A>,
 ) -> Result<(), AllocError>
-    ensures { OnOk result (lines.new.items
-        ≡ lines.old.items ++ networks_in (lists_of database.now) area.now) }
+    ensures { OnOk result (lines.new.items ≡ lines.old.items ++ networks_in area.now) }
 {
-    let places = places(alloc, area.lsas())?;
+    let places = rising(alloc, &places(alloc, area.lsas())?)?;
     for place in &places {
-        push_network(lines, alloc, database, area, *place)?;
+        push_network(lines, alloc, area, *place)?;
     }
     Ok(())
 }
@@ -182,7 +166,7 @@ pub fn network_lines<A: Allocator + Copy>(
     let areas = used_areas(alloc, database)?;
     let mut lines = Vec::new(alloc);
     for area in &areas {
-        push_networks(&mut lines, alloc, database, area)?;
+        push_networks(&mut lines, alloc, area)?;
     }
     Ok(lines)
 }

@@ -10,6 +10,7 @@ ghost use Rattle.link_report.specs.Areas.{area_ids};
 ghost use Rattle.link_report.specs.Routers.{has_flag, router_value, router_values};
 
 use crate::areas::area_ids;
+use crate::lists::links_of;
 use area_routes::is_attached;
 use interfaces::router_lsa_of;
 use lsa_codec::{AreaId, Link, LinkKind, RouterId, RouterView};
@@ -101,7 +102,7 @@ fn has_flag(lsas: &[RouterView<'_>], bit: u8) -> bool
 }
 
 /// The links of some router-LSAs.
-fn links_of<A: Allocator + Copy>(
+fn all_links<A: Allocator + Copy>(
     alloc: A,
     lsas: &[RouterView<'_>],
 ) -> Result<Vec<Link, A>, AllocError>
@@ -109,7 +110,7 @@ fn links_of<A: Allocator + Copy>(
 {
     let mut links = Vec::new(alloc);
     for lsa in lsas {
-        let mut more: Vec<Link, A> = lsa.links().collect(alloc)?;
+        let mut more = links_of(alloc, lsa)?;
         links.append(&mut more)?;
     }
     Ok(links)
@@ -153,7 +154,7 @@ fn router_line<A: Allocator + Copy>(
     ensures { IfOk result (λ line. line ≡ router_value (lists_of database.now) router) }
 {
     let lsas = router_lsas(alloc, database, areas, router)?;
-    let links = links_of(alloc, &lsas)?;
+    let links = all_links(alloc, &lsas)?;
     Ok(RouterLine {
         router,
         areas: areas_of_router(alloc, database, areas, router)?,

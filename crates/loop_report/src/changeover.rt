@@ -42,7 +42,8 @@ fn at_atoms<A: Allocator + Copy>(
 {
     let mut loops = Vec::new(alloc);
     for net in nets {
-        loops.append(&mut at_atom(alloc, compared, *net)?)?;
+        let mut part = at_atom(alloc, compared, *net)?;
+        loops.append(&mut part)?;
     }
     Ok(loops)
 }

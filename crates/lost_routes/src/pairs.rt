@@ -81,9 +81,9 @@ fn pairs_by<A: Allocator + Copy>(
 {
     let mut lost = Vec::new(alloc);
     let mut gone = Vec::new(alloc);
-    for is in routers {
-        let router = is.router();
-        let found = lost_since(alloc, baseline, now, were.routes_of(router), is)?;
+    for routes in routers {
+        let router = routes.router();
+        let found = lost_since(alloc, baseline, now, were.routes_of(router), routes)?;
         push_pairs(&mut lost, router, found.lost())?;
         push_pairs(&mut gone, router, found.gone())?;
     }

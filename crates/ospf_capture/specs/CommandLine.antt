@@ -1,15 +1,11 @@
 -- The command line of the program, as clap reads it.
 use Rattle.std.specs.Prelude.{◌≡◌, ℕ, List, Some, codes, map, nat_lt, true, option_map, if◌then◌else◌}
 use Rattle.clap.specs.Words.{App, Rule, Text, new_rule, with_rule}
-use Rattle.clap.specs.declared.builder.action.ArgAction.TheVariants.{Append, Count, Set}
-use Rattle.host_arguments.specs.Commands.{named, times_given, value_of, value_rule, values_of}
+use Rattle.clap.specs.declared.builder.action.ArgAction.TheVariants.{Append, Set}
+use Rattle.host_arguments.specs.Commands.{flag_rule, named, times_given, value_of, value_rule, values_of}
 use Rattle.lsa_instances.specs.declared.keeping.FlushedLsas.{FlushedLsas}
 use Rattle.lsa_instances.specs.declared.keeping.FlushedLsas.TheVariants.{Kept, LeftOut}
 use Rattle.ospf_capture.specs.declared.arguments.Options.{Options}
-
--- the option `--keep-flushed`, once or more
-abbrev pub keep_rule : Rule
-keep_rule = record (new_rule (codes "keep-flushed")) { long = Some (codes "keep-flushed"); action = Some Count }
 
 -- the words `FILE..`, one at least
 abbrev pub files_rule : Rule
@@ -20,7 +16,7 @@ abbrev pub ospf_capture : App
 ospf_capture = with_rule
     (with_rule
     (with_rule (with_rule (named (codes "ospf-capture")) (value_rule (codes "out") Set)) (value_rule (codes "against") Append))
-    keep_rule)
+    (flag_rule (codes "keep-flushed")))
     files_rule
 
 -- kept where the option is given

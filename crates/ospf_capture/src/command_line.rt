@@ -2,16 +2,17 @@
 
 ghost use Rattle.std.specs.Prelude.{◌≡◌, false, [], codes, map, string_bytes, IfOk, IfErr, OnOk};
 ghost use Rattle.clap.specs.Words.{app_of, count_of, fault_of, found_of, rows_of, rule_of};
-ghost use Rattle.host_arguments.specs.Commands.{values_in};
 ghost use Rattle.host_arguments.specs.OptionsFaults.{IsRefusal};
-ghost use Rattle.ospf_capture.specs.CommandLine.{files_rule, keep_rule};
+ghost use Rattle.ospf_capture.specs.CommandLine.{files_rule};
 ghost use Rattle.ospf_capture.specs.CommandLine.{kept_where, ospf_capture, IsGiven};
 ghost use Rattle.ospf_capture.specs.steps.FoundFiles.{IsRead};
 
 use crate::arguments::Options;
 use crate::help::{ABOUT, DETAILS, VERSION};
 use clap::{Arg, ArgAction, ArgMatches, Command};
-use host_arguments::{CommandTexts, OptionsFault, named_command, value_option};
+use host_arguments::{
+    CommandTexts, OptionsFault, flag_option, named_command, value_option, values_found,
+};
 use lsa_instances::FlushedLsas;
 use std::alloc::{AllocError, Global};
 
@@ -58,19 +59,12 @@ fn command<'a>(alloc: Global) -> Result<Command<'a>, AllocError>
             "Compare the dump with this list of another router's LSAs; may be given again",
             ArgAction::Append,
         ))?
-        .arg(keep_option(alloc))?
+        .arg(flag_option(
+            alloc,
+            "keep-flushed",
+            "Keep flushed LSAs in the dump, at MaxAge",
+        ))?
         .arg(file_words(alloc))
-}
-
-/// The option `--keep-flushed`.
-fn keep_option<'a>(alloc: Global) -> Arg<'a>
-    ensures rule { rule_of result ≡ keep_rule }
-    ensures local { result.global ≡ false }
-{
-    Arg::new(alloc, "keep-flushed")
-        .long("keep-flushed")
-        .help("Keep flushed LSAs in the dump, at MaxAge")
-        .action(ArgAction::Count)
 }
 
 /// The words `FILE..`.
@@ -92,8 +86,8 @@ fn named_files<'a>(alloc: Global, matches: &ArgMatches<'a>) -> Result<Options<'a
     Ok(Options {
         out: matches.get_str("out"),
         flushed: flushed_lsas(matches),
-        against: names_of(alloc, matches, "against")?,
-        files: names_of(alloc, matches, "files")?,
+        against: values_found(alloc, matches, "against")?,
+        files: values_found(alloc, matches, "files")?,
     })
 }
 
@@ -106,20 +100,5 @@ fn flushed_lsas(matches: &ArgMatches<'_>) -> FlushedLsas
         FlushedLsas::LeftOut
     } else {
         FlushedLsas::Kept
-    }
-}
-
-/// The words that clap found for an argument; none where it is not given.
-fn names_of<'a>(
-    alloc: Global,
-    matches: &ArgMatches<'a>,
-    id: &str,
-) -> Result<Vec<&'a str>, AllocError>
-    ensures { IfOk result (λ names.
-        map (λ name. name.now) names.items ≡ values_in (found_of matches.now) id.now) }
-{
-    match matches.get_strs(id) {
-        None => Ok(Vec::new(alloc)),
-        Some(words) => Vec::from_slice(alloc, words),
     }
 }

@@ -1,5 +1,5 @@
 -- A route as studies show it: what a router uses for a prefix (RFC 2328, 11), with the neighbors and interfaces of its ways.
-use Rattle.std.specs.Prelude.{ℕ, Bool, true, false, List, Option}
+use Rattle.std.specs.Prelude.{Bool, true, false, List, Option}
 use Rattle.lsa_codec.specs.Prefix.{Net}
 use Rattle.lsa_codec.specs.declared.address.Addr.{Addr}
 use Rattle.lsa_codec.specs.declared.address.AreaId.{AreaId}

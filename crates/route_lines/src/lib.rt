@@ -35,6 +35,3 @@ pub use route_line::RouteLine;
 pub use route_source::RouteSource;
 pub use route_text::{push_route, push_routes};
 pub use route_way::{RouteWay, WayTarget};
-
-#[test]
-fn compiles() {}

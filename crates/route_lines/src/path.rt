@@ -10,7 +10,7 @@ use std::alloc::{Allocator, Global};
 use std::marker::Model;
 
 /// What becomes of a packet, as all walks from a router may take it.
-#[derive(Debug, Drop)]
+#[derive(Drop)]
 pub struct Path<A: Allocator = Global> {
     /// The routers that walks reach: by the least number of steps, then by Router ID.
     pub routers: Vec<RouterId, A>,

@@ -8,7 +8,7 @@ use std::marker::Model;
 use study_text::{Shown, push_list};
 
 /// The routers of a loop, in rising order. Contracts see it as this list.
-#[derive(Debug, Drop)]
+#[derive(Drop)]
 pub struct PathLoop<A: Allocator = Global> {
     /// The routers.
     pub routers: Vec<RouterId, A>,

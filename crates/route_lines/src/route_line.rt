@@ -7,7 +7,7 @@ use std::alloc::{Allocator, Global};
 use std::marker::Model;
 
 /// What a router uses for a prefix.
-#[derive(Debug, Drop)]
+#[derive(Drop)]
 pub struct RouteLine<A: Allocator = Global> {
     /// The prefix.
     pub net: Prefix,

@@ -17,7 +17,7 @@ pub enum WayTarget {
 }
 
 /// A way of a route.
-#[derive(Debug, Drop)]
+#[derive(Drop)]
 pub struct RouteWay<A: Allocator = Global> {
     /// Where it leads.
     pub target: WayTarget,

@@ -67,3 +67,7 @@ answered db r (Some address) = cons_option (line_at db r address) []
 
 abbrev pub routes_of : Lists → RouterId → Option Addr → List RouteLineValue
 routes_of db router address = answered db (router_in db router) address
+
+-- what a router uses for exactly this prefix
+abbrev pub route_of : Lists → RouterId → Net → Option RouteLineValue
+route_of db router net = line_for db (router_in db router) net

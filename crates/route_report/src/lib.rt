@@ -27,4 +27,4 @@ pub use line::{route_line, route_line_at};
 pub use path::path_of;
 pub use path_condition::path_holds;
 pub use route_condition::{has_route, hops_of, meets, push_found_route};
-pub use routes::routes_of;
+pub use routes::{route_of, routes_of};

@@ -4,7 +4,7 @@ ghost use Rattle.std.specs.Prelude.{◌≡◌, ◌++◌, [], IfOk, OnOk, Some};
 ghost use Rattle.std.specs.List.{cons_option, filter_map};
 ghost use Rattle.lsdb.specs.Slots.{lists_of};
 ghost use Rattle.forwarding.specs.Owners.{AreGraphsOf};
-ghost use Rattle.route_report.specs.Lines.{answered, line_for, lines_of, routes_of};
+ghost use Rattle.route_report.specs.Lines.{answered, line_for, lines_of, route_of, routes_of};
 
 use crate::line::{route_line, route_line_at};
 use forwarding::{AreaGraphs, RouterRoutes};
@@ -100,4 +100,24 @@ pub fn routes_of<A: Allocator + Copy>(
         Some(address) => matched(alloc, database, &graphs, &routes, address),
         None => all_lines(alloc, database, &graphs, &routes),
     }
+}
+
+/// What a router uses for exactly this prefix, if it has an entry for it. The meter counts the trees
+/// of the router's table.
+///
+/// # Errors
+///
+/// Memory ran out.
+pub fn route_of<A: Allocator + Copy>(
+    alloc: A,
+    database: &Database<A>,
+    router: RouterId,
+    net: Prefix,
+    meter: &mut Meter,
+) -> Result<Option<RouteLine<A>>, AllocError>
+    ensures { IfOk result (λ line. line ≡ route_of (lists_of database.now) router net) }
+{
+    let graphs = AreaGraphs::of(alloc, database)?;
+    let routes = RouterRoutes::of(alloc, database, router, meter)?;
+    route_line(alloc, database, &graphs, &routes, net)
 }

@@ -55,7 +55,7 @@ fn addresses_over<A: Allocator + Copy>(
             };
             far_addresses(alloc, database, leg)
         }
-        Hop::Gateway(_, address) => Vec::from_array(alloc, [address]),
+        Hop::Gateway(_, address) => Ok(Vec::from_array(alloc, [address])?),
         Hop::Connected | Hop::Attached(_) => Ok(Vec::new(alloc)),
     }
 }

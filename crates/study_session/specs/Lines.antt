@@ -1,5 +1,5 @@
 -- What lines are answered, and the study after them.
-use Rattle.std.specs.Prelude.{◌≡◌, ℕ, Bool, false, List, [], ◌∷◌, ◌++◌, Option, None, Some, Result, Ok, Err, codes}
+use Rattle.std.specs.Prelude.{◌≡◌, ℕ, false, List, [], ◌∷◌, ◌++◌, Option, None, Some, Result, Ok, Err, codes}
 use Rattle.branches.specs.Branches.{Sessions, stepped}
 use Rattle.branches.specs.Replies.{reported_text, reply_to}
 use Rattle.text_words.specs.Words.{Word}
@@ -10,9 +10,10 @@ use Rattle.study_hints.specs.Hints.{fault_text}
 use Rattle.study_script.specs.Line.{Asked, plan, named, see, expect, meaning}
 use Rattle.study_session.specs.declared.answer.Outcome.TheVariants as outcome
 use Rattle.study_session.specs.Answers.{AnswerValue, Study}
-use Rattle.study_session.specs.Expectations.{IsExpectationAnswer}
-use Rattle.study_session.specs.NamedCommands.{named_answer, named_stepped, plan_answer}
+use Rattle.study_session.specs.PlanAnswers.{plan_answer}
+use Rattle.study_session.specs.NamedCommands.{named_answer, named_stepped}
 use Rattle.study_session.specs.Questions.{IsQuestionAnswer}
+use Rattle.study_session.specs.Expectations.{IsExpectationAnswer}
 
 -- ---- one line
 

@@ -1,26 +1,27 @@
 -- Commands of `ospf-plan` in whose lines names stand, and what they are answered.
 use Rattle.std.specs.Prelude.{ℕ, nat_lt, if◌then◌else◌, List, [], ◌∷◌, ◌++◌, length, Option, None, Some, codes, decimal}
 use Rattle.std.specs.Option.{option_map_or}
-use Rattle.lsa_codec.specs.declared.address.AreaId.{AreaId}
 use Rattle.lsa_codec.specs.declared.address.RouterId.{RouterId}
+use Rattle.edit_history.specs.Session.{Session, most_edits, state}
+use Rattle.study_text.specs.Shown.{Called}
+use Rattle.link_report.specs.Links.{LinkValue, link_at}
+use Rattle.link_report.specs.LinkTexts.{description, name_text}
+use Rattle.branches.specs.Branches.{Sessions, stepped}
+use Rattle.lsa_codec.specs.declared.address.AreaId.{AreaId}
 use Rattle.edit_script.specs.declared.command.Command.{Command}
 use Rattle.edit_script.specs.declared.command.Command.TheVariants as command
 use Rattle.edit_script.specs.declared.edit.Edit.TheVariants as edit
-use Rattle.edit_history.specs.Session.{Session, most_edits, state}
-use Rattle.branches.specs.Branches.{Sessions, stepped}
-use Rattle.branches.specs.Replies.{Said, done, refused, mark_of, refusal_texts, reply_text, reply_to}
+use Rattle.branches.specs.Replies.{reply_to}
 use Rattle.study_arguments.specs.declared.link.LinkName.{LinkName}
-use Rattle.study_arguments.specs.declared.link.LinkName.TheVariants.{Number, Address, Prefix}
+use Rattle.study_arguments.specs.declared.link.LinkName.TheVariants.{Address, Number, Prefix}
 use Rattle.study_script.specs.declared.named_command.NamedCommand.{NamedCommand}
 use Rattle.study_script.specs.declared.named_command.NamedCommand.TheVariants as named_command
-use Rattle.study_text.specs.Shown.{Called}
 use Rattle.link_report.specs.AnyAge.{router_lsa_of_any_age}
-use Rattle.link_report.specs.LinkTexts.{description, name_text}
-use Rattle.link_report.specs.Links.{LinkValue, link_at}
 use Rattle.link_report.specs.NamedLinks.{link_numbers}
 use Rattle.study_session.specs.declared.link_edit.LinkEdit.{LinkEdit}
 use Rattle.study_session.specs.declared.link_edit.LinkEdit.TheVariants as link
-use Rattle.study_session.specs.Answers.{AnswerValue, accepted_answer, refused_answer}
+use Rattle.study_session.specs.Answers.{AnswerValue, refused_answer}
+use Rattle.study_session.specs.PlanAnswers.{changed_answer, plan_answer}
 
 -- ---- which link is named
 
@@ -43,18 +44,6 @@ abbrev pub named_number : Session → AreaId → RouterId → LinkName → Optio
 named_number s area router (Number number) = Some number
 named_number s area router (Address address) = number_found s area router (Address address)
 named_number s area router (Prefix net) = number_found s area router (Prefix net)
-
--- ---- answers
-
--- the answer to a command of `ospf-plan`: its reply
-abbrev pub plan_answer : ℕ → Said → AnswerValue
-plan_answer branch (refused why) = refused_answer branch (refusal_texts why)
-plan_answer branch said = accepted_answer (reply_text branch said)
-
--- the same of an edit that says what it changed
-abbrev pub changed_answer : ℕ → List ℕ → Said → AnswerValue
-changed_answer branch change done = accepted_answer (mark_of branch ++ codes "ok" ++ change ++ codes "\n")
-changed_answer branch change said = plan_answer branch said
 
 -- ---- edits of links that are named
 

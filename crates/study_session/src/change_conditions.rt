@@ -5,8 +5,8 @@ ghost use Rattle.network_names.specs.Names.{called};
 ghost use Rattle.lsdb.specs.Slots.{lists_of};
 ghost use Rattle.comparison.specs.Named.{gone as gone_pairs, lost as lost_pairs};
 ghost use Rattle.study_script.specs.Expected.{pairs_allowed};
-ghost use Rattle.study_session.specs.Expectations.{changes_verdict, few_verdict, pairs_verdict, same_verdict};
-ghost use Rattle.study_session.specs.Questions.{beside};
+ghost use Rattle.study_session.specs.ChangeVerdicts.{changes_verdict, few_verdict, pairs_verdict, same_verdict};
+ghost use Rattle.study_session.specs.ChangeAnswers.{beside};
 ghost use Rattle.study_session.specs.steps.Verdicts.{verdict_of};
 
 use crate::known::is_known;

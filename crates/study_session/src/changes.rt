@@ -3,7 +3,7 @@
 ghost use Rattle.std.specs.Prelude.{◌≡◌, ◌∷◌, [], IfOk, codes};
 ghost use Rattle.network_names.specs.Names.{called};
 ghost use Rattle.lsdb.specs.Slots.{lists_of};
-ghost use Rattle.study_session.specs.Questions.{beside, changes_answer, changes_of, changes_reply, gone_answer, lost_answer, pairs_reply};
+ghost use Rattle.study_session.specs.ChangeAnswers.{beside, changes_answer, changes_of, changes_reply, gone_answer, lost_answer, pairs_reply};
 
 use crate::answer::Answer;
 use crate::known::{is_known, no_router};

@@ -4,7 +4,8 @@ ghost use Rattle.std.specs.Prelude.{◌≡◌, IfOk, option_map};
 ghost use Rattle.network_names.specs.Names.{called};
 ghost use Rattle.lsdb.specs.Slots.{lists_of};
 ghost use Rattle.route_report.specs.Expected.{found_text};
-ghost use Rattle.study_session.specs.Expectations.{IsPathVerdict, found, hops_verdict, no_route_verdict, route_in, route_verdict};
+ghost use Rattle.study_session.specs.RouteVerdicts.{IsPathVerdict, hops_verdict, no_route_verdict, route_in, route_verdict};
+ghost use Rattle.study_session.specs.Verdicts.{found};
 ghost use Rattle.study_session.specs.steps.Verdicts.{verdict_of};
 
 use crate::known::{are_known, is_attached, is_known_passing};

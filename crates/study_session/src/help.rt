@@ -1,7 +1,7 @@
 //! The answer about the language.
 
 ghost use Rattle.std.specs.Prelude.{◌≡◌, ◌++◌, IfOk, OnOk};
-ghost use Rattle.study_session.specs.Questions.{help_answer};
+ghost use Rattle.study_session.specs.OwnAnswers.{help_answer};
 ghost use Rattle.study_session.specs.Texts.{word_after};
 
 use crate::answer::Answer;

@@ -8,6 +8,8 @@ ghost use Rattle.branches.specs.Replies.{reply_text, reply_to};
 ghost use Rattle.study_session.specs.Answers.{AnswerValue, Study};
 ghost use Rattle.study_session.specs.Lines.{IsAnswerTo, after_line};
 
+use study_script::plan_lines_mean_the_same;
+
 /// A line that `ospf-plan` takes has the reply that it gives, and leaves the sessions that it leaves.
 ///
 /// The function does nothing: its contract is the law.
@@ -18,4 +20,6 @@ pub fn plan_lines_are_answered_alike()
     ensures sessions { (s : Study) (line : List ℕ) (branch : ℕ) (c : AnyCommand)
         → plan_meaning line ≡ Ok (branch, c)
         → (after_line s line).sessions ≡ stepped branch c s.sessions }
-{}
+{
+    plan_lines_mean_the_same();
+}

@@ -3,7 +3,7 @@
 ghost use Rattle.std.specs.Prelude.{◌≡◌, IfOk};
 ghost use Rattle.network_names.specs.Names.{called};
 ghost use Rattle.lsdb.specs.Slots.{lists_of};
-ghost use Rattle.study_session.specs.Questions.{links_answer, links_text, networks_answer, routers_answer};
+ghost use Rattle.study_session.specs.LinkAnswers.{links_answer, links_text, networks_answer, routers_answer};
 
 use crate::answer::Answer;
 use crate::known::{is_attached, no_router};

@@ -3,7 +3,7 @@
 ghost use Rattle.std.specs.Prelude.{◌≡◌, ◌++◌, IfOk, OnOk};
 ghost use Rattle.edit_history.specs.Session.{edits_of};
 ghost use Rattle.saved_sessions.specs.Lines.{lines_of};
-ghost use Rattle.study_session.specs.Questions.{log_answer};
+ghost use Rattle.study_session.specs.OwnAnswers.{log_answer};
 
 use crate::answer::Answer;
 use crate::text::{head, push_number_after, push_word};

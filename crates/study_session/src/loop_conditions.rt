@@ -5,7 +5,8 @@ ghost use Rattle.network_names.specs.Names.{called};
 ghost use Rattle.lsdb.specs.Slots.{lists_of};
 ghost use Rattle.edit_history.specs.Session.{state};
 ghost use Rattle.branches.specs.Branches.{before_last, sessions_of};
-ghost use Rattle.study_session.specs.Expectations.{IsBlackholesVerdict, IsLoopsVerdict, IsMicroloopsVerdict, counted_text, found, is_none};
+ghost use Rattle.study_session.specs.LoopVerdicts.{IsBlackholesVerdict, IsLoopsVerdict, IsMicroloopsVerdict};
+ghost use Rattle.study_session.specs.Verdicts.{counted_text, found, is_none};
 ghost use Rattle.study_session.specs.steps.Verdicts.{verdict_of};
 
 use crate::verdict::Verdict;

@@ -5,7 +5,7 @@ ghost use Rattle.network_names.specs.Names.{called};
 ghost use Rattle.lsdb.specs.Slots.{lists_of};
 ghost use Rattle.edit_history.specs.Session.{state};
 ghost use Rattle.branches.specs.Branches.{before_last, sessions_of};
-ghost use Rattle.study_session.specs.Questions.{IsLoopsAnswer, IsMicroloopsAnswer, loops_reply, microloops_reply};
+ghost use Rattle.study_session.specs.LoopAnswers.{IsLoopsAnswer, IsMicroloopsAnswer, loops_reply, microloops_reply};
 
 use crate::answer::Answer;
 use crate::text::{head, push_number_after, push_word};

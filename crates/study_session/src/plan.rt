@@ -3,7 +3,7 @@
 ghost use Rattle.std.specs.Prelude.{◌≡◌, ◌++◌, ◌<◌, IfOk, OnOk};
 ghost use Rattle.branches.specs.Branches.{sessions_of, stepped};
 ghost use Rattle.branches.specs.Replies.{reply_to, said_by};
-ghost use Rattle.study_session.specs.NamedCommands.{changed_answer, plan_answer};
+ghost use Rattle.study_session.specs.PlanAnswers.{changed_answer, plan_answer};
 
 use crate::answer::Answer;
 use crate::text::{push_mark, push_word};

@@ -3,7 +3,7 @@
 ghost use Rattle.std.specs.Prelude.{◌≡◌, IfOk, OnOk, ◌++◌};
 ghost use Rattle.network_names.specs.Names.{called};
 ghost use Rattle.lsdb.specs.Slots.{lists_of};
-ghost use Rattle.study_session.specs.Questions.{IsPathAnswer, path_reply, routes_answer, routes_reply};
+ghost use Rattle.study_session.specs.RouteAnswers.{IsPathAnswer, path_reply, routes_answer, routes_reply};
 ghost use Rattle.study_session.specs.Texts.{address_after};
 
 use crate::answer::Answer;

@@ -1,7 +1,7 @@
 //! What is found of a condition.
 
 ghost use Rattle.std.specs.Prelude.{◌≡◌, IfOk};
-ghost use Rattle.study_session.specs.Expectations.{verdict_answer};
+ghost use Rattle.study_session.specs.Verdicts.{verdict_answer};
 ghost use Rattle.study_session.specs.steps.Verdicts.{verdict_of};
 
 use crate::answer::Answer;

@@ -14,8 +14,8 @@ use Rattle.lsdb.specs.BaseLoading.{begins_session, most_bytes, base_loaded}
 use Rattle.edit_history.specs.Session.{Session}
 use Rattle.saved_sessions.specs.Opening.{dump_loaded, opened, session_loaded}
 use Rattle.host_io.specs.WholeText.{ConsumesAtMost, ReadsAfter}
-use Rattle.whole_run.specs.Inputs.{most_read}
-use Rattle.whole_run.specs.steps.Reading.{IsTooLong, most_after}
+use Rattle.whole_run.specs.Inputs.{IsTooLong, most_read}
+use Rattle.whole_run.specs.steps.Reading.{most_after}
 
 -- ---- too many bytes
 

@@ -1,5 +1,5 @@
 -- The faults that the inputs of a run may end it with.
-use Rattle.std.specs.Prelude.{◌≡◌, ◌≢◌, ◌+◌, ℕ, List, Option, None, Some, Err, IsOk, IfSome}
+use Rattle.std.specs.Prelude.{◌≡◌, ◌≢◌, ◌+◌, ◌<◌, ℕ, List, length, Option, None, Some, Err, IsOk, IfSome}
 use Rattle.lsdb.specs.declared.fault.DumpFaultKind.TheVariants as kind
 use Rattle.lsdb.specs.declared.fault.DumpFault.{DumpFault}
 use Rattle.lsdb.specs.Limits.{longest_session}
@@ -19,6 +19,10 @@ IsRefusedDump known fault = (fault.kind ≢ kind.OutOfMemory) × IfSome known (�
 abbrev pub most_read : Option (List ℕ) → ℕ
 most_read None = longest_session + 1
 most_read (Some bytes) = most_bytes bytes + 1
+
+-- more bytes than a dump, or a session, may have, by what they begin with
+abbrev pub IsTooLong : List ℕ → Type 0
+IsTooLong bytes = most_bytes bytes < length bytes
 
 -- a script may have this number of bytes: 2^20
 abbrev pub longest_script : ℕ

@@ -9,8 +9,8 @@ ghost use Rattle.lsdb.specs.Loading.{IsFirstFault};
 ghost use Rattle.saved_sessions.specs.Opening.{opened};
 ghost use Rattle.branches.specs.Branches.{sessions_of};
 ghost use Rattle.whole_run.specs.Run.{begun};
-ghost use Rattle.whole_run.specs.Inputs.{IsAccepted, longest_script, most_read};
-ghost use Rattle.whole_run.specs.steps.Reading.{IsDumpEnd, IsScriptEnd, IsTooLong, most_after};
+ghost use Rattle.whole_run.specs.Inputs.{IsAccepted, IsTooLong, longest_script, most_read};
+ghost use Rattle.whole_run.specs.steps.Reading.{IsDumpEnd, IsScriptEnd, most_after};
 
 use crate::fault::RunFault;
 use branches::Branches;
@@ -47,7 +47,14 @@ fn read_on<A: Allocator + Copy, R: Read>(
 }
 
 /// Reads the bytes of a dump, or of a session, whole.
-fn read_bytes<A: Allocator + Copy, R: Read>(
+///
+/// At most one byte past those that it may have is read.
+///
+/// # Errors
+///
+/// `Failed` exactly where a read failed, `TooLarge` only where there are more bytes than a dump, or
+/// a session, may have, and `OutOfMemory` where a growth was refused.
+pub fn read_dump<A: Allocator + Copy, R: Read>(
     alloc: A,
     dump: &mut Watched<R>,
 ) -> Result<Vec<u8, A>, ReadFault>
@@ -82,7 +89,7 @@ pub(crate) fn read_branches<A: Allocator + Copy, R: Read>(
     ensures bounded { ConsumesAtMost (R.remaining (inner_of dump.old))
         (R.remaining (inner_of dump.new)) (most_read (R.remaining (inner_of dump.old))) }
 {
-    let bytes = match read_bytes(alloc, dump) {
+    let bytes = match read_dump(alloc, dump) {
         Ok(bytes) => bytes,
         Err(ReadFault::Failed) => return Err(RunFault::Read),
         Err(ReadFault::TooLarge) => return Err(RunFault::Dump(TOO_LARGE)),

@@ -16,6 +16,7 @@ mod sample;
 mod script;
 
 pub use fault::RunFault;
+pub use inputs::read_dump;
 pub use laws::{branches_are_apart, runs_refuse_no_edit};
 pub use running::run;
 pub use sample::SAMPLE;

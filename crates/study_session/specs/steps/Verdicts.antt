@@ -1,8 +1,8 @@
 -- What is found of a condition, as the code has it.
 use Rattle.study_session.specs.declared.verdict.Verdict.{Verdict}
 use Rattle.study_session.specs.declared.verdict.Verdict.TheVariants as of
-use Rattle.study_session.specs.Expectations.{VerdictValue, found, unknown}
-use Rattle.study_session.specs.Questions.{no_router, too_few_done}
+use Rattle.study_session.specs.Known.{no_router, too_few_done}
+use Rattle.study_session.specs.Verdicts.{VerdictValue, found, unknown}
 
 abbrev pub verdict_of : {A : Type 0} → Verdict A → VerdictValue
 verdict_of of.NoRouter = unknown no_router

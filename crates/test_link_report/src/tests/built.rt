@@ -79,7 +79,7 @@ pub(super) fn link_text(alloc: Global, text: &str, number: u16) -> Result<String
 }
 
 /// The numbers of the links of 1.1.1.1 in the backbone that a word names.
-pub(super) fn numbers(alloc: Global, text: &str, name: LinkName) -> Result<String, Fail> {
+pub(super) fn numbers(alloc: Global, text: &str, name: &LinkName) -> Result<String, Fail> {
     let database = database(alloc, text)?;
     let lsa = router_lsa_of_any_age(&database, AreaId(0), RouterId(0x0101_0101)).ok_or("no LSA")?;
     let numbers = link_numbers(alloc, &lsa, name)?;

@@ -42,7 +42,7 @@ fn words_name_links(rt: HostRuntime) -> Result<(), Fail> {
         (LinkName::Address(Addr(0x0a00_0c00)), "[]"),
         (LinkName::Prefix(net), "[2, 5]"),
     ] {
-        let found = numbers(rt.alloc(), AT_MAX_AGE, name)?;
+        let found = numbers(rt.alloc(), AT_MAX_AGE, &name)?;
         assert_eq!(rt; found.as_str(), wanted, "{name:?}");
     }
     Ok(())

@@ -1,7 +1,7 @@
 -- How the reading of each input may end.
-use Rattle.std.specs.Prelude.{ℕ, ◌+◌, ◌-◌, ◌<◌, List, length, Option, if◌then◌else◌}
+use Rattle.std.specs.Prelude.{ℕ, ◌+◌, ◌-◌, List, length, Option, if◌then◌else◌}
 use Rattle.lsdb.specs.Limits.{longest_session}
-use Rattle.lsdb.specs.BaseLoading.{begins_session, most_bytes}
+use Rattle.lsdb.specs.BaseLoading.{begins_session}
 use Rattle.whole_run.specs.Inputs.{IsRefusedDump}
 use Rattle.whole_run.specs.declared.fault.RunFault.{RunFault}
 use Rattle.whole_run.specs.declared.fault.RunFault.TheVariants.{Dump, Read, Write, TooLarge, OutOfMemory}
@@ -29,10 +29,6 @@ IsRunEnd long Read = Unit {0}
 IsRunEnd long OutOfMemory = Unit {0}
 IsRunEnd long Write = Unit {0}
 IsRunEnd long TooLarge = long
-
--- more bytes than they may be, by what they begin with
-abbrev pub IsTooLong : List ℕ → Type 0
-IsTooLong bytes = most_bytes bytes < length bytes
 
 -- how many bytes are read at most after those that are too many for a dump without edits
 abbrev pub most_after : List ℕ → ℕ

@@ -3,7 +3,7 @@ use Rattle.lost_routes.specs.LostPairs.{pairs_by}
 use Rattle.lost_routes.proofs.pairs.pairs_by.Given as goal
 
 -- what the routers so far have lost
-abbrev pub invariant-loop-is : goal.invariant-loop-is
-invariant-loop-is g l =
-    let so_far = pairs_by l.baseline l.now l.were.routers (take l.is-index l.routers) in
+abbrev pub invariant-loop-routes : goal.invariant-loop-routes
+invariant-loop-routes g l =
+    let so_far = pairs_by l.baseline l.now l.were.routers (take l.routes-index l.routers) in
     (l.lost.items ≡ so_far.lost) × (l.gone.items ≡ so_far.gone)

@@ -1,6 +1,6 @@
 use Rattle.std.proofs.Common.{◌∙◌, ap, sym, subst}
 use Rattle.branches.specs.Branches.{Named, HaveOneBase, named_by, sessions_by, sessions_of, with_session}
-use Rattle.branches.proofs.BranchSessions.{inserted, one_base, other_goes_on}
+use Rattle.branches.proofs.BranchSessions.{goes_on_named, inserted, one_base, other_goes_on}
 use Rattle.branches.proofs.branches.Branches.name.Goals as goal
 
 pub invariant_of-self : goal.invariant_of-self
@@ -20,3 +20,8 @@ returns-clause-sessions g c =
     (sessions_by c.insert.new.self.entries) c.args.branch c.args.planner.session c.requires.not_first
     (inserted c.self.inside.others c.insert.new.self c.args.branch c.args.planner c.in_ok-insert.ensures.updates)
     ∙ ap (λ named. with_session c.args.branch c.args.planner.session (sessions_of named)) c.self.view_is
+
+pub returns-clause-named : goal.returns-clause-named
+returns-clause-named g c =
+    goes_on_named c.self.inside.first.session (sessions_by c.insert.new.self.entries) c.args.branch c.args.planner.session
+    (inserted c.self.inside.others c.insert.new.self c.args.branch c.args.planner c.in_ok-insert.ensures.updates).at

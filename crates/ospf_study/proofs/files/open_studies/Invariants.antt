@@ -1,0 +1,7 @@
+use Rattle.std.proofs.Common.{◌≡◌, false}
+use Rattle.std.specs.Prelude.{All}
+use Rattle.host_io.specs.Watched.{has_failed}
+use Rattle.ospf_study.proofs.files.open_studies.Given as goal
+
+abbrev pub invariant-opening : goal.invariant-opening
+invariant-opening l = All (λ file. has_failed file ≡ false) l.files.items

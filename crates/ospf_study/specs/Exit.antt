@@ -1,0 +1,84 @@
+-- How the program ends after a fault: the status, and the line on standard error.
+use Rattle.std.specs.Prelude.{◌≡◌, ℕ, List, ◌++◌, codes, decimal}
+use Rattle.lsdb.specs.declared.fault.DumpFault.{DumpFault}
+use Rattle.lsdb.specs.declared.fault.DumpFaultKind.{DumpFaultKind}
+use Rattle.lsdb.specs.declared.fault.DumpFaultKind.TheVariants as kind
+use Rattle.lsdb.specs.Faults.{fault_text}
+use Rattle.network_names.specs.Fault.{code_of, name_of}
+use Rattle.study_hints.specs.Escaped.{escaped}
+use Rattle.whole_study.specs.declared.fault.NamesRefusal.{NamesRefusal}
+use Rattle.whole_study.specs.declared.fault.RunFault.{RunFault}
+use Rattle.whole_study.specs.declared.fault.RunFault.TheVariants as «run»
+use Rattle.ospf_study.specs.declared.fault.FileArg.{FileArg}
+use Rattle.ospf_study.specs.declared.fault.FileArg.TheVariants as file
+use Rattle.ospf_study.specs.declared.fault.ExitFault.{ExitFault}
+use Rattle.ospf_study.specs.declared.fault.ExitFault.TheVariants.{Run, Open}
+use Rattle.host_io.specs.declared.fault.ReplaceFault.{ReplaceFault}
+use Rattle.host_io.specs.declared.fault.ReplaceFault.TheVariants as replace
+
+-- ---- status
+
+abbrev pub dump_status : DumpFaultKind → ℕ
+dump_status kind.OutOfMemory = 5
+dump_status _ = 3
+
+-- 3 for what is refused, 4 for files, 5 for want of memory
+abbrev pub run_status : {A : Type 0} → RunFault A → ℕ
+run_status (run.Dump fault) = dump_status fault.kind
+run_status (run.Baseline fault) = dump_status fault.kind
+run_status (run.Names refusal) = 3
+run_status run.Read = 4
+run_status run.Write = 4
+run_status run.TooLarge = 4
+run_status run.OutOfMemory = 5
+
+abbrev pub exit_status : ExitFault → ℕ
+exit_status (Run names fault) = run_status fault
+exit_status (Open file) = 4
+
+-- ---- the line, its end included
+
+abbrev pub dump_text_by : List ℕ → DumpFaultKind → DumpFault → List ℕ
+dump_text_by what kind.OutOfMemory fault = codes "memory: OutOfMemory\n"
+dump_text_by what _ fault = what ++ codes ": " ++ fault_text fault ++ codes "\n"
+
+-- `dump: L4 TrailingBytes at 99`
+abbrev pub dump_text : List ℕ → DumpFault → List ℕ
+dump_text what fault = dump_text_by what fault.kind fault
+
+-- `hosts:7: H3 BadName r!`
+abbrev pub names_text : {A : Type 0} → List ℕ → NamesRefusal A → List ℕ
+names_text file refusal =
+    file ++ codes ":" ++ decimal refusal.line ++ codes ": " ++ code_of refusal.kind ++ codes " " ++ name_of refusal.kind
+    ++ codes " " ++ escaped refusal.word.items ++ codes "\n"
+
+abbrev pub run_text : {A : Type 0} → List ℕ → RunFault A → List ℕ
+run_text names (run.Dump fault) = dump_text (codes "dump") fault
+run_text names (run.Baseline fault) = dump_text (codes "baseline") fault
+run_text names (run.Names refusal) = names_text names refusal
+run_text names run.Read = codes "file: Read\n"
+run_text names run.Write = codes "file: Write\n"
+run_text names run.TooLarge = codes "file: TooLarge\n"
+run_text names run.OutOfMemory = codes "memory: OutOfMemory\n"
+
+abbrev pub open_text : FileArg → List ℕ
+open_text file.Dump = codes "file: Open dump\n"
+open_text file.Baseline = codes "file: Open baseline\n"
+open_text file.Names = codes "file: Open names\n"
+open_text file.Study = codes "file: Open study\n"
+open_text file.Out = codes "file: Open out\n"
+
+abbrev pub exit_text : ExitFault → List ℕ
+exit_text (Run names fault) = run_text names.now fault
+exit_text (Open file) = open_text file
+
+-- ---- the file of the dump
+
+-- a file that was not replaced could not be opened, or not be written
+abbrev pub IsNotReplacedFor : ReplaceFault → ExitFault → Type 0
+IsNotReplacedFor replace.Open fault = fault ≡ Open file.Out
+IsNotReplacedFor replace.Write (Run names end) = end ≡ run.Write
+IsNotReplacedFor replace.Write (Open other) = ⊥
+
+abbrev pub IsNotReplaced : ExitFault → Type 0
+IsNotReplaced fault = (why : ReplaceFault) × IsNotReplacedFor why fault

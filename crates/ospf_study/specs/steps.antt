@@ -1,0 +1,2 @@
+-- What private contracts cite: the steps of the code.
+pub mod FoundFiles

@@ -1,0 +1,118 @@
+//! How the program ends after a fault: its status, and the line on standard error.
+
+ghost use Rattle.std.specs.Prelude.{◌≡◌, IfOk};
+ghost use Rattle.ospf_study.specs.Exit.{dump_status, dump_text, exit_status, exit_text, names_text, open_text, run_status, run_text};
+
+use crate::fault::{ExitFault, FileArg};
+use lsdb::{DumpFault, DumpFaultKind};
+use std::alloc::{AllocError, Global};
+use study_hints::push_escaped;
+use study_text::push_number;
+use whole_study::{NamesRefusal, RunFault};
+
+/// The status of a refused dump or baseline.
+fn dump_status(fault: DumpFault) -> u8
+    ensures { result ≡ dump_status fault.kind }
+{
+    match fault.kind {
+        DumpFaultKind::OutOfMemory => 5,
+        _ => 3,
+    }
+}
+
+fn run_status(fault: &RunFault) -> u8
+    ensures { result ≡ run_status fault.now }
+{
+    match fault {
+        RunFault::Dump(fault) | RunFault::Baseline(fault) => dump_status(*fault),
+        RunFault::Names(_) => 3,
+        RunFault::Read | RunFault::Write | RunFault::TooLarge => 4,
+        RunFault::OutOfMemory => 5,
+    }
+}
+
+fn status_of(fault: &ExitFault<'_>) -> u8
+    ensures { result ≡ exit_status fault.now }
+{
+    match fault {
+        ExitFault::Run(_, fault) => run_status(fault),
+        ExitFault::Open(_) => 4,
+    }
+}
+
+/// The line of a refused dump or baseline.
+fn dump_line(alloc: Global, what: &str, fault: DumpFault) -> Result<Vec<u8>, AllocError>
+    ensures { IfOk result (λ line. line.items ≡ dump_text what.now fault) }
+{
+    let line = match fault.kind {
+        DumpFaultKind::OutOfMemory => String::from_str(alloc, "memory: OutOfMemory\n"),
+        _ => format!(in alloc; "{what}: {fault}\n"),
+    }?;
+    Vec::from_slice(alloc, line.as_bytes())
+}
+
+/// The line of a refused names file: its name, the line, the fault, and the word.
+fn names_line(alloc: Global, file: &str, refusal: &NamesRefusal) -> Result<Vec<u8>, AllocError>
+    ensures { IfOk result (λ line. line.items ≡ names_text file.now refusal.now) }
+{
+    let mut line = Vec::from_slice(alloc, file.as_bytes())?;
+    line.push(b':')?;
+    push_number(&mut line, refusal.line as u64)?;
+    line.extend_from_slice(b": ")?;
+    line.extend_from_slice(refusal.kind.code().as_bytes())?;
+    line.push(b' ')?;
+    line.extend_from_slice(refusal.kind.name().as_bytes())?;
+    line.push(b' ')?;
+    push_escaped(&mut line, &refusal.word)?;
+    line.push(b'\n')?;
+    Ok(line)
+}
+
+fn run_line(alloc: Global, names: &str, fault: &RunFault) -> Result<Vec<u8>, AllocError>
+    ensures { IfOk result (λ line. line.items ≡ run_text names.now fault.now) }
+{
+    let line: &[u8] = match fault {
+        RunFault::Dump(fault) => return dump_line(alloc, "dump", *fault),
+        RunFault::Baseline(fault) => return dump_line(alloc, "baseline", *fault),
+        RunFault::Names(refusal) => return names_line(alloc, names, refusal),
+        RunFault::Read => b"file: Read\n",
+        RunFault::Write => b"file: Write\n",
+        RunFault::TooLarge => b"file: TooLarge\n",
+        RunFault::OutOfMemory => b"memory: OutOfMemory\n",
+    };
+    Vec::from_slice(alloc, line)
+}
+
+/// The line of a file that cannot be opened.
+fn open_line(file: FileArg) -> &'static str
+    ensures { result.now ≡ open_text file }
+{
+    match file {
+        FileArg::Dump => "file: Open dump\n",
+        FileArg::Baseline => "file: Open baseline\n",
+        FileArg::Names => "file: Open names\n",
+        FileArg::Study => "file: Open study\n",
+        FileArg::Out => "file: Open out\n",
+    }
+}
+
+fn line_of(alloc: Global, fault: &ExitFault<'_>) -> Result<Vec<u8>, AllocError>
+    ensures { IfOk result (λ line. line.items ≡ exit_text fault.now) }
+{
+    match fault {
+        ExitFault::Run(names, fault) => run_line(alloc, names, fault),
+        ExitFault::Open(file) => Vec::from_slice(alloc, open_line(*file).as_bytes()),
+    }
+}
+
+/// The exit status and the line for standard error, its line feed included: 3 where the dump, the
+/// baseline or the names file is refused, 4 where a file cannot be opened, read or written or is too
+/// long, 5 for want of memory.
+///
+/// An error is want of memory for the line; the status stands all the same.
+pub(crate) fn exit_line(alloc: Global, fault: &ExitFault<'_>) -> (u8, Result<Vec<u8>, AllocError>)
+    ensures status { result.0 ≡ exit_status fault.now }
+    ensures line { IfOk result.1 (λ line. line.items ≡ exit_text fault.now) }
+{
+    (status_of(fault), line_of(alloc, fault))
+}

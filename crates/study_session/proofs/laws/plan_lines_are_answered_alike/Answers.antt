@@ -1,0 +1,17 @@
+use Rattle.std.proofs.Common.{Ok, Some, ap, subst, ◌∙◌}
+use Rattle.branches.specs.Replies.{reply_to}
+use Rattle.study_script.specs.Line.{plan}
+use Rattle.study_session.specs.Answers.{AnswerValue}
+use Rattle.study_session.specs.Lines.{IsAnswerBy, sessions_by}
+use Rattle.study_session.proofs.PlanText.{plan_text}
+use Rattle.study_session.proofs.laws.plan_lines_are_answered_alike.Goals as goal
+
+pub returns : goal.returns
+returns c = record {
+  text = λ s line branch command answer is_plan is_answer.
+      ap (λ (a : AnswerValue). a.text)
+      (subst (λ r. IsAnswerBy s line r (Some answer)) (c.plan_lines_mean_the_same.ensures.taken s.lookup line branch command is_plan) is_answer)
+      ∙ plan_text branch (reply_to (s.sessions branch) command);
+  sessions = λ s line branch command is_plan.
+      ap (λ r. sessions_by r s.sessions) (c.plan_lines_mean_the_same.ensures.taken s.lookup line branch command is_plan);
+}

@@ -1,0 +1,45 @@
+-- The answers about what differs from the baseline.
+use Rattle.std.specs.Prelude.{ℕ, List, [], ◌∷◌, ◌++◌, length, Option, None, Some, codes}
+use Rattle.lsa_codec.specs.declared.address.RouterId.{RouterId}
+use Rattle.lsdb.specs.Lists.{Lists}
+use Rattle.study_words.specs.declared.see_word.SeeWord.{SeeWord}
+use Rattle.study_words.specs.declared.see_word.SeeWord.TheVariants as words
+use Rattle.study_text.specs.Shown.{Called}
+use Rattle.route_lines.specs.RouteTexts.{lines_of as lines_as}
+use Rattle.change_lines.specs.ChangeTexts.{ChangeLineValue, ChangesValue, change_text, counts_text}
+use Rattle.change_lines.specs.PairTexts.{PairLineValue, pair_line}
+use Rattle.comparison.specs.Compared.{Compared}
+use Rattle.comparison.specs.Named.{all_changes, changes_for}
+use Rattle.change_report.specs.Lines.{gone_lines, lines_of_changes, lost_lines}
+use Rattle.study_session.specs.Answers.{AnswerValue, accepted_answer}
+use Rattle.study_session.specs.Texts.{head_of, number_after, router_after}
+use Rattle.study_session.specs.Known.{is_known, unless_unknown}
+
+-- two databases beside each other
+abbrev pub beside : Lists → Lists → Compared
+beside baseline db = record { baseline = baseline; present = db }
+
+module _ (called : Called) (branch : ℕ) (baseline db : Lists) where
+  -- what differs, after the router that the line names
+  abbrev pub changes_reply : Option RouterId → ChangesValue → List ChangeLineValue → List ℕ
+  changes_reply router changes lines =
+      head_of branch words.Changes ++ router_after called router ++ number_after (length changes.names) ++ counts_text changes ++ codes "\n"
+      ++ lines_as (change_text called) lines
+
+  abbrev pub changes_of : Option RouterId → ChangesValue → AnswerValue
+  changes_of router changes = accepted_answer (changes_reply router changes (lines_of_changes (beside baseline db) changes.names))
+
+  abbrev pub changes_answer : Option RouterId → AnswerValue
+  changes_answer None = changes_of None (all_changes (beside baseline db))
+  changes_answer (Some router) =
+      unless_unknown branch (is_known baseline db router) (changes_of (Some router) (changes_for (beside baseline db) (router ∷ [])))
+
+  -- routers with prefixes that they have no entry for any more
+  abbrev pub pairs_reply : SeeWord → List PairLineValue → List ℕ
+  pairs_reply word lines = head_of branch word ++ number_after (length lines) ++ codes "\n" ++ lines_as (pair_line called) lines
+
+  abbrev pub lost_answer : AnswerValue
+  lost_answer = accepted_answer (pairs_reply words.Lost (lost_lines (beside baseline db)))
+
+  abbrev pub gone_answer : AnswerValue
+  gone_answer = accepted_answer (pairs_reply words.Gone (gone_lines (beside baseline db)))

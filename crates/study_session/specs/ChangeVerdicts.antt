@@ -1,0 +1,29 @@
+-- Conditions about what differs from the baseline.
+use Rattle.std.specs.Prelude.{ℕ, Bool, List, [], ◌∷◌, Option, None, Some}
+use Rattle.lsa_codec.specs.declared.address.RouterId.{RouterId}
+use Rattle.lsdb.specs.Lists.{Lists}
+use Rattle.study_script.specs.Expected.{PairsAllowed}
+use Rattle.study_text.specs.Shown.{Called}
+use Rattle.change_lines.specs.declared.pair.Pair.{Pair}
+use Rattle.change_lines.specs.ChangeTexts.{ChangesValue, changes_found}
+use Rattle.comparison.specs.Named.{all_changes, changes_for}
+use Rattle.change_report.specs.Expected.{are_allowed, are_few, found_text as pairs_found}
+use Rattle.study_session.specs.Known.{is_known}
+use Rattle.study_session.specs.ChangeAnswers.{beside}
+use Rattle.study_session.specs.Verdicts.{VerdictValue, found, is_none, unless_no_router}
+
+-- pairs of a router and a prefix that are lost, or gone: no more than are allowed
+abbrev pub pairs_verdict : Called → List ℕ → PairsAllowed → List Pair → VerdictValue
+pairs_verdict called word allowed pairs = found (are_allowed allowed pairs) (pairs_found called word allowed pairs)
+
+abbrev pub changes_verdict : Called → Bool → ChangesValue → VerdictValue
+changes_verdict called holds changes = found holds (changes_found called changes.names)
+
+abbrev pub same_verdict : Called → Lists → Lists → Option RouterId → VerdictValue
+same_verdict called baseline db None = changes_verdict called (is_none (all_changes (beside baseline db)).names) (all_changes (beside baseline db))
+same_verdict called baseline db (Some router) =
+    unless_no_router (is_known baseline db router)
+    (changes_verdict called (is_none (changes_for (beside baseline db) (router ∷ [])).names) (changes_for (beside baseline db) (router ∷ [])))
+
+abbrev pub few_verdict : Called → Lists → Lists → ℕ → VerdictValue
+few_verdict called baseline db most = changes_verdict called (are_few most (all_changes (beside baseline db))) (all_changes (beside baseline db))

@@ -1,0 +1,38 @@
+-- The answers about routes and paths.
+use Rattle.std.specs.Prelude.{◌≡◌, ℕ, ◌+◌, List, ◌++◌, length, Option, Some, codes}
+use Rattle.lsa_codec.specs.declared.address.Addr.{Addr}
+use Rattle.lsa_codec.specs.declared.address.RouterId.{RouterId}
+use Rattle.lsdb.specs.Lists.{Lists}
+use Rattle.study_words.specs.declared.see_word.SeeWord.TheVariants as words
+use Rattle.study_text.specs.Shown.{Called}
+use Rattle.route_lines.specs.RouteLines.{RouteLineValue}
+use Rattle.route_lines.specs.RouteTexts.{routes_text}
+use Rattle.route_lines.specs.PathLines.{PathValue}
+use Rattle.route_lines.specs.PathTexts.{ends_text, path_text}
+use Rattle.route_report.specs.Lines.{routes_of}
+use Rattle.route_report.specs.Paths.{IsPath}
+use Rattle.study_session.specs.Answers.{AnswerValue, accepted_answer}
+use Rattle.study_session.specs.Texts.{address_after, head_of, number_after, router_after}
+use Rattle.study_session.specs.Known.{IfKnown, is_attached, unless_unknown}
+
+-- what the words see of a database, in a branch
+module _ (called : Called) (branch : ℕ) (db : Lists) where
+  -- what a router uses, after the router and the address that the line names
+  abbrev pub routes_reply : RouterId → Option Addr → List RouteLineValue → List ℕ
+  routes_reply router address lines =
+      head_of branch words.Routes ++ router_after called (Some router) ++ address_after address ++ number_after (length lines) ++ codes "\n"
+      ++ routes_text called lines
+
+  abbrev pub routes_answer : RouterId → Option Addr → AnswerValue
+  routes_answer router address =
+      unless_unknown branch (is_attached db router) (accepted_answer (routes_reply router address (routes_of db router address)))
+
+  -- what becomes of a packet, after the router and the address
+  abbrev pub path_reply : RouterId → Addr → PathValue → List ℕ
+  path_reply router address path =
+      head_of branch words.Path ++ router_after called (Some router) ++ address_after (Some address)
+      ++ number_after (length path.steps + length path.loops) ++ codes " " ++ ends_text path.ends ++ codes "\n" ++ path_text called path
+
+  abbrev pub IsPathAnswer : RouterId → Addr → AnswerValue → Type 0
+  IsPathAnswer router address answer = IfKnown branch (is_attached db router) answer
+      ((path : PathValue) × IsPath db router address path × (answer ≡ accepted_answer (path_reply router address path)))

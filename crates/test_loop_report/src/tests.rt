@@ -1,0 +1,3 @@
+//! What loops in small networks, and what is dropped.
+
+mod lines;

@@ -1,0 +1,7 @@
+//! Studies of a small network.
+
+// What the tests share.
+mod answered;
+mod commands;
+mod expectations;
+mod questions;

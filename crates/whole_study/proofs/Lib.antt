@@ -1,0 +1,3 @@
+pub mod CarriedLines
+pub mod ReadInputs
+pub mod ReadEnds

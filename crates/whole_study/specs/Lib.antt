@@ -1,0 +1,7 @@
+pub mod Given
+pub mod Lines
+pub mod Run
+pub mod Begin
+pub mod Streams
+pub mod Calls
+pub mod steps

@@ -1,0 +1,25 @@
+//! The whole run of studies, over readers and writers.
+//!
+//! [`run`] reads the dump, the baseline, the names and the studies, carries the lines of the studies
+//! out in one session, and writes the reply to each line, a line for each that is not accepted, and
+//! the summary. The theorem of the whole stands on it.
+#![tactic(auto)]
+
+// What a run is given.
+mod fault;
+mod inputs;
+mod loading;
+
+// What it writes.
+mod output;
+mod summary;
+
+// A run.
+mod carrying;
+mod running;
+
+pub use fault::{NamesRefusal, RunFault};
+pub use inputs::{RunFiles, StudyFile};
+pub use output::Output;
+pub use running::{Ended, Manner, run};
+pub use summary::Summary;

@@ -1,0 +1,99 @@
+//! The summary of a run.
+
+ghost use Rattle.std.specs.Prelude.{◌≡◌, ◌++◌, ◌∷◌, [], IfOk, List, OnOk, decimal};
+ghost use Rattle.whole_study.specs.Lines.{Line};
+ghost use Rattle.whole_study.specs.Run.{Answered, has_passed, result_word, summary_of, summary_text};
+ghost use Rattle.whole_study.specs.steps.Counting.{Grows, HasRoom};
+
+use std::alloc::{AllocError, Allocator};
+use study_session::{Answer, Outcome};
+use study_text::push_number;
+
+/// How many lines had an answer, and what became of them.
+#[derive(Clone, Copy, Debug, PartialEq, Eq)]
+pub struct Summary {
+    /// The lines with an answer.
+    pub lines: u64,
+    /// Those that were refused.
+    pub refused: u64,
+    /// The expectations that were neither faulty nor refused.
+    pub expectations: u64,
+    /// Those of them that failed.
+    pub failed: u64,
+}
+
+impl Summary {
+    /// Whether no line was refused, and no expectation failed.
+    pub fn has_passed(&self) -> bool
+        ensures { result ≡ has_passed self.now }
+    {
+        self.refused == 0 && self.failed == 0
+    }
+
+    /// The summary of no line.
+    pub(crate) fn new() -> Summary
+        ensures { result ≡ summary_of [] }
+    {
+        Summary {
+            lines: 0,
+            refused: 0,
+            expectations: 0,
+            failed: 0,
+        }
+    }
+
+    /// Counts an answer.
+    pub(crate) fn count<A: Allocator>(&mut self, answer: &Answer<A>)
+        requires { HasRoom 1 self.old }
+        ensures counted { (done : List Answered) (line : Line) → self.old ≡ summary_of done
+            → self.new ≡ summary_of (done ++ record { line = line; answer = answer.now } ∷ []) }
+        ensures grows { Grows 1 self.old self.new }
+    {
+        self.lines += 1;
+        if answer.is_expectation {
+            self.expectations += 1;
+        }
+        match answer.outcome {
+            Outcome::Accepted => {}
+            Outcome::Refused => self.refused += 1,
+            Outcome::Failed => self.failed += 1,
+        }
+    }
+}
+
+/// The word for the result of a run.
+fn result_word(has_passed: bool) -> &'static str
+    ensures { result.now ≡ result_word has_passed }
+{
+    if has_passed { "ok" } else { "failed" }
+}
+
+/// Adds a word and a number.
+fn push_count<A: Allocator + Copy>(
+    text: &mut Vec<u8, A>,
+    word: &str,
+    count: u64,
+) -> Result<(), AllocError>
+    ensures { OnOk result (text.new.items ≡ text.old.items ++ (word.now ++ decimal count)) }
+{
+    text.extend_from_slice(word.as_bytes())?;
+    push_number(text, count)
+}
+
+/// The last line of a run: `study RESULT lines N refused N expectations N failed N`.
+pub(crate) fn summary_line<A: Allocator + Copy>(
+    alloc: A,
+    summary: &Summary,
+) -> Result<Vec<u8, A>, AllocError>
+    ensures { IfOk result (λ text. text.items ≡ summary_text summary.now) }
+{
+    let mut text = Vec::new(alloc);
+    text.extend_from_slice(b"study ")?;
+    text.extend_from_slice(result_word(summary.has_passed()).as_bytes())?;
+    push_count(&mut text, " lines ", summary.lines)?;
+    push_count(&mut text, " refused ", summary.refused)?;
+    push_count(&mut text, " expectations ", summary.expectations)?;
+    push_count(&mut text, " failed ", summary.failed)?;
+    text.push(b'\n')?;
+    Ok(text)
+}
