@@ -17,4 +17,4 @@ returns g c =
     (λ loops. (was is : Lists) → IsComparedOf was is c.args.compared.now → IsAtAtom AreJointLoops was is c.args.net loops.items)
     (λ loops found was is of.
     at_one AreJointLoops was is c.args.net c.args.compared.now.atoms of.atoms loops.items c.in-Some.address c.in_ok-was.was c.in_ok-is.is c.in-Some.ensures
-    (c.in_ok-was.ensures was of.was) (c.in_ok-is.ensures is of.is) found) c.joint_loops_at.ensures
+    (c.in_ok-was.ensures was of.before) (c.in_ok-is.ensures is of.now) found) c.joint_loops_at.ensures

@@ -22,7 +22,7 @@ returns-clause-loops g c =
     (λ report. (was is : Lists) → IsComparedOf was is c.args.compared.now → IsAtAtom AreLoopsNow was is c.args.net report.loops)
     (λ report found was is of.
     at_one AreLoopsNow was is c.args.net c.args.compared.now.atoms of.atoms report.loops c.in-Some.address c.in_ok-was.was c.in_ok-is.is c.in-Some.ensures
-    (c.in_ok-was.ensures was of.was) (c.in_ok-is.ensures is of.is) found) c.at_graphs.ensures.loops
+    (c.in_ok-was.ensures was of.before) (c.in_ok-is.ensures is of.now) found) c.at_graphs.ensures.loops
 
 pub returns-clause-blackholes : goal.returns-clause-blackholes
 returns-clause-blackholes g c =
@@ -30,4 +30,4 @@ returns-clause-blackholes g c =
     (λ report. (was is : Lists) → IsComparedOf was is c.args.compared.now → IsAtAtom AreNewBlackholes was is c.args.net report.blackholes)
     (λ report found was is of.
     at_one AreNewBlackholes was is c.args.net c.args.compared.now.atoms of.atoms report.blackholes c.in-Some.address c.in_ok-was.was c.in_ok-is.is c.in-Some.ensures
-    (c.in_ok-was.ensures was of.was) (c.in_ok-is.ensures is of.is) found) c.at_graphs.ensures.blackholes
+    (c.in_ok-was.ensures was of.before) (c.in_ok-is.ensures is of.now) found) c.at_graphs.ensures.blackholes
