@@ -225,8 +225,8 @@ fn push_rest<A: Allocator + Copy>(
 }
 
 /// Adds the description of a link, as
-/// `#1 point-to-point to r1, 10.0.13.2, cost 10, back 10, peer 10.0.13.1, stub #2 10.0.13.0/30 cost 10`:
-/// its name, its cost, and what is known of its other end.
+/// `#1 point-to-point to r1, 10.0.13.2, cost 10, back 10, peer 10.0.13.1, stub #2 10.0.13.0/30 cost
+/// 10`: its name, its cost, and what is known of its other end.
 ///
 /// # Errors
 ///
