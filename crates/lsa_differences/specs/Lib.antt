@@ -1,0 +1,2 @@
+pub mod LsaNames
+pub mod Details
