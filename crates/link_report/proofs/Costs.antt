@@ -1,5 +1,5 @@
 -- Costs as they are shown.
-use Rattle.std.proofs.Common.{◌≡◌, ℕ, ◌==◌, false, List, [], ◌∷◌, codes, decimal, length, map, refl, ap, ◌∙◌}
+use Rattle.std.proofs.Common.{◌≡◌, ℕ, ◌==◌, false, List, [], ◌∷◌, codes, decimal, length, map, refl, ap}
 use Rattle.study_text.specs.Lists.{joined}
 use Rattle.link_report.specs.declared.link_text.Cost.{Cost}
 use Rattle.link_report.specs.LinkTexts.{costs_text}

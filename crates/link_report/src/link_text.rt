@@ -80,8 +80,8 @@ fn push_where<A: Allocator + Copy>(
     push_address(text, link.link_data)
 }
 
-/// Adds the name of a link, as `#1 point-to-point to r2, 10.0.12.1`: its number, its kind, and where
-/// it leads.
+/// Adds the name of a link, as `#1 point-to-point to r2, 10.0.12.1`: its number, its kind, and
+/// where it leads.
 ///
 /// # Errors
 ///
@@ -225,8 +225,8 @@ fn push_rest<A: Allocator + Copy>(
 }
 
 /// Adds the description of a link, as
-/// `#1 point-to-point to r1, 10.0.13.2, cost 10, back 10, peer 10.0.13.1, stub #2 10.0.13.0/30 cost 10`:
-/// its name, its cost, and what is known of its other end.
+/// `#1 point-to-point to r1, 10.0.13.2, cost 10, back 10, peer 10.0.13.1, stub #2 10.0.13.0/30 cost
+/// 10`: its name, its cost, and what is known of its other end.
 ///
 /// # Errors
 ///
@@ -274,8 +274,8 @@ fn push_link_line<A: Allocator + Copy>(
     text.extend_from_slice(b"\n")
 }
 
-/// Adds a line for each link, as `r3 area 0.0.0.0 #2 stub 10.0.13.0/30, cost 10, of #1`: the router,
-/// the area and the description.
+/// Adds a line for each link, as `r3 area 0.0.0.0 #2 stub 10.0.13.0/30, cost 10, of #1`: the
+/// router, the area and the description.
 ///
 /// # Errors
 ///

@@ -1,6 +1,5 @@
-use Rattle.std.proofs.Common.{ℕ, ◌<◌, ◌≤◌, [], ◌∷◌, ◌++◌, List, Option, get_or, length, ap, ◌∙◌, arith}
+use Rattle.std.proofs.Common.{ℕ, ◌<◌, ◌≤◌, [], ◌∷◌, ◌++◌, List, Option, length, ap, ◌∙◌, arith}
 use Rattle.interfaces.specs.declared.interface.Interface.{Interface}
-use Rattle.lsdb.specs.Slots.{lists_of}
 use Rattle.lsdb.specs.Lists.{Lists}
 use Rattle.lsa_codec.specs.declared.address.AreaId.{AreaId}
 use Rattle.link_report.specs.declared.ages.Ages.TheVariants.{Live}

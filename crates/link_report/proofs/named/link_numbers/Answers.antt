@@ -1,4 +1,4 @@
-use Rattle.std.proofs.Common.{ℕ, ◌+◌, ◌<◌, ◌≤◌, cond, List, [], ◌∷◌, ◌++◌, get_or, length, sym, ap, ◌∙◌, arith}
+use Rattle.std.proofs.Common.{ℕ, ◌+◌, ◌<◌, ◌≤◌, cond, [], ◌∷◌, ◌++◌, get_or, length, ap, ◌∙◌, arith}
 use Rattle.lsa_codec.specs.declared.link.Link.{Link}
 use Rattle.link_report.specs.NamedLinks.{is_named, link_numbers}
 use Rattle.link_report.proofs.LinkLengths.{length-links_of}

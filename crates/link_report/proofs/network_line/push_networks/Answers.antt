@@ -1,4 +1,4 @@
-use Rattle.std.proofs.Common.{◌++◌, ◌∙◌, List, ℕ, ap}
+use Rattle.std.proofs.Common.{◌++◌, ◌∙◌, List, ap}
 use Rattle.std.specs.List.{filter_map, flat_map}
 use Rattle.area_graph.specs.Rising.{rising}
 use Rattle.area_routes.proofs.AddsLemmas.{flat_map_adds}
