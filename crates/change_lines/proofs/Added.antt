@@ -1,7 +1,7 @@
 -- Texts of things, one after another.
-use Rattle.std.proofs.Common.{◌≡◌, ℕ, ◌+◌, ◌<◌, ◌≤◌, List, ◌++◌, codes, length, take, get_or, Result, Ok, Err, refl, sym, ap, ◌∙◌}
-use Rattle.std.specs.Prelude.{flat_map, OnOk}
-use Rattle.std.proofs.lemmas.List.{append_assoc, flat_map_more, take_all, take_more}
+use Rattle.std.proofs.Common.{◌≡◌, ℕ, ◌+◌, ◌<◌, ◌≤◌, List, ◌++◌, length, take, get_or, sym, ap, ◌∙◌}
+use Rattle.std.specs.Prelude.{flat_map}
+use Rattle.std.proofs.lemmas.List.{flat_map_more, take_all, take_more}
 
 module _ {X C : Type 0} (text : X → List C) where
   -- that of one more thing after those so far
@@ -15,13 +15,3 @@ module _ {X C : Type 0} (text : X → List C) where
   pub all_added : (start : List C) (xs : List X) (i : ℕ) (now : List C) → length xs ≤ i
       → now ≡ start ++ flat_map text (take i xs) → now ≡ start ++ flat_map text xs
   all_added start xs i now done are = are ∙ ap (λ l. start ++ flat_map text l) (take_all i xs done)
-
--- what holds of a call that went well
-pub on_ok : {T E P Q : Type 0} (result : Result T E) → (P → Q) → OnOk result P → OnOk result Q
-on_ok (Ok t) f p = f p
-on_ok (Err e) f p = p
-
--- a word and a number, another part, and the end
-pub in_parts : (old word count part end : List ℕ)
-    → ((old ++ (word ++ (codes " " ++ count))) ++ part) ++ end ≡ old ++ (word ++ (codes " " ++ (count ++ (part ++ end))))
-in_parts old word count part end = simp append_assoc refl

@@ -1,7 +1,7 @@
 //! What differs, and how many changes there are of each group.
 
-ghost use Rattle.std.specs.Prelude.{◌≡◌, ◌++◌, flat_map, codes, decimal, IfOk, OnOk};
-ghost use Rattle.change_lines.specs.ChangeTexts.{counts_text, group_count};
+ghost use Rattle.std.specs.Prelude.{◌≡◌, ◌++◌, flat_map, IfOk, OnOk};
+ghost use Rattle.change_lines.specs.ChangeTexts.{counts_of, counts_text, group_count};
 ghost use Rattle.change_lines.specs.Groups.{by_group, count_of, in_group};
 
 use crate::change_name::ChangeName;
@@ -113,15 +113,15 @@ fn push_group_counts<A: Allocator + Copy>(
 }
 
 /// Adds the number of changes of each of some groups, and that of prefixes without one.
+#[tactic(auto, unfolding(crate::specs::ChangeTexts::counts_of))]
 fn push_all_counts<A: Allocator + Copy>(
     text: &mut Vec<u8, A>,
     names: &[ChangeName],
     groups: &[ChangeGroup],
     unchanged: u64,
 ) -> Result<(), AllocError>
-    ensures { OnOk result (text.new.items ≡ text.old.items
-        ++ (flat_map (group_count names.now) groups.now ++ codes " unchanged "
-        ++ decimal unchanged)) }
+    ensures { OnOk result
+        (text.new.items ≡ text.old.items ++ counts_of names.now groups.now unchanged) }
 {
     push_group_counts(text, names, groups)?;
     text.extend_from_slice(b" unchanged ")?;
