@@ -44,9 +44,13 @@ change_text called line = name_text called line.name ++ route_after called (code
 abbrev pub group_count : List ChangeName → ChangeGroup → List ℕ
 group_count names group = codes " " ++ group_text group ++ codes " " ++ decimal (count_of group names)
 
--- the number of changes of each group, and of prefixes without one
+-- the number of changes of each of some groups, and of prefixes without one
+unfoldable pub counts_of : List ChangeName → List ChangeGroup → ℕ → List ℕ
+counts_of names groups unchanged = flat_map (group_count names) groups ++ codes " unchanged " ++ decimal unchanged
+
+-- the same of all groups
 abbrev pub counts_text : ChangesValue → List ℕ
-counts_text changes = flat_map (group_count changes.names) change_groups ++ codes " unchanged " ++ decimal changes.unchanged
+counts_text changes = counts_of changes.names change_groups changes.unchanged
 
 -- ---- what was found
 

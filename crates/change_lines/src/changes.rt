@@ -1,7 +1,7 @@
 //! What differs, and how many changes there are of each group.
 
 ghost use Rattle.std.specs.Prelude.{◌≡◌, ◌++◌, flat_map, IfOk, OnOk};
-ghost use Rattle.change_lines.specs.ChangeTexts.{counts_text, group_count};
+ghost use Rattle.change_lines.specs.ChangeTexts.{counts_of, counts_text, group_count};
 ghost use Rattle.change_lines.specs.Groups.{by_group, count_of, in_group};
 
 use crate::change_name::ChangeName;
@@ -112,6 +112,22 @@ fn push_group_counts<A: Allocator + Copy>(
     Ok(())
 }
 
+/// Adds the number of changes of each of some groups, and that of prefixes without one.
+#[tactic(auto, unfolding(crate::specs::ChangeTexts::counts_of))]
+fn push_all_counts<A: Allocator + Copy>(
+    text: &mut Vec<u8, A>,
+    names: &[ChangeName],
+    groups: &[ChangeGroup],
+    unchanged: u64,
+) -> Result<(), AllocError>
+    ensures { OnOk result
+        (text.new.items ≡ text.old.items ++ counts_of names.now groups.now unchanged) }
+{
+    push_group_counts(text, names, groups)?;
+    text.extend_from_slice(b" unchanged ")?;
+    push_number(text, unchanged)
+}
+
 /// Adds the number of changes of each group, and that of prefixes without one, as
 /// ` router-gone 0 .. unchanged 5`.
 ///
@@ -124,7 +140,5 @@ pub fn push_counts<A: Allocator + Copy, B: Allocator + Copy>(
 ) -> Result<(), AllocError>
     ensures { OnOk result (text.new.items ≡ text.old.items ++ counts_text changes.now) }
 {
-    push_group_counts(text, &changes.names, ChangeGroup::all())?;
-    text.extend_from_slice(b" unchanged ")?;
-    push_number(text, changes.unchanged)
+    push_all_counts(text, &changes.names, ChangeGroup::all(), changes.unchanged)
 }

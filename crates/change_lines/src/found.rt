@@ -86,6 +86,21 @@ pub fn unlisted<A: Allocator + Copy>(
         .collect(alloc)
 }
 
+/// Adds a word, a number, and the number of those which are not listed.
+fn push_both_counts<A: Allocator + Copy>(
+    text: &mut Vec<u8, A>,
+    word: &str,
+    count: usize,
+    others: usize,
+) -> Result<(), AllocError>
+    ensures { OnOk result (text.new.items ≡ text.old.items
+        ++ (word.now ++ codes " " ++ decimal count ++ codes ", not listed "
+        ++ decimal others)) }
+{
+    push_counted(text, word, count)?;
+    push_counted(text, ", not listed", others)
+}
+
 /// Adds the number of pairs after a word, that of those which are not listed, and the first of
 /// these, as `lost 2, not listed 1: r1 10.0.0.0/24`.
 ///
@@ -102,7 +117,6 @@ pub fn push_unlisted<A: Allocator + Copy>(
     ensures { OnOk result (text.new.items ≡ text.old.items
         ++ unlisted_found (called names.now) word.now pairs.now others.now) }
 {
-    push_counted(text, word, pairs.len())?;
-    push_counted(text, ", not listed", others.len())?;
+    push_both_counts(text, word, pairs.len(), others.len())?;
     push_first_three(text, names, others)
 }

@@ -1,15 +1,17 @@
 -- Loops that keep, add up or join what they find.
-use Rattle.std.proofs.Common.{◌≡◌, ℕ, ◌+◌, ◌<◌, ◌≤◌, Bool, true, false, cond, List, [], ◌∷◌, ◌++◌, length, map, take, get_or, refl, sym, ap, ◌∙◌, arith}
-use Rattle.std.specs.Prelude.{◌&&◌, ◌==◌, flat_map}
-use Rattle.std.specs.Cmp.{tied_then, unsigned_ties}
+use Rattle.std.proofs.Common.{◌≡◌, ℕ, ◌+◌, ◌<◌, Bool, cond, List, [], ◌∷◌, ◌++◌, length, map, take, get_or, refl, sym, ap, ◌∙◌, arith}
+use Rattle.std.specs.Prelude.{◌==◌, flat_map}
+use Rattle.std.specs.Cmp.{unsigned_ties}
 use Rattle.std.specs.List.{filter, sum_by}
 use Rattle.std.specs.Ordering.{eq_by_cmp}
-use Rattle.std.proofs.lemmas.List.{append-nil, take_all, take_more}
+use Rattle.std.proofs.lemmas.List.{append-nil, take_more}
 use Rattle.std.proofs.lemmas.List.Elements.{filter-append}
 use Rattle.std.proofs.lemmas.List.Sums.{sum_by-append}
 use Rattle.std.proofs.lemmas.Grind.{flat_map-append}
 use Rattle.lsa_codec.specs.Order.{router_cmp}
 use Rattle.lsa_codec.specs.declared.address.RouterId.{RouterId}
+use Rattle.lsdb.specs.Lists.{Lists}
+use Rattle.forwarding.specs.Matches.{RouterValue, router_in}
 use Rattle.area_graph.specs.Rising.{rising}
 use Rattle.best_ways.proofs.RisingLemmas.{rising_append}
 use Rattle.best_ways.specs.Values.{RouteValue}
@@ -25,17 +27,12 @@ module _ {X : Type 0} (xs : List X) (i : ℕ) (x : X) (lt : i < length xs) (is :
   so_far : {Y : Type 0} (f : List X → Y) → f (take i xs ++ x ∷ []) ≡ f (take (i + 1) xs)
   so_far f = ap (λ y. f (take i xs ++ y ∷ [])) is ∙ ap f (sym (take_more xs i x lt))
 
-  -- one more that a test keeps, and one that it does not
-  module _ (p : X → Bool) (found : List X) (are : found ≡ filter p (take i xs)) where
-    pub kept : (new : List X) → p x ≡ true → new ≡ found ++ x ∷ [] → new ≡ filter p (take (i + 1) xs)
-    kept new yes pushed =
-        pushed ∙ ap (λ l. l ++ x ∷ []) are ∙ ap (λ (b : Bool). filter p (take i xs) ++ cond b (x ∷ []) []) (sym yes)
-        ∙ sym (filter-append p (take i xs) (x ∷ [])) ∙ so_far (filter p)
-
-    pub passed : p x ≡ false → found ≡ filter p (take (i + 1) xs)
-    passed no =
-        are ∙ sym (append-nil (filter p (take i xs))) ∙ ap (λ (b : Bool). filter p (take i xs) ++ cond b (x ∷ []) []) (sym no)
-        ∙ sym (filter-append p (take i xs) (x ∷ [])) ∙ so_far (filter p)
+  -- one more, where a test keeps it
+  pub kept : (p : X → Bool) (found new : List X) (b : Bool) → found ≡ filter p (take i xs) → b ≡ p x → new ≡ found ++ cond b (x ∷ []) []
+      → new ≡ filter p (take (i + 1) xs)
+  kept p found new b are same added =
+      added ∙ ap (λ l. l ++ cond b (x ∷ []) []) are ∙ ap (λ (t : Bool). filter p (take i xs) ++ cond t (x ∷ []) []) same
+      ∙ sym (filter-append p (take i xs) (x ∷ [])) ∙ so_far (filter p)
 
   -- one more number
   pub summed : (f : X → ℕ) (sum more new : ℕ) → sum ≡ sum_by f (take i xs) → more ≡ f x → new ≡ sum + more → new ≡ sum_by f (take (i + 1) xs)
@@ -55,3 +52,8 @@ joined routes i r hops new lt is are more =
     ∙ ap (λ (l : List Hop). rising hop_cmp (flat_map (λ (v : RouteValue). v.hops) (take i routes) ++ l)) (sym (append-nil r.hops))
     ∙ ap (rising hop_cmp) (sym (flat_map-append (λ (v : RouteValue). v.hops) (take i routes) (r ∷ [])))
     ∙ so_far routes i r lt is hops_of
+
+-- the routers of what entries come from
+pub ids_are : (db : Lists) (ids : List RouterId) → map (λ (r : RouterValue). r.router) (map (router_in db) ids) ≡ ids
+ids_are db [] = refl
+ids_are db (id ∷ ids) = ap (λ l. id ∷ l) (ids_are db ids)

@@ -48,7 +48,8 @@ fn changes_for<A: Allocator + Copy>(
     let mut unchanged = 0;
     for router in routers {
         let more = push_changes_of(&mut names, alloc, comparison, *router)?;
-        unchanged = sum_of(unchanged, more)?;
+        let total = sum_of(unchanged, more)?;
+        unchanged = total;
     }
     Changes::by_group(alloc, &names, unchanged)
 }

@@ -6,11 +6,14 @@ ghost use Rattle.comparison.specs.Named.{gone, lost, pair_of};
 
 use crate::comparison::Comparison;
 use change_lines::Pair;
-use lost_routes::{RouterPrefix, LostPairs};
+use lost_routes::{LostPairs, RouterPrefix};
 use std::alloc::{AllocError, Allocator};
 
 /// Pairs as lines name them.
-fn pairs_of<A: Allocator + Copy>(alloc: A, pairs: &[RouterPrefix]) -> Result<Vec<Pair, A>, AllocError>
+fn pairs_of<A: Allocator + Copy>(
+    alloc: A,
+    pairs: &[RouterPrefix],
+) -> Result<Vec<Pair, A>, AllocError>
     ensures { IfOk result (λ found. found.items ≡ map pair_of pairs.now) }
 {
     let pairs = pairs.iter().map(|pair| Pair {

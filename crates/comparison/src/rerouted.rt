@@ -1,10 +1,11 @@
 //! Next hops that lead to other routers than they did.
 
-ghost use Rattle.std.specs.Prelude.{◌≡◌, IfOk};
+ghost use Rattle.std.specs.Prelude.{◌≡◌, ◌++◌, ◌∷◌, [], if◌then◌else◌, IfOk, OnOk};
+ghost use Rattle.std.specs.Cmp.Lexicographic.{pointwise};
 ghost use Rattle.std.specs.List.{filter};
 ghost use Rattle.lsdb.specs.Lists.{Lists};
 ghost use Rattle.forwarding.specs.Owners.{AreGraphsOf};
-ghost use Rattle.comparison.specs.Rerouted.{hops_of, is_rerouted, rerouted, routers_by};
+ghost use Rattle.comparison.specs.Rerouted.{hops_of, is_rerouted, rerouted, routers_by, same_router};
 
 use crate::comparison::Comparison;
 use best_ways::Route;
@@ -30,6 +31,13 @@ fn routers_by<A: Allocator + Copy>(
     }
 }
 
+/// Whether two lists of routers are one.
+fn are_same_routers(before: &[RouterId], now: &[RouterId]) -> bool
+    ensures { result ≡ pointwise same_router before.now now.now }
+{
+    before == now
+}
+
 /// Whether a next hop of a router leads to other routers than it did.
 fn is_rerouted<A: Allocator + Copy>(
     alloc: A,
@@ -41,7 +49,7 @@ fn is_rerouted<A: Allocator + Copy>(
 {
     let before = routers_by(alloc, comparison.were().graphs(), router, hop)?;
     let now = routers_by(alloc, comparison.are().graphs(), router, hop)?;
-    Ok(before.as_slice() != now.as_slice())
+    Ok(!are_same_routers(before.as_slice(), now.as_slice()))
 }
 
 /// The hops of some routes, in order.
@@ -53,6 +61,21 @@ fn hops_of<A: Allocator + Copy>(alloc: A, routes: &[Route<A>]) -> Result<HopList
         hops.join(route.hops.as_slice())?;
     }
     Ok(hops)
+}
+
+/// Adds a hop to a list, if it leads to other routers than it did.
+fn push_if<A: Allocator + Copy>(
+    found: &mut Vec<Hop, A>,
+    moved: bool,
+    hop: Hop,
+) -> Result<(), AllocError>
+    ensures { OnOk result
+        (found.new.items ≡ found.old.items ++ (if moved then hop ∷ [] else [])) }
+{
+    if moved {
+        found.push(hop)?;
+    }
+    Ok(())
 }
 
 /// Those of some hops of a router that lead to other routers than they did.
@@ -67,9 +90,8 @@ fn rerouted_among<A: Allocator + Copy>(
 {
     let mut found = Vec::new(alloc);
     for hop in hops {
-        if is_rerouted(alloc, comparison, router, *hop)? {
-            found.push(*hop)?;
-        }
+        let moved = is_rerouted(alloc, comparison, router, *hop)?;
+        push_if(&mut found, moved, *hop)?;
     }
     Ok(found)
 }

@@ -15,11 +15,11 @@ pub loop-router-preserved : goal.loop-router-preserved
 loop-router-preserved g c =
     let both = c.args.comparison.now in
     let i = c.loop-router.router-index in (
-      adds_step (flat_map_adds (names_of both)) (λ (cs : List ChangeName). c.loop-router.names.items ≡ cs) (λ (cs : List ChangeName). c.push_changes_of.new.names.items ≡ cs)
+      adds_step (flat_map_adds (names_of both)) (λ (cs : List ChangeName). c.loop-router.names.items ≡ cs) (λ (cs : List ChangeName). c.push_changes_of-more.new.names.items ≡ cs)
           c.args.routers.now i c.router-item.result c.loop-router-test.true c.router-item.is c.loop-router.invariant.0 (λ cs was.
           c.in_ok-more.ensures.names ∙ ap (λ (l : List ChangeName). l ++ names_of both c.router-item.result) was),
       summed c.args.routers.now i c.router-item.result c.loop-router-test.true c.router-item.is (unchanged_of both) c.loop-router.unchanged c.in_ok-more.more _
-          c.loop-router.invariant.1 c.in_ok-more.ensures.unchanged c.in_ok-sum_of.ensures,
+          c.loop-router.invariant.1 c.in_ok-more.ensures.unchanged c.in_ok-total.ensures,
     )
 
 pub returns : goal.returns

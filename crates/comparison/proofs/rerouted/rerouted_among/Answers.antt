@@ -1,19 +1,14 @@
-use Rattle.std.proofs.Common.{sym, ap, ◌∙◌}
+use Rattle.std.proofs.Common.{ap, ◌∙◌}
 use Rattle.std.specs.List.{filter}
 use Rattle.std.proofs.lemmas.List.{take_all}
 use Rattle.comparison.specs.Rerouted.{is_rerouted}
-use Rattle.comparison.proofs.Steps.{kept, passed}
+use Rattle.comparison.proofs.Steps.{kept}
 use Rattle.comparison.proofs.rerouted.rerouted_among.Goals as goal
 
 pub loop-hop-preserved : goal.loop-hop-preserved
 loop-hop-preserved g c =
     kept c.args.hops.now c.loop-hop.hop-index c.hop-item.result c.loop-hop-test.true c.hop-item.is (is_rerouted c.args.comparison.now c.args.router)
-    c.loop-hop.found.items c.loop-hop.invariant _ (sym c.in_ok-is_rerouted.ensures ∙ c.if-is_rerouted.true) c.in_ok-push.ensures.items
-
-pub loop-hop-preserved-2 : goal.loop-hop-preserved-2
-loop-hop-preserved-2 g c =
-    passed c.args.hops.now c.loop-hop.hop-index c.hop-item.result c.loop-hop-test.true c.hop-item.is (is_rerouted c.args.comparison.now c.args.router)
-    c.loop-hop.found.items c.loop-hop.invariant (sym c.in_ok-is_rerouted.ensures ∙ c.if-is_rerouted.false)
+    c.loop-hop.found.items _ c.in_ok-moved.moved c.loop-hop.invariant c.in_ok-moved.ensures c.in_ok-push_if.ensures
 
 pub returns : goal.returns
 returns g c =
