@@ -1,5 +1,5 @@
 -- How the reading of an input may end a run.
-use Rattle.std.proofs.Common.{◌≡◌, ◌∙◌, sym, subst, refl, ℕ, ◌<◌, Bool, true, false, List, length, Option, None, Some, inl, inr}
+use Rattle.std.proofs.Common.{◌≡◌, ◌∙◌, ◌↔◌, sym, ap, subst, refl, ℕ, ◌<◌, Bool, true, false, List, length, Option, None, Some, Result, Ok, Err, inl, inr}
 use Rattle.std.specs.Prelude.{IfSome, is_some}
 use Rattle.host_io.specs.declared.watch.Watched.{Watched}
 use Rattle.host_io.specs.WholeText.{IsLonger}
@@ -56,3 +56,37 @@ pub names_much : {R : Type 0} (remaining : R → Option (List ℕ)) (reader : Op
     → is_some reader ≡ true → IsLonger (contents_of remaining reader) most → IsTooMuch given
 names_much remaining reader given has some long =
     inr (inl (long_names given given.names refl (sym has.given ∙ some) (subst (λ (k : Option (List ℕ)). IsLonger k most) has.same long)))
+
+-- of a text, where it is too long for another reason
+pub long_for : {A : Type 0} (P Q : Type 0) (fault : RunFault A) → (P → Q) → IsReadEnd Never Never P fault → IsReadEnd Never Never Q fault
+long_for P Q (Dump fault) by end = absurd end
+long_for P Q (Baseline fault) by end = absurd end
+long_for P Q (Names refusal) by end = absurd end
+long_for P Q Read by end = tt
+long_for P Q Write by end = absurd end
+long_for P Q TooLarge by end = by end
+long_for P Q OutOfMemory by end = tt
+
+-- ---- readers that have failed
+
+abbrev as_ok : {F : Type 0} (T : Type 0) → T → Result T F
+as_ok T x = Ok x
+
+abbrev as_err : {F : Type 0} (T : Type 0) → F → Result T F
+as_err T fault = Err fault
+
+err_same : {F : Type 0} (T V : Type 0) (a b : F) → as_err T a ≡ as_err T b → as_err V a ≡ as_err V b
+err_same T V a b e = let same : a ≡ b = cc in ap (as_err V) same
+
+-- a call hands an error on, and its reader has failed where the other has
+pub failed_by_err : {F : Type 0} (T V : Type 0) (r : Result T F) (e read : F) (a b : Bool) → r ≡ as_err T e → a ≡ b
+    → (as_err V e ≡ as_err V read) ↔ (b ≡ true) → (r ≡ as_err T read) ↔ (a ≡ true)
+failed_by_err T V r e read a b same ab failed =
+    (λ h. ab ∙ failed.0 (err_same T V e read (sym same ∙ h)), λ h. same ∙ err_same V T e read (failed.1 (sym ab ∙ h)))
+
+pub unfailed_by_ok : {F : Type 0} (V : Type 0) (x : V) (read : F) (b : Bool) → (as_ok V x ≡ as_err V read) ↔ (b ≡ true) → b ≡ false
+unfailed_by_ok V x read true failed = absurd (ok_err (failed.1 refl))
+  where
+    ok_err : as_ok V x ≡ as_err V read → ⊥
+    ok_err e = cc
+unfailed_by_ok V x read false failed = refl
