@@ -1,6 +1,6 @@
 -- How the reading of an input may end a run.
 use Rattle.std.proofs.Common.{◌≡◌, ◌∙◌, ◌↔◌, sym, ap, subst, refl, ℕ, ◌<◌, Bool, true, false, List, length, Option, None, Some, Result, Ok, Err, inl, inr}
-use Rattle.std.specs.Prelude.{IfSome, is_some}
+use Rattle.std.specs.Prelude.{◌||◌, is_some}
 use Rattle.host_io.specs.declared.watch.Watched.{Watched}
 use Rattle.host_io.specs.WholeText.{IsLonger}
 use Rattle.whole_run.specs.Inputs.{IsRefusedDump}
@@ -90,3 +90,48 @@ unfailed_by_ok V x read true failed = absurd (ok_err (failed.1 refl))
     ok_err : as_ok V x ≡ as_err V read → ⊥
     ok_err e = cc
 unfailed_by_ok V x read false failed = refl
+
+pub neither : (P : Type 0) (a : Bool) → (P → ⊥) → a ≡ false → P ↔ (a ≡ true)
+neither P a not ab = (λ h. absurd (not h), λ h. absurd (false_true (sym ab ∙ h)))
+  where
+    false_true : false ≡ true → ⊥
+    false_true e = cc
+
+pub memory_is_no_read : {A : Type 0} (T : Type 0) (r : Result T (RunFault A)) → r ≡ as_err T OutOfMemory → r ≡ as_err T Read → ⊥
+memory_is_no_read T r same h = other (sym same ∙ h)
+  where
+    other : as_err T OutOfMemory ≡ as_err T Read → ⊥
+    other e = cc
+
+pub large_is_no_read : {A : Type 0} (T : Type 0) → as_err {F = RunFault A} T TooLarge ≡ as_err T Read → ⊥
+large_is_no_read T e = cc
+
+pub ok_is_no_read : {A : Type 0} (T : Type 0) (x : T) → as_ok {F = RunFault A} T x ≡ as_err T Read → ⊥
+ok_is_no_read T x e = cc
+
+-- one of all readers
+
+pub both_false : (a b : Bool) → (a || b) ≡ false → (a ≡ false) × (b ≡ false)
+both_false true b e = absurd cc
+both_false false b e = (refl, e)
+
+pub or_false : (a b : Bool) → a ≡ false → b ≡ false → (a || b) ≡ false
+or_false true b e f = absurd cc
+or_false false b e f = f
+
+or_first : (a b : Bool) → b ≡ false → (a || b) ≡ a
+or_first true b e = refl
+or_first false b e = e
+
+or_second : (a b : Bool) → a ≡ false → (a || b) ≡ b
+or_second true b e = absurd cc
+or_second false b e = refl
+
+pub only_dump : (a b c d : Bool) → (b || c) ≡ false → d ≡ false → ((a || (b || c)) || d) ≡ a
+only_dump a b c d e f = or_first (a || (b || c)) d f ∙ or_first a (b || c) e
+
+pub only_baseline : (a b c d : Bool) → a ≡ false → c ≡ false → d ≡ false → ((a || (b || c)) || d) ≡ b
+only_baseline a b c d e f h = or_first (a || (b || c)) d h ∙ or_second a (b || c) e ∙ or_first b c f
+
+pub only_names : (a b c d : Bool) → a ≡ false → b ≡ false → d ≡ false → ((a || (b || c)) || d) ≡ c
+only_names a b c d e f h = or_first (a || (b || c)) d h ∙ or_second a (b || c) e ∙ or_second b c f

@@ -1,6 +1,6 @@
 -- How a run ends, by what was carried out.
 use Rattle.std.proofs.Common.{◌≡◌, ◌∙◌, sym, ap, subst, refl, ℕ, ◌+◌, ◌<◌, ◌≤◌, eqb, zero-add, Bool, true, false, cond, List, [], ◌∷◌, ◌++◌, append-nil, length, map, Option, None, Some, Result, Ok, Err, inl, inr, arith}
-use Rattle.std.specs.Prelude.{◌⊎◌, ◌&&◌, ◌||◌, All, IfErr, IfOk, IfSome, OnOk, count_by, nat_lt, unwrap_or}
+use Rattle.std.specs.Prelude.{◌⊎◌, ◌&&◌, ◌||◌, All, IfErr, IfOk, IfSome, OnOk, Vec, count_by, nat_lt, unwrap_or, vec_len}
 use Rattle.std.proofs.lemmas.Result.{IfErr-weaker, IfOk-weaker}
 use Rattle.std.specs.List.{list_all, list_any}
 use Rattle.std.specs.Io.KnownBytes.{Appends}
@@ -165,6 +165,11 @@ no_longer (t ∷ texts) short longer =
     longer_by (nat_lt most (length t.text.items)) _ ⊥ (λ e. omega (arith, ltb-true most (length t.text.items) e, all_head HasFewBytes t texts short))
     (no_longer texts (all_tail HasFewBytes t texts short)) longer
 
+pub names_few : {A : Type 0} (names : Option (Vec ℕ A)) → IfSome names (λ bytes. vec_len bytes ≤ most)
+    → IfSome (bytes_in names) (λ bytes. length bytes ≤ most)
+names_few None few = tt
+names_few (Some names) few = few
+
 pub not_much : {A : Type 0} (texts : Texts A) → length texts.studies.items ≤ most → IfSome (bytes_in texts.names) (λ bytes. length bytes ≤ most)
     → All HasFewBytes texts.studies.items → IsTooMuch (given_in texts) → ⊥
 not_much texts few names short (inl many) = omega (arith, few, many, length-map texts.studies.items named_text)
@@ -182,7 +187,7 @@ writing_end given Write accepted end = accepted
 writing_end given TooLarge accepted end = absurd end
 writing_end given OutOfMemory accepted end = tt
 
-pub not_before : {A : Type 0} (fault : RunFault A) → MayEndWriting fault → IsBeforeReplies fault → ⊥
+not_before : {A : Type 0} (fault : RunFault A) → MayEndWriting fault → IsBeforeReplies fault → ⊥
 not_before (Dump fault) end before = end
 not_before (Baseline fault) end before = end
 not_before (Names refusal) end before = end
@@ -190,6 +195,11 @@ not_before Read end before = end
 not_before Write end before = before
 not_before TooLarge end before = end
 not_before OutOfMemory end before = before
+
+-- nothing was written before a fault of the inputs, since there is none after them
+pub untouched_after : {T A : Type 0} (r : Result T (RunFault A)) (K : Type 0) → IfErr r MayEndWriting → IfErr r (λ fault. IsBeforeReplies fault → K)
+untouched_after (Ok value) K end = tt
+untouched_after (Err fault) K end = λ before. absurd (not_before fault end before)
 
 -- what holds anyhow holds after a success
 on_success : {T E P : Type 0} (r : Result T E) → P → OnOk r P

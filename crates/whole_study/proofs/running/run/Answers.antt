@@ -1,8 +1,7 @@
-use Rattle.std.proofs.Common.{ap}
-use Rattle.std.proofs.lemmas.Result.{IfErr-weaker}
+use Rattle.std.proofs.Common.{◌≡◌, ap}
 use Rattle.study_session.specs.Answers.{study_of}
 use Rattle.whole_study.specs.steps.Texts.{given_in, lines_in}
-use Rattle.whole_study.proofs.RunEnds.{ended_for, inputs_for, not_before, prefix_for}
+use Rattle.whole_study.proofs.RunEnds.{ended_for, inputs_for, prefix_for, untouched_after}
 use Rattle.whole_study.proofs.running.run.Goals as goal
 
 pub run_studies-requires-clause-short : goal.run_studies-requires-clause-short
@@ -25,4 +24,5 @@ returns-clause-inputs g c = λ given have.
     c.run_studies.ensures.fault
 
 pub returns-clause-untouched : goal.returns-clause-untouched
-returns-clause-untouched g c = IfErr-weaker _ _ _ (λ fault may before. absurd (not_before fault may before)) c.run_studies.ensures.fault
+returns-clause-untouched g c =
+    untouched_after c.run_studies.result (c.run_studies.new.output ≡ c.args.output.now) c.run_studies.ensures.fault
