@@ -1,6 +1,7 @@
 -- Lines carried out one after another.
-use Rattle.std.proofs.Common.{◌≡◌, ◌∙◌, sym, ap, subst, refl, ℕ, Bool, true, false, List, [], ◌∷◌, ◌++◌, append_assoc, append-nil, Option, None, Some, inl, inr}
-use Rattle.std.specs.Prelude.{◌⊎◌, ◌||◌, ◌&&◌, flat_map}
+use Rattle.std.proofs.Common.{◌≡◌, ◌∙◌, sym, ap, subst, refl, ℕ, Bool, true, false, List, [], ◌∷◌, ◌++◌, append_assoc, append-nil, length, get_or, drop, suc, add-one, ◌+◌, ◌<◌, ◌≤◌, Option, None, Some, inl, inr, arith}
+use Rattle.std.specs.Prelude.{◌⊎◌, ◌||◌, ◌&&◌, All, flat_map}
+use Rattle.std.proofs.Math.Seq.{drop-cons}
 use Rattle.std.specs.List.{list_all}
 use Rattle.std.specs.Io.KnownBytes.{Appends}
 use Rattle.std.proofs.KnownBytes.{Appends-trans, Appends-nil}
@@ -10,9 +11,12 @@ use Rattle.host_io.specs.WholeText.{AppendsPrefix}
 use Rattle.host_io.proofs.PrefixLemmas.{AppendsPrefix-after, starts_with_front}
 use Rattle.study_session.specs.Answers.{AnswerValue, Study}
 use Rattle.study_session.specs.Lines.{IsAnswerTo, after_line}
-use Rattle.whole_study.specs.Lines.{Line}
+use Rattle.whole_study.specs.Lines.{Line, study_lines}
 use Rattle.whole_study.specs.Run.{Answered, AreAnswered, GivesFirst, StopsAtLast, answered_line, error_line, errors_of, goes_on, is_accepted, replies_of, study_after, summary_of, was_accepted}
 use Rattle.whole_study.specs.steps.Carrying.{CarriesOut, IsStopBy, WritesPart, Written}
+use Rattle.whole_study.specs.steps.Counting.{AreCounts}
+use Rattle.whole_study.specs.steps.Texts.{HasFewBytes, lines_in, named_text}
+use Rattle.whole_study.specs.declared.inputs.StudyText.{StudyText}
 use Rattle.whole_study.specs.declared.summary.Summary.{Summary}
 
 -- ---- answers
@@ -368,3 +372,19 @@ one_part keep_going s line answer old new is replies errors =
       replies = subst (AppendsPrefix old.replies new.replies) (sym (append-nil answer.text)) replies;
       errors = subst (AppendsPrefix old.errors new.errors) (sym (append-nil (error_line given))) errors;
     }
+
+-- ---- studies
+
+pub next_study : {A : Type 0} (studies : List (StudyText A)) (i : ℕ) (x : StudyText A) → i < length studies → x ≡ get_or studies i x
+    → lines_in (drop i studies) ≡ study_lines (named_text x) ++ lines_in (drop (i + 1) studies)
+next_study studies i x within is =
+    ap lines_in (drop-cons studies i x within ∙ ap (λ (y : StudyText _). y ∷ drop (suc i) studies) (sym is))
+    ∙ ap (λ (n : ℕ). study_lines (named_text x) ++ lines_in (drop n studies)) (sym (add-one i))
+
+pub few_at : {A : Type 0} (studies : List (StudyText A)) (i : ℕ) (x : StudyText A) → i < length studies → x ≡ get_or studies i x
+    → All HasFewBytes studies → length x.text.items ≤ 1048576
+few_at studies i x within is all = subst (λ (y : StudyText _). HasFewBytes y) (sym is) (all i x within)
+
+pub counts_none : (summary : Summary) → summary ≡ summary_of [] → AreCounts summary
+counts_none summary e =
+    subst AreCounts (sym e) (record { refused = omega arith; expectations = omega arith; failed = omega arith })

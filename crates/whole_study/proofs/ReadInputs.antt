@@ -118,9 +118,16 @@ long_next remaining xs ys i x l e is longer =
 
 -- ---- readers that have failed
 
+pub all_head : {X : Type 0} (P : X → Type 0) (x : X) (xs : List X) → All P (x ∷ xs) → P x
+all_head P x xs all = all 0 x (omega arith)
+
+pub all_tail : {X : Type 0} (P : X → Type 0) (x : X) (xs : List X) → All P (x ∷ xs) → All P xs
+all_tail P x xs all = λ k d within. all (suc k) d (omega (arith, within))
+
 pub any_none : {X : Type 0} (p : X → Bool) (xs : List X) → All (λ x. p x ≡ false) xs → list_any p xs ≡ false
 any_none p [] all = refl
-any_none p (x ∷ xs) all = any_neither (p x) (list_any p xs) all.0 (any_none p xs all.1)
+any_none p (x ∷ xs) all =
+    any_neither (p x) (list_any p xs) (all_head (λ y. p y ≡ false) x xs all) (any_none p xs (all_tail (λ y. p y ≡ false) x xs all))
   where
     any_neither : (a b : Bool) → a ≡ false → b ≡ false → (a || b) ≡ false
     any_neither true b e f = absurd cc
@@ -129,10 +136,11 @@ any_none p (x ∷ xs) all = any_neither (p x) (list_any p xs) all.0 (any_none p 
 -- of readers that have not failed one is read
 pub any_set : {X : Type 0} (p : X → Bool) (xs : List X) (i : ℕ) (x : X) → All (λ x. p x ≡ false) xs → i < length xs → list_any p (set xs i x) ≡ p x
 any_set p [] i x all within = absurd (omega (arith, within))
-any_set p (y ∷ xs) zero x all within = or_none (p x) (list_any p xs) (any_none p xs all.1)
+any_set p (y ∷ xs) zero x all within = or_none (p x) (list_any p xs) (any_none p xs (all_tail (λ z. p z ≡ false) y xs all))
   where
     or_none : (a b : Bool) → b ≡ false → (a || b) ≡ a
     or_none true b e = refl
     or_none false b e = e
 any_set p (y ∷ xs) (suc i) x all within =
-    ap (λ b. b || list_any p (set xs i x)) all.0 ∙ any_set p xs i x all.1 (omega (arith, within))
+    ap (λ b. b || list_any p (set xs i x)) (all_head (λ z. p z ≡ false) y xs all)
+    ∙ any_set p xs i x (all_tail (λ z. p z ≡ false) y xs all) (omega (arith, within))

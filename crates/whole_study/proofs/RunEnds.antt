@@ -1,6 +1,7 @@
 -- How a run ends, by what was carried out.
-use Rattle.std.proofs.Common.{◌≡◌, ◌∙◌, sym, ap, subst, refl, ℕ, ◌+◌, ◌<◌, ◌≤◌, eqb, zero-add, Bool, true, false, cond, List, [], ◌∷◌, ◌++◌, append-nil, length, map, Option, None, Some, inl, inr, arith}
-use Rattle.std.specs.Prelude.{◌&&◌, ◌||◌, All, IfSome, count_by, nat_lt, unwrap_or}
+use Rattle.std.proofs.Common.{◌≡◌, ◌∙◌, sym, ap, subst, refl, ℕ, ◌+◌, ◌<◌, ◌≤◌, eqb, zero-add, Bool, true, false, cond, List, [], ◌∷◌, ◌++◌, append-nil, length, map, Option, None, Some, Result, Ok, Err, inl, inr, arith}
+use Rattle.std.specs.Prelude.{◌⊎◌, ◌&&◌, ◌||◌, All, IfErr, IfOk, IfSome, OnOk, Vec, count_by, nat_lt, unwrap_or, vec_len}
+use Rattle.std.proofs.lemmas.Result.{IfErr-weaker, IfOk-weaker}
 use Rattle.std.specs.List.{list_all, list_any}
 use Rattle.std.specs.Io.KnownBytes.{Appends}
 use Rattle.std.proofs.KnownBytes.{Appends-trans}
@@ -12,10 +13,10 @@ use Rattle.host_io.specs.WholeText.{AppendsPrefix}
 use Rattle.study_session.specs.declared.answer.Outcome.{Outcome}
 use Rattle.study_session.specs.declared.answer.Outcome.TheVariants.{Accepted, Refused, Failed}
 use Rattle.study_session.specs.Answers.{Study}
-use Rattle.whole_study.specs.Begin.{AreAccepted}
-use Rattle.whole_study.specs.Calls.{HasLonger, IsTooMuch, MayEndRun, WritesPrefix, most, of_all, of_first}
+use Rattle.whole_study.specs.Begin.{AreAccepted, Begins}
+use Rattle.whole_study.specs.Calls.{Ends, FitsInputs, HasLonger, IsBeforeReplies, IsTooMuch, MayEndRun, WritesPrefix, most, of_all, of_first}
 use Rattle.whole_study.specs.Given.{Given, NamedText}
-use Rattle.whole_study.specs.Lines.{Line}
+use Rattle.whole_study.specs.Lines.{Line, all_lines}
 use Rattle.whole_study.specs.Run.{Answered, AreAnswered, Gives, IsStop, StopsAtLast, dump_left, dump_of, errors_of, goes_on, has_passed, is_accepted, replies_of, study_after, summary_of, summary_text, was_accepted, was_failed, was_refused, whole_replies}
 use Rattle.whole_study.specs.steps.Carrying.{CarriesOut, IsStopBy, WritesPart, Written}
 use Rattle.whole_study.specs.steps.Endings.{MayEndWriting}
@@ -27,7 +28,9 @@ use Rattle.whole_study.specs.declared.inputs.Texts.{Texts}
 use Rattle.whole_study.specs.declared.running.Ended.{Ended}
 use Rattle.whole_study.specs.declared.running.Manner.{Manner}
 use Rattle.whole_study.specs.declared.summary.Summary.{Summary}
+use Rattle.whole_study.proofs.Begun.{accepted_of}
 use Rattle.whole_study.proofs.CarriedLines.{prefix_both, prefix_whole}
+use Rattle.whole_study.proofs.ReadInputs.{all_head, all_tail}
 
 -- ---- the verdict
 
@@ -159,11 +162,17 @@ longer_by false c rest first second e = second e
 no_longer : {A : Type 0} (texts : List (StudyText A)) → All HasFewBytes texts → HasLonger (map named_text texts) → ⊥
 no_longer [] short longer = absurd cc
 no_longer (t ∷ texts) short longer =
-    longer_by (nat_lt most (length t.text.items)) _ ⊥ (λ e. omega (arith, ltb-true most (length t.text.items) e, short.0)) (no_longer texts short.1) longer
+    longer_by (nat_lt most (length t.text.items)) _ ⊥ (λ e. omega (arith, ltb-true most (length t.text.items) e, all_head HasFewBytes t texts short))
+    (no_longer texts (all_tail HasFewBytes t texts short)) longer
+
+pub names_few : {A : Type 0} (names : Option (Vec ℕ A)) → IfSome names (λ bytes. vec_len bytes ≤ most)
+    → IfSome (bytes_in names) (λ bytes. length bytes ≤ most)
+names_few None few = tt
+names_few (Some names) few = few
 
 pub not_much : {A : Type 0} (texts : Texts A) → length texts.studies.items ≤ most → IfSome (bytes_in texts.names) (λ bytes. length bytes ≤ most)
     → All HasFewBytes texts.studies.items → IsTooMuch (given_in texts) → ⊥
-not_much texts few names short (inl many) = omega (arith, few, many, length-map named_text texts.studies.items)
+not_much texts few names short (inl many) = omega (arith, few, many, length-map texts.studies.items named_text)
 not_much texts few names short (inr (inl long)) = short_or (bytes_in texts.names) names long
 not_much texts few names short (inr (inr longer)) = no_longer texts.studies.items short longer
 
@@ -177,3 +186,50 @@ writing_end given Read accepted end = absurd end
 writing_end given Write accepted end = accepted
 writing_end given TooLarge accepted end = absurd end
 writing_end given OutOfMemory accepted end = tt
+
+not_before : {A : Type 0} (fault : RunFault A) → MayEndWriting fault → IsBeforeReplies fault → ⊥
+not_before (Dump fault) end before = end
+not_before (Baseline fault) end before = end
+not_before (Names refusal) end before = end
+not_before Read end before = end
+not_before Write end before = before
+not_before TooLarge end before = end
+not_before OutOfMemory end before = before
+
+-- nothing was written before a fault of the inputs, since there is none after them
+pub untouched_after : {T A : Type 0} (r : Result T (RunFault A)) (K : Type 0) → IfErr r MayEndWriting → IfErr r (λ fault. IsBeforeReplies fault → K)
+untouched_after (Ok value) K end = tt
+untouched_after (Err fault) K end = λ before. absurd (not_before fault end before)
+
+-- what holds anyhow holds after a success
+on_success : {T E P : Type 0} (r : Result T E) → P → OnOk r P
+on_success (Ok value) holds = holds
+on_success (Err fault) holds = tt
+
+-- ---- the run, from what was read of its inputs
+
+module _ (read given : Given) (s : Study) (lines : List Line) (same : read ≡ given) (are : lines ≡ all_lines read.studies) (begins : Begins read s) where
+  begins_given : Begins given s
+  begins_given = subst (λ (g : Given). Begins g s) same begins
+
+  lines_given : lines ≡ all_lines given.studies
+  lines_given = are ∙ ap (λ (g : Given). all_lines g.studies) same
+
+  pub ended_for : {A : Type 0} (manner : Manner) (r0 r1 e0 e1 : Option (List ℕ)) (result : Result (Ended A) (RunFault A))
+      → IfOk result (Ends manner s lines r0 r1 e0 e1)
+      → IfOk result (λ ended. (t : Study) × (Begins given t × Ends manner t (all_lines given.studies) r0 r1 e0 e1 ended))
+  ended_for manner r0 r1 e0 e1 result ends =
+      IfOk-weaker result _ _
+      (λ ended end. (s, (begins_given, subst (λ (l : List Line). Ends manner s l r0 r1 e0 e1 ended) lines_given end))) ends
+
+  pub prefix_for : (K : Type 0) (keep_going : Bool) (r0 r1 e0 e1 : Option (List ℕ)) → WritesPrefix keep_going s lines r0 r1 e0 e1
+      → K ⊎ ((t : Study) × (Begins given t × WritesPrefix keep_going t (all_lines given.studies) r0 r1 e0 e1))
+  prefix_for K keep_going r0 r1 e0 e1 part =
+      inr (s, (begins_given, subst (λ (l : List Line). WritesPrefix keep_going s l r0 r1 e0 e1) lines_given part))
+
+  pub inputs_for : {T A : Type 0} (result : Result T (RunFault A)) → (IsTooMuch read → ⊥) → IfErr result MayEndWriting → FitsInputs given result
+  inputs_for result few end = record {
+    accepted = on_success result (accepted_of given s begins_given);
+    within = on_success result (λ (much : IsTooMuch given). few (subst IsTooMuch (sym same) much));
+    faults = IfErr-weaker result _ _ (λ fault may. writing_end given fault (accepted_of given s begins_given) may) end;
+  }

@@ -18,14 +18,14 @@ use crate::output::{Line, Output, was_accepted, write_answer};
 use crate::summary::Summary;
 use std::alloc::Allocator;
 use std::io::Write;
-use study_session::{Outcome, StudySession};
+use study_session::{Answer, StudySession};
 use text_words::cut_at;
 
-/// Whether a run goes on after a line.
-fn goes_on(keep_going: bool, outcome: Outcome) -> bool
-    ensures { result ≡ (keep_going || was_accepted outcome) }
+/// Whether a run goes on after an answer.
+fn goes_on<A: Allocator>(keep_going: bool, answer: &Answer<A>) -> bool
+    ensures { result ≡ (keep_going || was_accepted answer.now.outcome) }
 {
-    keep_going || was_accepted(outcome)
+    keep_going || was_accepted(answer.outcome)
 }
 
 /// Carries out one line, writes its answer if it has one, and counts it. Returns whether the run
@@ -55,7 +55,7 @@ fn carry_out_line<A: Allocator + Copy, W: Write, E: Write>(
     };
     write_answer(alloc, line, &answer, output)?;
     summary.count(&answer);
-    Ok(goes_on(keep_going, answer.outcome))
+    Ok(goes_on(keep_going, &answer))
 }
 
 /// Carries out the lines of a study, up to the first that is not accepted unless the run keeps

@@ -6,7 +6,7 @@ ghost use Rattle.host_io.specs.Watched.{inner_of, has_failed};
 ghost use Rattle.host_io.specs.WholeText.{IsAll, IsLonger};
 ghost use Rattle.whole_run.specs.Inputs.{IsRefusedDump};
 ghost use Rattle.whole_run.specs.Streams.{contents_of, has_any_failed};
-ghost use Rattle.whole_study.specs.Calls.{IsBeforeReplies, IsTooMuch, MayEndRun, most};
+ghost use Rattle.whole_study.specs.Calls.{IsTooMuch, MayEndRun, most};
 ghost use Rattle.whole_study.specs.Given.{Given};
 ghost use Rattle.whole_study.specs.Streams.{HaveBytes, has_file_failed, has_study_failed};
 ghost use Rattle.whole_study.specs.steps.Texts.{HasFewBytes, IsLongBaseline, IsLongIn, IsReadEnd, IsReadOf, IsTextOf, Never, bytes_in, given_in};
@@ -204,7 +204,6 @@ pub(crate) fn read_all<'a, A: Allocator + Copy, R: Read, S: Read>(
     ensures much { IfOk result (λ texts. IsTooMuch (given_in texts) → ⊥) }
     ensures end { (given : Given) → HaveBytes R.remaining S.remaining files.old studies.old given
         → IfErr result (MayEndRun given) }
-    ensures early { IfErr result IsBeforeReplies }
     ensures failed { (result ≡ Err RunFault.Read)
         ↔ ((has_file_failed files.new || has_study_failed studies.new) ≡ true) }
 {

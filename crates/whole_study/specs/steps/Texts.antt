@@ -54,9 +54,9 @@ pub record IsReadOf {R : Type 0} (remaining : R → Option (List ℕ)) (reader :
   pub same : IfSome (contents_of remaining reader) (λ known. bytes ≡ Some known)
 
 -- the name and all bytes of a study
-pub record IsTextOf {S A : Type 0} (remaining : S → Option (List ℕ)) (file : StudyFile S) (text : StudyText A) : Type 0 where
-  pub name : text.name.now ≡ file.name.now
-  pub text : IsAll (remaining (inner_of file.reader)) text.text.items
+pub record IsTextOf {S A : Type 0} (remaining : S → Option (List ℕ)) (file : StudyFile S) (study : StudyText A) : Type 0 where
+  pub name : study.name.now ≡ file.name.now
+  pub text : IsAll (remaining (inner_of file.reader)) study.text.items
 
 -- ---- how the reading may end
 

@@ -27,7 +27,11 @@ returns-in_err-carry_out_line-clause-part g c =
     (ap (numbered c.args.study.now.name.now c.lines.number) c.in-Some.ensures.0) _ c.carry_out_line.ensures.part
 
 pub returns-then-not-branch-clause-carried : goal.returns-then-not-branch-clause-carried
-returns-then-not-branch-clause-carried g c = let h = c.if-not-branch in ?
+returns-then-not-branch-clause-carried g c =
+    course_stop c.args.keep_going _ _ _ _ _ _ _ (numbered c.args.study.now.name.now c.lines.number (split c.lines.rest.now)) _
+    (numbered c.args.study.now.name.now (c.lines.number + 1) (split c.in-Some.after.now)) c.lines.invariant.course
+    (ap (numbered c.args.study.now.name.now c.lines.number) c.in-Some.ensures.0) _ _ _
+    (rw c.if-not-branch.true at c.in_ok-carry_out_line.ensures.carried)
 
 pub returns-then-not-branch-clause-part : goal.returns-then-not-branch-clause-part
 returns-then-not-branch-clause-part g c =
@@ -36,7 +40,16 @@ returns-then-not-branch-clause-part g c =
     (ap (numbered c.args.study.now.name.now c.lines.number) c.in-Some.ensures.0) _ c.carry_out_line.ensures.part
 
 pub lines-preserved : goal.lines-preserved
-lines-preserved g c = ?
+lines-preserved g c = record {
+  still_open = search rules;
+  number = omega (arith, c.in-Some.ensures.1, c.lines.invariant.number);
+  room = omega (arith, c.in-Some.ensures.1, c.lines.invariant.room, c.in_ok-carry_out_line.ensures.grows.lines);
+  counts = c.in_ok-carry_out_line.ensures.grows.counts;
+  course = course_more c.args.keep_going _ _ _ _ _ _ _ (numbered c.args.study.now.name.now c.lines.number (split c.lines.rest.now)) _
+      (numbered c.args.study.now.name.now (c.lines.number + 1) (split c.in-Some.after.now)) c.lines.invariant.course
+      (ap (numbered c.args.study.now.name.now c.lines.number) c.in-Some.ensures.0) _ _ _
+      (rw c.if-not-branch.false at c.in_ok-carry_out_line.ensures.carried);
+}
 
 pub returns-clause-carried : goal.returns-clause-carried
 returns-clause-carried g c =
