@@ -18,7 +18,7 @@ module _ {X C : Type 0} (text : X → List C) where
 
 -- two parts, and what a call adds if it goes well
 pub in_three : {T E : Type 0} (result : Result T E) (old a b end one two new : List ℕ) → one ≡ old ++ a → two ≡ one ++ b → OnOk result (new ≡ two ++ end)
-    → OnOk result (new ≡ old ++ (a ++ (b ++ end)))
+    → OnOk result (new ≡ old ++ ((a ++ b) ++ end))
 in_three (Ok t) old a b end one two new first second last =
-    last ∙ ap (λ l. l ++ end) (second ∙ ap (λ l. l ++ b) first) ∙ append_assoc (old ++ a) b end ∙ append_assoc old a (b ++ end)
+    last ∙ ap (λ l. l ++ end) (second ∙ ap (λ l. l ++ b) first) ∙ ap (λ l. l ++ end) (append_assoc old a b) ∙ append_assoc old (a ++ b) end
 in_three (Err e) old a b end one two new first second last = last
