@@ -1,7 +1,7 @@
 -- Texts of things, one after another.
-use Rattle.std.proofs.Common.{◌≡◌, ℕ, ◌+◌, ◌<◌, ◌≤◌, List, ◌++◌, length, take, get_or, sym, ap, ◌∙◌}
-use Rattle.std.specs.Prelude.{flat_map}
-use Rattle.std.proofs.lemmas.List.{flat_map_more, take_all, take_more}
+use Rattle.std.proofs.Common.{◌≡◌, ℕ, ◌+◌, ◌<◌, ◌≤◌, List, ◌++◌, length, take, get_or, Result, Ok, Err, sym, ap, ◌∙◌}
+use Rattle.std.specs.Prelude.{flat_map, OnOk}
+use Rattle.std.proofs.lemmas.List.{append_assoc, flat_map_more, take_all, take_more}
 
 module _ {X C : Type 0} (text : X → List C) where
   -- that of one more thing after those so far
@@ -15,3 +15,10 @@ module _ {X C : Type 0} (text : X → List C) where
   pub all_added : (start : List C) (xs : List X) (i : ℕ) (now : List C) → length xs ≤ i
       → now ≡ start ++ flat_map text (take i xs) → now ≡ start ++ flat_map text xs
   all_added start xs i now done are = are ∙ ap (λ l. start ++ flat_map text l) (take_all i xs done)
+
+-- two parts, and what a call adds if it goes well
+pub in_three : {T E : Type 0} (result : Result T E) (old a b end one two new : List ℕ) → one ≡ old ++ a → two ≡ one ++ b → OnOk result (new ≡ two ++ end)
+    → OnOk result (new ≡ old ++ ((a ++ b) ++ end))
+in_three (Ok t) old a b end one two new first second last =
+    last ∙ ap (λ l. l ++ end) (second ∙ ap (λ l. l ++ b) first) ∙ ap (λ l. l ++ end) (append_assoc old a b) ∙ append_assoc old (a ++ b) end
+in_three (Err e) old a b end one two new first second last = last

@@ -54,6 +54,10 @@ counts_text changes = counts_of changes.names change_groups changes.unchanged
 
 -- ---- what was found
 
+-- a word and a number
+unfoldable pub counted : List ℕ → ℕ → List ℕ
+counted word count = word ++ codes " " ++ decimal count
+
 -- the number of changes, and the first of them
 abbrev pub changes_found : Called → List ChangeName → List ℕ
-changes_found called names = codes "changes " ++ decimal (length names) ++ first_three (map (name_text called) names)
+changes_found called names = counted (codes "changes") (length names) ++ first_three (map (name_text called) names)

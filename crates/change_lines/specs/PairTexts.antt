@@ -1,5 +1,5 @@
 -- The texts of routers with prefixes that they have no entry for any more.
-use Rattle.std.specs.Prelude.{ℕ, Bool, ◌==◌, ◌&&◌, not, List, [], ◌∷◌, ◌++◌, map, length, Option, codes, decimal}
+use Rattle.std.specs.Prelude.{ℕ, Bool, ◌==◌, ◌&&◌, not, List, [], ◌∷◌, ◌++◌, map, length, Option, codes}
 use Rattle.std.specs.List.{filter, list_any}
 use Rattle.lsa_codec.specs.Prefix.{Net}
 use Rattle.lsa_codec.specs.Spelling.{prefix_text}
@@ -7,7 +7,7 @@ use Rattle.lsa_codec.specs.declared.address.RouterId.{RouterId}
 use Rattle.study_text.specs.Lists.{first_three, listed}
 use Rattle.study_text.specs.Shown.{Called, shown}
 use Rattle.route_lines.specs.RouteLines.{RouteLineValue}
-use Rattle.change_lines.specs.ChangeTexts.{route_after}
+use Rattle.change_lines.specs.ChangeTexts.{counted, route_after}
 use Rattle.change_lines.specs.declared.pair.Pair.{Pair}
 
 -- a pair, the route that the router had, and the routers that announce the prefix still
@@ -32,7 +32,7 @@ pair_line called line = pair_text called line.pair ++ route_after called (codes 
 
 -- after a word, the number of pairs, and the first of them
 abbrev pub pairs_found : Called → List ℕ → List Pair → List ℕ
-pairs_found called word pairs = word ++ codes " " ++ decimal (length pairs) ++ first_three (map (pair_text called) pairs)
+pairs_found called word pairs = counted word (length pairs) ++ first_three (map (pair_text called) pairs)
 
 abbrev pub same_net : Net → Net → Bool
 same_net a b = (a.addr.0 == b.addr.0) && (a.len == b.len)
@@ -47,4 +47,4 @@ unlisted nets pairs = filter (λ pair. not (is_listed nets pair.net)) pairs
 -- after a word, the number of pairs, that of those which are not listed, and the first of these
 abbrev pub unlisted_found : Called → List ℕ → List Pair → List Pair → List ℕ
 unlisted_found called word pairs others =
-    word ++ codes " " ++ decimal (length pairs) ++ codes ", not listed " ++ decimal (length others) ++ first_three (map (pair_text called) others)
+    counted word (length pairs) ++ counted (codes ", not listed") (length others) ++ first_three (map (pair_text called) others)

@@ -1,8 +1,8 @@
 //! What was found where a condition does not hold.
 
-ghost use Rattle.std.specs.Prelude.{◌≡◌, ◌++◌, length, codes, decimal, IfOk, OnOk};
+ghost use Rattle.std.specs.Prelude.{◌≡◌, ◌++◌, IfOk, OnOk};
 ghost use Rattle.network_names.specs.Names.{called};
-ghost use Rattle.change_lines.specs.ChangeTexts.{changes_found};
+ghost use Rattle.change_lines.specs.ChangeTexts.{changes_found, counted};
 ghost use Rattle.change_lines.specs.PairTexts.{is_listed, pairs_found, unlisted, unlisted_found};
 
 use crate::change_name::ChangeName;
@@ -13,13 +13,13 @@ use std::alloc::{AllocError, Allocator};
 use study_text::{push_first_three, push_number};
 
 /// Adds a word, a space and a number.
+#[tactic(auto, unfolding(crate::specs::ChangeTexts::counted))]
 fn push_counted<A: Allocator + Copy>(
     text: &mut Vec<u8, A>,
     word: &str,
     count: usize,
 ) -> Result<(), AllocError>
-    ensures { OnOk result
-        (text.new.items ≡ text.old.items ++ (word.now ++ codes " " ++ decimal count)) }
+    ensures { OnOk result (text.new.items ≡ text.old.items ++ counted word.now count) }
 {
     text.extend_from_slice(word.as_bytes())?;
     text.extend_from_slice(b" ")?;
@@ -86,21 +86,6 @@ pub fn unlisted<A: Allocator + Copy>(
         .collect(alloc)
 }
 
-/// Adds a word, a number, and the number of those which are not listed.
-fn push_both_counts<A: Allocator + Copy>(
-    text: &mut Vec<u8, A>,
-    word: &str,
-    count: usize,
-    others: usize,
-) -> Result<(), AllocError>
-    ensures { OnOk result (text.new.items ≡ text.old.items
-        ++ (word.now ++ codes " " ++ decimal count ++ codes ", not listed "
-        ++ decimal others)) }
-{
-    push_counted(text, word, count)?;
-    push_counted(text, ", not listed", others)
-}
-
 /// Adds the number of pairs after a word, that of those which are not listed, and the first of
 /// these, as `lost 2, not listed 1: r1 10.0.0.0/24`.
 ///
@@ -117,6 +102,7 @@ pub fn push_unlisted<A: Allocator + Copy>(
     ensures { OnOk result (text.new.items ≡ text.old.items
         ++ unlisted_found (called names.now) word.now pairs.now others.now) }
 {
-    push_both_counts(text, word, pairs.len(), others.len())?;
+    push_counted(text, word, pairs.len())?;
+    push_counted(text, ", not listed", others.len())?;
     push_first_three(text, names, others)
 }

@@ -3,4 +3,4 @@ use Rattle.router_entries.proofs.EntryLemmas.{equal_nets}
 use Rattle.lost_routes.proofs.announcers.is_for.Goals as goal
 
 pub returns : goal.returns
-returns g c = c.eq.ensures ∙ equal_nets c.args.net c.args.pair.net
+returns c = c.eq.ensures ∙ equal_nets c.args.net c.args.pair.net
