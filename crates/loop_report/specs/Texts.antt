@@ -14,16 +14,16 @@ module _ (called : Called) where
 
   -- `10.4.0.0/16 at r2`
   abbrev pub blackhole_text : BlackholeValue → List ℕ
-  blackhole_text hole = prefix_text hole.net ++ codes " at " ++ shown called hole.router
+  blackhole_text blackhole = prefix_text blackhole.net ++ codes " at " ++ shown called blackhole.router
 
   abbrev pub loop_line : LoopValue → List ℕ
   loop_line loop = codes "loop " ++ loop_text loop ++ codes "\n"
 
   abbrev pub blackhole_line : BlackholeValue → List ℕ
-  blackhole_line hole = codes "blackhole " ++ blackhole_text hole ++ codes " from " ++ listed (map (shown called) hole.senders) ++ codes "\n"
+  blackhole_line blackhole = codes "blackhole " ++ blackhole_text blackhole ++ codes " from " ++ listed (map (shown called) blackhole.senders) ++ codes "\n"
 
   abbrev pub loop_lines : List LoopValue → List ℕ
   loop_lines loops = flat_map loop_line loops
 
   abbrev pub blackhole_lines : List BlackholeValue → List ℕ
-  blackhole_lines holes = flat_map blackhole_line holes
+  blackhole_lines blackholes = flat_map blackhole_line blackholes

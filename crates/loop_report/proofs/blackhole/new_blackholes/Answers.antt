@@ -10,8 +10,8 @@ no_router = record { 0 = 0 }
 
 pub loop-router-preserved : goal.loop-router-preserved
 loop-router-preserved g c =
-    let hole : RouterId → BlackholeValue = blackhole_at c.args.net c.args.is.now in
-    adds_at (map_adds hole) (λ (l : List BlackholeValue). c.loop-router.found.items ≡ l) (λ (l : List BlackholeValue). c.push.new.self.items ≡ l)
+    let blackhole : RouterId → BlackholeValue = blackhole_at c.args.net c.args.is.now in
+    adds_at (map_adds blackhole) (λ (l : List BlackholeValue). c.loop-router.found.items ≡ l) (λ (l : List BlackholeValue). c.push.new.self.items ≡ l)
     c.deref-router-items.result.now c.loop-router.router-index no_router c.loop-router-test.true c.loop-router.invariant (λ l was.
     c.in_ok-push.ensures.items ∙ ap (λ (t : List BlackholeValue). t ++ c.in_ok-of.field-0 ∷ []) was
     ∙ ap (λ (b : BlackholeValue). l ++ b ∷ []) c.in_ok-of.ensures)
