@@ -3,3 +3,4 @@ pub mod BranchSessions
 pub mod AllTables
 pub mod RefusedCommands
 pub mod AcceptedEdits
+pub mod MovedBack

@@ -236,7 +236,8 @@ impl<A: Allocator + Copy> Branches<A> {
             return Ok(());
         }
         let planner = self.begun()?;
-        self.name(branch, planner)
+        self.name(branch, planner)?;
+        Ok(())
     }
 
     /// Whether a branch has a planner.

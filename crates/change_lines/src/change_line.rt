@@ -13,7 +13,7 @@ use std::marker::Model;
 use study_text::Shown;
 
 /// What differs, with the route of now and the one before.
-#[derive(Debug, Drop)]
+#[derive(Drop)]
 pub struct ChangeLine<A: Allocator = Global> {
     /// What differs, by name.
     pub name: ChangeName,

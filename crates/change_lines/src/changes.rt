@@ -11,7 +11,7 @@ use std::marker::Model;
 use study_text::push_number;
 
 /// What differs from a baseline, by group, then by router and prefix.
-#[derive(Debug, Drop)]
+#[derive(Drop)]
 pub struct Changes<A: Allocator = Global> {
     /// What differs.
     pub names: Vec<ChangeName, A>,

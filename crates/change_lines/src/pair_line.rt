@@ -14,7 +14,7 @@ use std::marker::Model;
 use study_text::{Shown, push_list};
 
 /// A router and a prefix that it has no entry for any more.
-#[derive(Debug, Drop)]
+#[derive(Drop)]
 pub struct PairLine<A: Allocator = Global> {
     /// The router and the prefix.
     pub pair: Pair,

@@ -5,3 +5,5 @@ mod Takings
 mod LinkLengths
 mod AreaIds
 mod ByKey
+mod Costs
+mod RouterValues

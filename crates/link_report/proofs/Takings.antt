@@ -1,5 +1,5 @@
 -- What is taken of numbered items: all, or those that pass a test.
-use Rattle.std.proofs.Common.{◌≡◌, ℕ, Bool, true, false, cond, List, [], ◌∷◌, ◌++◌, filter, map, refl, ap}
+use Rattle.std.proofs.Common.{◌≡◌, ℕ, Bool, true, false, cond, List, [], ◌∷◌, ◌++◌, filter, map, refl}
 use Rattle.link_report.proofs.Numbered.{Takes}
 
 module _ {X C : Type 0} where

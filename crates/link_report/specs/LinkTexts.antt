@@ -94,9 +94,13 @@ description called v = name_text called v ++ codes ", cost " ++ decimal v.link.m
 
 -- ---- lines
 
+-- the router and the area
+abbrev pub place_text : Called → LinkValue → List ℕ
+place_text called v = shown called v.router ++ codes " area " ++ address_text v.area.0 ++ codes " "
+
 -- the line of a link, with its end: the router, the area and the description
 abbrev pub link_line : Called → LinkValue → List ℕ
-link_line called v = shown called v.router ++ codes " area " ++ address_text v.area.0 ++ codes " " ++ description called v ++ codes "\n"
+link_line called v = place_text called v ++ description called v ++ codes "\n"
 
 abbrev pub link_lines : Called → List LinkValue → List ℕ
 link_lines called values = flat_map (link_line called) values

@@ -1,10 +1,10 @@
 //! The lines of `links`, and the descriptions and names of links.
 
-ghost use Rattle.std.specs.Prelude.{◌≡◌, ◌++◌, OnOk, codes, decimal};
+ghost use Rattle.std.specs.Prelude.{◌≡◌, ◌++◌, IfOk, OnOk, codes, decimal, map};
 ghost use Rattle.lsa_codec.specs.Spelling.{address_text};
 ghost use Rattle.network_names.specs.Names.{called};
 ghost use Rattle.study_text.specs.Shown.{shown};
-ghost use Rattle.link_report.specs.LinkTexts.{back_text, costs_text, description, far_text, kind_text, link_line, link_lines, name_text, net_text, owner_text, peers_text, rest_text, stub_text, where_text};
+ghost use Rattle.link_report.specs.LinkTexts.{back_text, costs_text, description, far_text, kind_text, link_line, link_lines, name_text, net_text, owner_text, peers_text, place_text, rest_text, stub_text, where_text};
 ghost use Rattle.link_report.specs.Links.{neighbor_of};
 
 use crate::link_line::LinkLine;
@@ -80,8 +80,8 @@ fn push_where<A: Allocator + Copy>(
     push_address(text, link.link_data)
 }
 
-/// Adds the name of a link, as `#1 point-to-point to r2, 10.0.12.1`: its number, its kind, and where
-/// it leads.
+/// Adds the name of a link, as `#1 point-to-point to r2, 10.0.12.1`: its number, its kind, and
+/// where it leads.
 ///
 /// # Errors
 ///
@@ -119,6 +119,13 @@ impl Shown for Cost {
     }
 }
 
+/// These costs, as they are shown.
+fn costs_shown<A: Allocator + Copy>(alloc: A, costs: &[u32]) -> Result<Vec<Cost, A>, AllocError>
+    ensures { IfOk result (λ shown. shown.items ≡ map (λ cost. record { 0 = cost }) costs.now) }
+{
+    costs.iter().map(|cost| Cost(*cost)).collect(alloc)
+}
+
 /// Adds costs joined by slashes, or `none`.
 fn push_costs<A: Allocator + Copy>(
     text: &mut Vec<u8, A>,
@@ -130,11 +137,8 @@ fn push_costs<A: Allocator + Copy>(
     if costs.is_empty() {
         return text.extend_from_slice(b"none");
     }
-    let costs: Vec<Cost, A> = costs
-        .iter()
-        .map(|cost| Cost(*cost))
-        .collect(*text.allocator())?;
-    push_joined(text, names, "/", &costs)
+    let shown = costs_shown(*text.allocator(), costs)?;
+    push_joined(text, names, "/", &shown)
 }
 
 /// Adds addresses joined by slashes, or `none`.
@@ -221,8 +225,8 @@ fn push_rest<A: Allocator + Copy>(
 }
 
 /// Adds the description of a link, as
-/// `#1 point-to-point to r1, 10.0.13.2, cost 10, back 10, peer 10.0.13.1, stub #2 10.0.13.0/30 cost 10`:
-/// its name, its cost, and what is known of its other end.
+/// `#1 point-to-point to r1, 10.0.13.2, cost 10, back 10, peer 10.0.13.1, stub #2 10.0.13.0/30 cost
+/// 10`: its name, its cost, and what is known of its other end.
 ///
 /// # Errors
 ///
@@ -241,6 +245,21 @@ pub fn push_link<A: Allocator + Copy>(
     push_rest(text, names, line)
 }
 
+/// Adds the router of a link, and the area.
+fn push_place<A: Allocator + Copy>(
+    text: &mut Vec<u8, A>,
+    names: &Names<'_, A>,
+    line: &LinkLine<A>,
+) -> Result<(), AllocError>
+    ensures { OnOk result
+        (text.new.items ≡ text.old.items ++ place_text (called names.now) line.now) }
+{
+    push_router(text, names, line.router)?;
+    text.extend_from_slice(b" area ")?;
+    push_address(text, Addr(line.area.0))?;
+    text.extend_from_slice(b" ")
+}
+
 /// Adds the line of a link: the router, the area and the description.
 fn push_link_line<A: Allocator + Copy>(
     text: &mut Vec<u8, A>,
@@ -250,16 +269,13 @@ fn push_link_line<A: Allocator + Copy>(
     ensures { OnOk result
         (text.new.items ≡ text.old.items ++ link_line (called names.now) line.now) }
 {
-    push_router(text, names, line.router)?;
-    text.extend_from_slice(b" area ")?;
-    push_address(text, Addr(line.area.0))?;
-    text.extend_from_slice(b" ")?;
+    push_place(text, names, line)?;
     push_link(text, names, line)?;
     text.extend_from_slice(b"\n")
 }
 
-/// Adds a line for each link, as `r3 area 0.0.0.0 #2 stub 10.0.13.0/30, cost 10, of #1`: the router,
-/// the area and the description.
+/// Adds a line for each link, as `r3 area 0.0.0.0 #2 stub 10.0.13.0/30, cost 10, of #1`: the
+/// router, the area and the description.
 ///
 /// # Errors
 ///

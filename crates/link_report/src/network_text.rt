@@ -28,6 +28,19 @@ fn push_designated<A: Allocator + Copy>(
     push_address(text, line.address)
 }
 
+/// Adds the routers that are listed and have a link to the network.
+fn push_members<A: Allocator + Copy>(
+    text: &mut Vec<u8, A>,
+    names: &Names<'_, A>,
+    routers: &[RouterId],
+) -> Result<(), AllocError>
+    ensures { OnOk result
+        (text.new.items ≡ text.old.items ++ members_text (called names.now) routers.now) }
+{
+    text.extend_from_slice(b" members ")?;
+    push_list(text, names, routers)
+}
+
 /// Adds the routers that are listed and have no link to the network, if there are any.
 fn push_one_way<A: Allocator + Copy>(
     text: &mut Vec<u8, A>,
@@ -54,8 +67,7 @@ fn push_network_line<A: Allocator + Copy>(
         (text.new.items ≡ text.old.items ++ network_line (called names.now) line.now) }
 {
     push_designated(text, names, line)?;
-    text.extend_from_slice(b" members ")?;
-    push_list(text, names, line.members.as_slice())?;
+    push_members(text, names, line.members.as_slice())?;
     push_one_way(text, names, line.one_way.as_slice())?;
     text.extend_from_slice(b"\n")
 }

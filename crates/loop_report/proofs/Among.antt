@@ -1,22 +1,21 @@
 -- The prefixes of entries are among those whose atoms are looked at.
-use Rattle.std.proofs.Common.{◌≡◌, Bool, true, false, List, ◌++◌, Option, None, Some, refl, sym, ◌∙◌}
+use Rattle.std.proofs.Common.{◌≡◌, Bool, true, false, cond, List, [], ◌∷◌, ◌++◌, Option, None, Some, refl, sym, ap, ◌∙◌}
 use Rattle.std.specs.Prelude.{◌||◌, is_some}
 use Rattle.std.specs.Ordering.{eq_by_cmp}
 use Rattle.std.proofs.lemmas.Bool.{false≢true}
+use Rattle.std.proofs.lemmas.List.Folds.{list_any-append}
 use Rattle.lsa_codec.specs.Order.{prefix_cmp}
 use Rattle.lsa_codec.specs.Prefix.{Net}
 use Rattle.lsa_codec.specs.declared.address.RouterId.{RouterId}
 use Rattle.lsa_codec.proofs.OrderLemmas.{prefix_total}
 use Rattle.lsdb.specs.Lists.{Lists}
 use Rattle.area_graph.proofs.MemberLemmas.{In, In-flat_map, In-left, In-list_any, In-right, list_any-In}
-use Rattle.best_ways.specs.Routes.{route_to}
+use Rattle.best_ways.specs.Routes.{nets, route_to}
 use Rattle.best_ways.specs.Values.{RouteValue}
 use Rattle.best_ways.proofs.RisingLemmas.{any_rising}
 use Rattle.forwarding.specs.Graphs.{routers_of}
 use Rattle.forwarding.specs.Matches.{MatchValue, RouterValue, entry_by, entry_for, has_net}
-use Rattle.router_entries.specs.Entries.{nets_of}
-use Rattle.router_entries.proofs.EntryLemmas.{any_of, tested}
-use Rattle.loop_report.specs.Atoms.{nets_in_either, nets_of_all}
+use Rattle.loop_report.specs.Atoms.{nets_in_either, nets_of, nets_of_all}
 
 -- ---- entries of a router
 
@@ -26,9 +25,20 @@ none_by db router net is_own (Some route) h = absurd (false≢true (sym h))
 none_by db router net true None h = absurd (false≢true (sym h))
 none_by db router net false None h = refl
 
+has_route_to : (net : Net) (routes : List RouteValue) → is_some (route_to routes net) ≡ has_net (nets routes) net
+has_route_to net [] = refl
+has_route_to net (r ∷ rs) = by (eq_by_cmp prefix_cmp net r.net) (has_route_to net rs)
+  where
+    by : (b : Bool) → is_some (route_to rs net) ≡ has_net (nets rs) net → is_some (cond b (Some r) (route_to rs net)) ≡ (b || has_net (nets rs) net)
+    by true rest = refl
+    by false rest = rest
+
 -- a router has no entry for a prefix that is none of its entries
 no_entry : (db : Lists) (r : RouterValue) (net : Net) → has_net (nets_of r) net ≡ false → entry_for db r net ≡ None
-no_entry db r net h = none_by db r.router net (has_net r.own net) (route_to r.routes net) (tested r net ∙ sym (any_of r net) ∙ h)
+no_entry db r net h =
+    none_by db r.router net (has_net r.own net) (route_to r.routes net)
+    (ap (λ (b : Bool). b || has_net r.own net) (has_route_to net r.routes)
+    ∙ sym (list_any-append (eq_by_cmp prefix_cmp net) (nets r.routes) r.own) ∙ h)
 
 -- ---- entries of all routers
 

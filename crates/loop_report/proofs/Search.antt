@@ -33,7 +33,7 @@ module _ (nets : List Net) (net : Net) where
           ⊎_elim (λ less. reached.below other less in_atom)
           (λ more. (let from = covers_between address longer reached.number is.covers in
           let covered = covers_more address other longer reached.number in_atom.number is.covers (omega (arith, from.0)) lt in
-          false≢true (sym (in_atom.longest longer.len is.longer is.short) ∙ ap (has_net nets) covered ∙ is.among))) (cases_lt other.0 address.0)
+          false≢true (sym (in_atom.longest longer.len is.more is.short) ∙ ap (has_net nets) covered ∙ is.among))) (cases_lt other.0 address.0)
 
       pub onward : address.0 < end_of longer
       onward = (covers_between address longer reached.number is.covers).1

@@ -6,13 +6,17 @@ use Rattle.lsa_codec.specs.Prefix.{Net, masked}
 use Rattle.lsa_codec.specs.declared.address.Addr.{Addr}
 use Rattle.lsdb.specs.Lists.{Lists}
 use Rattle.area_graph.specs.Rising.{rising}
+use Rattle.best_ways.specs.Routes.{nets}
 use Rattle.forwarding.specs.Graphs.{routers_of}
 use Rattle.forwarding.specs.Matches.{RouterValue, has_net}
-use Rattle.router_entries.specs.Entries.{nets_of}
 
 -- ---- prefixes
 
--- the prefixes of the entries of some routers
+-- the prefixes of a router's entries: of the routes of its table, and of its own AS-external-LSAs
+abbrev pub nets_of : RouterValue → List Net
+nets_of r = nets r.routes ++ r.own
+
+-- those of some routers
 abbrev pub nets_of_all : List RouterValue → List Net
 nets_of_all routers = flat_map nets_of routers
 
@@ -24,7 +28,7 @@ nets_in_either was is = rising prefix_cmp (nets_of_all (routers_of was) ++ nets_
 
 -- a longer prefix than one of this length covers the address
 pub record IsLonger (nets : List Net) (len : ℕ) (address : Addr) (longer : Net) : Type 0 where
-  pub longer : len < longer.len
+  pub more : len < longer.len
   pub short : longer.len ≤ 32
   pub covers : masked address longer.len ≡ longer
   pub among : has_net nets longer ≡ true

@@ -1,16 +1,25 @@
 -- Blackholes: routers without a match for packets that others send to them.
-use Rattle.std.specs.Prelude.{◌≡◌, ◌==◌, ◌&&◌, not, Bool, false, List, filter, map}
+use Rattle.std.specs.Prelude.{◌≡◌, ◌==◌, ◌&&◌, not, Bool, false, List, [], filter, map}
 use Rattle.std.specs.List.{list_any}
 use Rattle.std.specs.Option.{option_map_or}
 use Rattle.lsa_codec.specs.Prefix.{Net}
 use Rattle.lsa_codec.specs.declared.address.RouterId.{RouterId}
 use Rattle.forwarding.specs.Graphs.{StepValue, drops, passes_at}
-use Rattle.forwarding.specs.Ways.{routers_over}
+use Rattle.forwarding.specs.Ways.{router_over}
+use Rattle.forwarding.specs.declared.way.Way.{Way}
 use Rattle.microloops.specs.Changeover.{routers_of}
 
--- a way of a router's match leads to this router
+-- the ways of a router's match
+abbrev pub ways_of : StepValue → List Way
+ways_of s = option_map_or (λ m. m.ways) s.matched []
+
+-- a way to this router
+abbrev pub leads_to : RouterId → Way → Bool
+leads_to to way = option_map_or (λ router. router.0 == to.0) (router_over way) false
+
+-- a way of a router's match leads to this one
 abbrev pub sends_to : RouterId → StepValue → Bool
-sends_to to s = option_map_or (λ m. list_any (λ router. router.0 == to.0) (routers_over m.ways)) s.matched false
+sends_to to s = list_any (leads_to to) (ways_of s)
 
 -- the routers that send to this one
 abbrev pub senders : List StepValue → RouterId → List RouterId

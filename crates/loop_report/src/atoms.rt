@@ -101,7 +101,10 @@ impl<A: Allocator + Copy> Atoms<A> {
     {
         let mut address = net.addr();
         'covered: while let Some(longer) = self.longer(net, address) {
-            address = next_before_end(longer, net)?;
+            let Some(next) = next_before_end(longer, net) else {
+                return None;
+            };
+            address = next;
         }
         Some(address)
     }

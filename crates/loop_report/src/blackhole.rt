@@ -5,9 +5,9 @@ ghost use Rattle.std.specs.List.{list_any};
 ghost use Rattle.std.specs.Option.{option_copied, option_map_or};
 ghost use Rattle.forwarding.specs.Graphs.{drops};
 ghost use Rattle.microloops.specs.Changeover.{routers_of};
-ghost use Rattle.loop_report.specs.Blackholes.{blackhole_at, is_blackhole, is_new, new_blackholes, senders, sends_to};
+ghost use Rattle.loop_report.specs.Blackholes.{blackhole_at, is_blackhole, is_new, leads_to, new_blackholes, senders, sends_to, ways_of};
 
-use forwarding::{ForwardingGraph, RouterStep};
+use forwarding::{ForwardingGraph, RouterStep, Way};
 use lsa_codec::{Prefix, RouterId};
 use std::alloc::{AllocError, Allocator, Global};
 use std::marker::Model;
@@ -28,18 +28,31 @@ impl<A: Allocator> Model for Blackhole<A> {
     ghost view = { λ b. record { net = b.net; router = b.router; senders = b.senders.items } };
 }
 
+/// The ways of a router's match, if it has one.
+fn ways_of<A: Allocator + Copy>(step: &RouterStep<A>) -> &[Way]
+    ensures { result.now ≡ ways_of step.now }
+{
+    match &step.matched {
+        Some(found) => &found.ways,
+        None => &[],
+    }
+}
+
+/// Whether a way leads to a router.
+fn leads_to(to: RouterId, way: Way) -> bool
+    ensures { result ≡ leads_to to way }
+{
+    match way.router() {
+        Some(router) => router == to,
+        None => false,
+    }
+}
+
 /// Whether a router sends to another one.
 fn sends_to<A: Allocator + Copy>(to: RouterId, step: &RouterStep<A>) -> bool
     ensures { result ≡ sends_to to step.now }
 {
-    match &step.matched {
-        Some(found) => found
-            .ways
-            .iter()
-            .filter_map(|way| way.router())
-            .any(|router| router.0 == to.0),
-        None => false,
-    }
+    ways_of(step).iter().any(|way| leads_to(to, *way))
 }
 
 /// Whether a router has no match, if it is in a graph.

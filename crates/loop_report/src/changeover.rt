@@ -26,9 +26,9 @@ fn at_atom<A: Allocator + Copy>(
     let Some(address) = compared.atoms.address_of(net) else {
         return Ok(Vec::new(alloc));
     };
-    let was = compared.was.graph(alloc, address)?;
-    let is = compared.is.graph(alloc, address)?;
-    joint_loops_at(alloc, net, &was, &is)
+    let earlier = compared.was.graph(alloc, address)?;
+    let present = compared.is.graph(alloc, address)?;
+    joint_loops_at(alloc, net, &earlier, &present)
 }
 
 /// What may loop at the atoms of some prefixes, in their order.

@@ -1,12 +1,11 @@
 //! The prefixes of the entries of all routers.
 
 ghost use Rattle.std.specs.Prelude.{◌≡◌, IfOk, OnOk};
-ghost use Rattle.loop_report.specs.Atoms.{nets_of_all};
+ghost use Rattle.loop_report.specs.Atoms.{nets_of, nets_of_all};
 ghost use Rattle.loop_report.specs.steps.Gathering.{Gathers};
 
-use forwarding::Forwarding;
+use forwarding::{Forwarding, RouterRoutes};
 use lsa_codec::Prefix;
-use router_entries::Entries;
 use std::alloc::{AllocError, Allocator};
 use std::collections::BTreeSet;
 
@@ -22,6 +21,19 @@ pub(crate) fn members<A: Allocator + Copy>(
     ensures { IfOk result (λ found. found.items ≡ nets.now.keys) }
 {
     nets.iter().copied().collect(alloc)
+}
+
+/// The prefixes of a router's entries.
+fn nets_of<A: Allocator + Copy>(
+    alloc: A,
+    routes: &RouterRoutes<A>,
+) -> Result<Vec<Prefix, A>, AllocError>
+    ensures { IfOk result (λ nets. nets.items ≡ nets_of routes.now) }
+{
+    let mut nets = routes.routes().nets(alloc)?;
+    let mut own = members(alloc, routes.own())?;
+    nets.append(&mut own)?;
+    Ok(nets)
 }
 
 /// Adds prefixes to a set.
@@ -51,7 +63,7 @@ pub(crate) fn insert_nets<A: Allocator + Copy>(
         (Gathers (nets_of_all forwarding.now.routers) found.old.keys found.new.keys) }
 {
     for routes in forwarding.routers() {
-        let nets = Entries::of(routes).nets(alloc)?;
+        let nets = nets_of(alloc, routes)?;
         insert_all(found, nets.as_slice())?;
     }
     Ok(())

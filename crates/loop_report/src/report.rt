@@ -87,9 +87,9 @@ impl<A: Allocator + Copy> LoopReport<A> {
         let Some(address) = compared.atoms.address_of(net) else {
             return Ok(LoopReport::empty(alloc));
         };
-        let was = compared.was.graph(alloc, address)?;
-        let is = compared.is.graph(alloc, address)?;
-        LoopReport::at_graphs(alloc, net, &was, &is)
+        let earlier = compared.was.graph(alloc, address)?;
+        let present = compared.is.graph(alloc, address)?;
+        LoopReport::at_graphs(alloc, net, &earlier, &present)
     }
 
     /// The loops and new blackholes of the atoms of some prefixes, in their order.

@@ -1,7 +1,8 @@
 -- Lists that grow by what each item gives.
-use Rattle.std.proofs.Common.{◌≡◌, ℕ, ◌+◌, ◌<◌, ◌≤◌, Bool, true, false, cond, List, [], ◌∷◌, ◌++◌, length, get_or, take, refl, sym, ap, ◌∙◌, append_assoc}
-use Rattle.std.specs.List.{filter}
+use Rattle.std.proofs.Common.{◌≡◌, ℕ, ◌+◌, ◌<◌, ◌≤◌, Bool, true, false, cond, List, [], ◌∷◌, ◌++◌, length, get_or, take, Some, refl, sym, ap, ◌∙◌, append_assoc}
+use Rattle.std.specs.List.{filter, slice_get}
 use Rattle.std.proofs.lemmas.List.{take_all, take_more}
+use Rattle.std.proofs.lemmas.Option.{get_or_from_slice_get, slice_get_within}
 use Rattle.area_routes.proofs.AddsLemmas.{Adds}
 
 -- the item, if it passes the test
@@ -36,6 +37,12 @@ module _ {X C : Type 0} {g : List X → List C} {h : X → List C} (adds : Adds 
   pub one_more : (xs : List X) (i : ℕ) (x : X) (old new : List C) → i < length xs → x ≡ get_or xs i x
       → old ≡ g (take i xs) → new ≡ old ++ h x → new ≡ g (take (i + 1) xs)
   one_more xs i x old new lt is so_far more = grown [] xs i x old new lt is so_far more
+
+  -- the same where the item is looked up
+  pub one_more_at : (xs : List X) (i : ℕ) (x : X) (old new : List C) → slice_get xs i ≡ Some x
+      → old ≡ g (take i xs) → new ≡ old ++ h x → new ≡ g (take (i + 1) xs)
+  one_more_at xs i x old new here so_far more =
+      one_more xs i x old new (slice_get_within xs i x here) (sym (get_or_from_slice_get xs i x x here)) so_far more
 
   -- all
   pub all_of : (start : List C) (xs : List X) (i : ℕ) (got : List C) → length xs ≤ i → got ≡ start ++ g (take i xs) → got ≡ start ++ g xs

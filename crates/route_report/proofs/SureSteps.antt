@@ -45,11 +45,12 @@ not_true false h = refl
 
 one_fails : {X : Type 0} (p : X → Bool) (xs : List X) → list_all p xs ≡ false → (x : X) × In xs x × (p x ≡ false)
 one_fails p [] h = absurd (false≢true (sym h))
-one_fails {X} p (x ∷ xs) h = by (p x) refl h
+one_fails {X} p (x ∷ xs) h = by (p x) refl (λ k. one_fails p xs k) h
   where
-    by : (b : Bool) → p x ≡ b → (b && list_all p xs) ≡ false → (y : X) × In (x ∷ xs) y × (p y ≡ false)
-    by true is rest = let f = one_fails p xs rest in (f.0, inr f.1, f.2)
-    by false is rest = (x, inl refl, is)
+    by : (b : Bool) → p x ≡ b → (list_all p xs ≡ false → (y : X) × In xs y × (p y ≡ false)) → (b && list_all p xs) ≡ false
+        → (y : X) × In (x ∷ xs) y × (p y ≡ false)
+    by true is later rest = let f = later rest in (f.0, inr f.1, f.2)
+    by false is later rest = (x, inl refl, is)
 
 -- a walk with one step more
 walk_on : (next : RouterId → List RouterId) (us : List RouterId) (v u w : RouterId) → IsWalk next v us u → Contains (next u) w
@@ -253,12 +254,13 @@ module _ (graph : List StepValue) where
 
     misses : (n : ℕ) (v : RouterId) → Contains routers v → (In sure v → ⊥) → Misses v n
     misses zero v c out = ([], v, refl, alone v out, inr (omega arith))
-    misses (suc n) v c out = by (onward v c out)
+    misses (suc n) v c out = by (λ u at away. misses n u at away) (onward v c out)
       where
-        by : (ends_walks graph v ≡ true) ⊎ ((u : RouterId) × In (next_in graph v) u × (In sure u → ⊥)) → Misses v (suc n)
-        by (inl end) = ([], v, refl, alone v out, inl end)
-        by (inr w) =
-            let m = misses n w.0 (reached_on v w.0 c w.1) w.2 in (
+        by : ((u : RouterId) → Contains routers u → (In sure u → ⊥) → Misses u n)
+            → (ends_walks graph v ≡ true) ⊎ ((u : RouterId) × In (next_in graph v) u × (In sure u → ⊥)) → Misses v (suc n)
+        by later (inl end) = ([], v, refl, alone v out, inl end)
+        by later (inr w) =
+            let m = later w.0 (reached_on v w.0 c w.1) w.2 in (
               w.0 ∷ m.0,
               m.1,
               (Contains-from_In (next_in graph v) w.0 w.1, m.2),

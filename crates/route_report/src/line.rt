@@ -11,7 +11,7 @@ use forwarding::{AreaGraphs, Match, RouterRoutes};
 use lsa_codec::{Addr, Prefix, RouterId};
 use lsdb::Database;
 use route_lines::{OwnSource, RouteLine, RouteSource};
-use router_entries::{Entries, Entry, OwnExternal, own_external};
+use router_entries::{Entries, Entry, OwnExternal, own_external_for};
 use std::alloc::{AllocError, Allocator};
 use study_words::RouteKind;
 
@@ -48,7 +48,7 @@ fn announced_by<A: Allocator + Copy>(
     if !is_own_external(entry) {
         return None;
     }
-    let own = own_external(database, router, net)?;
+    let own = own_external_for(database, router, net)?;
     Some(own_source(own))
 }
 

@@ -1,6 +1,7 @@
 //! Whether each walk of a packet passes a router.
 
 ghost use Rattle.std.specs.Prelude.{◌≡◌, ◌↔◌, ◌∷◌, [], true, IfOk, OnOk};
+ghost use Rattle.std.specs.List.{list_all};
 ghost use Rattle.std.specs.Option.{option_copied};
 ghost use Rattle.forwarding.specs.Graphs.{next_in};
 ghost use Rattle.forwarding.specs.Walks.{AreReached};
@@ -29,12 +30,19 @@ fn leads_into<A: Allocator + Copy>(sure: &BTreeSet<RouterId, A>, way: Way) -> bo
     }
 }
 
+/// Whether all of some ways end, or lead to routers of a set.
+fn all_lead_into<A: Allocator + Copy>(sure: &BTreeSet<RouterId, A>, ways: &[Way]) -> bool
+    ensures { result ≡ list_all (leads_into sure.now.keys) ways.now }
+{
+    ways.iter().all(|way| leads_into(sure, *way))
+}
+
 /// Whether a router sends only to routers of a set.
 fn leads_only_into<A: Allocator + Copy>(sure: &BTreeSet<RouterId, A>, step: &RouterStep<A>) -> bool
     ensures { result ≡ leads_only_into sure.now.keys step.now }
 {
     match &step.matched {
-        Some(found) => found.ways.iter().all(|way| leads_into(sure, *way)),
+        Some(found) => all_lead_into(sure, &found.ways),
         None => true,
     }
 }

@@ -2,7 +2,7 @@
 
 ghost use Rattle.std.specs.Prelude.{◌≡◌, ◌++◌, ◌∷◌, [], map, IfOk, OnOk};
 ghost use Rattle.lsdb.specs.Slots.{lists_of};
-ghost use Rattle.route_report.specs.Paths.{cost_over, hop_of, step_down, step_out, step_over, step_target};
+ghost use Rattle.route_report.specs.StepsOver.{cost_over, hop_of, step_down, step_out, step_over, step_target};
 
 use crate::found::least_cost;
 use crate::sought::{Leg, Sought};

@@ -51,14 +51,17 @@ module _ (router : RouterId) (net : Net) where
   one : (lsa : List ℕ) (others : List Net)
       → list_any (eq_by_cmp prefix_cmp net) (cons_option (announced router lsa) others)
       ≡ (is_some (own_by router net lsa) || list_any (eq_by_cmp prefix_cmp net) others)
-  one lsa others = by (same_router (originator_of lsa) router && is_in_use lsa) (eq_by_cmp prefix_cmp net (net_of_lsa lsa))
+  one lsa others = by (same_router (originator_of lsa) router && is_in_use lsa)
     where
-      by : (b same : Bool)
-          → (cond b (same || list_any (eq_by_cmp prefix_cmp net) others) (list_any (eq_by_cmp prefix_cmp net) others))
-          ≡ (is_some (cond b (cond same (Some (announced_by lsa)) None) None) || list_any (eq_by_cmp prefix_cmp net) others)
-      by true true = refl
-      by true false = refl
-      by false same = refl
+      found : (same : Bool) → (same || list_any (eq_by_cmp prefix_cmp net) others)
+          ≡ (is_some (cond same (Some (announced_by lsa)) None) || list_any (eq_by_cmp prefix_cmp net) others)
+      found true = refl
+      found false = refl
+
+      by : (b : Bool) → list_any (eq_by_cmp prefix_cmp net) (cons_option (cond b (Some (net_of_lsa lsa)) None) others)
+          ≡ (is_some (cond b (announced_for net lsa) None) || list_any (eq_by_cmp prefix_cmp net) others)
+      by true = found (eq_by_cmp prefix_cmp net (net_of_lsa lsa))
+      by false = refl
 
   among : (lsas : List (List ℕ))
       → is_some (least own_cmp (filter_map (own_by router net) lsas))

@@ -21,5 +21,5 @@ pub use entry::Entry;
 pub use laws::{
     entries_are_matched, entries_match, nets_have_entries, own_externals_are_announced,
 };
-pub use own_external::{OwnExternal, own_external};
+pub use own_external::{OwnExternal, own_external_for};
 pub use walk::EntryWalk;

@@ -99,7 +99,7 @@ fn first_with(found: Option<OwnExternal>, more: Option<OwnExternal>) -> Option<O
 /// What a router announces for an external prefix of its own: of its AS-external-LSAs for it that
 /// are in use the first, by type 1 before type 2, then by metric, then by Link State ID. It takes
 /// no memory.
-pub fn own_external<A: Allocator + Copy>(
+pub fn own_external_for<A: Allocator + Copy>(
     database: &Database<A>,
     router: RouterId,
     net: Prefix,

@@ -1,5 +1,5 @@
 -- The common front of two words, byte by byte.
-use Rattle.std.proofs.Common.{◌≡◌, ℕ, zero, suc, ◌+◌, ◌-◌, ◌<◌, ◌≤◌, ⊥, List, [], ◌∷◌, length, get_or, drop, cond, eqb, min, drop-cons, add-one, refl, sym, ap, ◌∙◌, arith, inl, inr, ◌⊎◌, eq-zero-or-pos}
+use Rattle.std.proofs.Common.{◌≡◌, ℕ, ◌+◌, ◌-◌, ◌<◌, ◌≤◌, List, [], ◌∷◌, length, get_or, drop, cond, eqb, min, drop-cons, add-one, refl, sym, ap, ◌∙◌, arith, inl, inr, ◌⊎◌, eq-zero-or-pos}
 use Rattle.std.specs.Prelude.{reverse}
 use Rattle.std.proofs.lemmas.Bool.{eq-eqb, ne_eqb}
 use Rattle.std.proofs.lemmas.List.{drop_all, get_or-reverse, length-reverse}

@@ -1,6 +1,6 @@
 -- The word that is most like another, candidate by candidate.
 use Rattle.std.proofs.Common.{◌≡◌, ℕ, ◌+◌, ◌<◌, ◌≤◌, cond, eqb, max, List, [], ◌∷◌, ◌++◌, length, map, take, get_or, Option, Some, None, refl, sym, ap, ◌∙◌, arith, inl, inr, eq-zero-or-pos, Bool}
-use Rattle.std.specs.Prelude.{option_map, option_or}
+use Rattle.std.specs.Option.{option_or}
 use Rattle.std.specs.List.{find}
 use Rattle.std.proofs.lemmas.Bool.{cases_eq, eq-eqb, ne_eqb}
 use Rattle.std.proofs.lemmas.List.{map-append, take_more, take_all}
@@ -10,7 +10,7 @@ use Rattle.study_hints.specs.Near.{likeness, most_like, near}
 
 module _ (word : Word) where
   -- a word is this much like it
-  is_so_like : ℕ → Word → Bool
+  abbrev is_so_like : ℕ → Word → Bool
   is_so_like n other = eqb (likeness word other) n
 
   at_least : (others : List Word) (x : Word) → most_like word (others ++ x ∷ []) ≡ max (most_like word others) (likeness word x)
@@ -35,12 +35,11 @@ module _ (word : Word) where
       ap (λ b. cond b (Some other) (find (is_so_like n) others)) (ne_eqb (likeness word other) n (λ e. omega arith)) ∙ absent others n (omega arith)
 
   module _ (others : List Word) (x : Word) where
-    near_by : ℕ → Option Word
+    abbrev near_by : ℕ → Option Word
     near_by n = cond (eqb n 0) None (find (is_so_like n) (others ++ x ∷ []))
 
     -- one more that is no more like it
     kept : likeness word x ≤ most_like word others → near word (others ++ x ∷ []) ≡ near word others
-    unfolding is_so_like near_by
     kept le =
         let n = most_like word others in
         let all = find (is_so_like n) (others ++ x ∷ []) in
@@ -57,7 +56,6 @@ module _ (word : Word) where
 
     -- one more that is more like it
     better : most_like word others < likeness word x → near word (others ++ x ∷ []) ≡ Some x
-    unfolding is_so_like near_by
     better above =
         let n = likeness word x in
         let all = find (is_so_like n) (others ++ x ∷ []) in

@@ -1,7 +1,7 @@
 -- Pieces of a text, one after another.
-use Rattle.std.proofs.Common.{◌≡◌, ℕ, ◌+◌, ◌<◌, ◌≤◌, List, [], ◌∷◌, ◌++◌, codes, length, map, take, get_or, Result, Ok, Err, refl, sym, ap, ◌∙◌}
-use Rattle.std.specs.Prelude.{flat_map, OnOk}
-use Rattle.std.proofs.lemmas.List.{append-nil, append_assoc, take_more, take_all, flat_map_more}
+use Rattle.std.proofs.Common.{◌≡◌, ℕ, ◌+◌, ◌<◌, ◌≤◌, List, [], ◌∷◌, ◌++◌, length, map, take, get_or, cond, Option, Some, Result, Ok, Err, sym, ap, ◌∙◌}
+use Rattle.std.specs.Prelude.{flat_map, is_ok, OnOk}
+use Rattle.std.proofs.lemmas.List.{append_assoc, take_more, take_all, flat_map_more}
 use Rattle.std.proofs.lemmas.List.Folds.{flat_map-map}
 use Rattle.std.proofs.lemmas.Grind.{flat_map-append}
 
@@ -36,4 +36,18 @@ then_more result piece old begun now first more begins all =
     on_ok result
     (λ pushed. pushed ∙ ap (λ l. l ++ flat_map piece more) begins ∙ append_assoc old (flat_map piece first) (flat_map piece more)
     ∙ ap (λ l. old ++ l) (sym (flat_map-append piece first more)))
+    all
+
+-- a call that adds a piece where it goes well
+pub added : {T E : Type 0} (result : Result T E) (begun bytes piece now : List ℕ) → bytes ≡ piece → now ≡ cond (is_ok result) (begun ++ bytes) begun
+    → OnOk result (now ≡ begun ++ piece)
+added (Ok t) begun bytes piece now is pushed = pushed ∙ ap (λ l. begun ++ l) is
+added (Err e) begun bytes piece now is pushed = tt
+
+-- what was found, after some words
+pub offered : {X T E : Type 0} (text : Option X → List ℕ) (front piece : List ℕ) (found : Option X) (x : X) → found ≡ Some x → text (Some x) ≡ front ++ piece
+    → (result : Result T E) (old begun now : List ℕ) → begun ≡ old ++ front → OnOk result (now ≡ begun ++ piece) → OnOk result (now ≡ old ++ text found)
+offered text front piece found x is are result old begun now begins all =
+    on_ok result
+    (λ pushed. pushed ∙ ap (λ l. l ++ piece) begins ∙ append_assoc old front piece ∙ ap (λ l. old ++ l) (sym are) ∙ ap (λ o. old ++ text o) (sym is))
     all

@@ -9,7 +9,6 @@ use Rattle.text_words.specs.Numbers.{number_up_to}
 use Rattle.text_words.specs.Addresses.{address_of}
 use Rattle.edit_script.specs.Arguments.{two_parts}
 use Rattle.study_arguments.specs.Values.{Lookup}
-use Rattle.study_words.specs.StudyWords.{study_text}
 use Rattle.study_hints.specs.declared.role.Role.{Role}
 use Rattle.study_hints.specs.declared.role.Role.TheVariants as role
 use Rattle.study_hints.specs.Help.{command_texts}

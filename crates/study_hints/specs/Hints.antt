@@ -3,9 +3,8 @@ use Rattle.std.specs.Prelude.{ℕ, ◌==◌, List, [], ◌∷◌, ◌++◌, code
 use Rattle.text_words.specs.Words.{Word}
 use Rattle.edit_script.specs.declared.fault.ScriptFault.TheVariants as script
 use Rattle.study_arguments.specs.declared.fault.FaultKind.{FaultKind}
-use Rattle.study_arguments.specs.declared.fault.FaultKind.TheVariants.{Script, BadWord}
+use Rattle.study_arguments.specs.declared.fault.FaultKind.TheVariants.{Script}
 use Rattle.study_arguments.specs.Fault.{FaultAt, code_of, name_of}
-use Rattle.study_arguments.specs.Positions.{At}
 use Rattle.study_arguments.specs.Values.{Lookup}
 use Rattle.study_words.specs.declared.study_word.StudyWord.{StudyWord}
 use Rattle.study_words.specs.declared.study_word.StudyWord.TheVariants.{Plan, See, Expect}

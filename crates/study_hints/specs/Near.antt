@@ -1,5 +1,5 @@
 -- How like a word another is, and which of several words is most like it.
-use Rattle.std.specs.Prelude.{ℕ, suc, ◌+◌, ◌==◌, max, List, [], ◌∷◌, map, reverse, Option, Some, None, if◌then◌else◌}
+use Rattle.std.specs.Prelude.{ℕ, ◌+◌, ◌==◌, max, List, [], ◌∷◌, reverse, Option, None, if◌then◌else◌}
 use Rattle.std.specs.List.{find}
 use Rattle.text_words.specs.Words.{Word}
 

@@ -1,5 +1,5 @@
 -- What a word of a line is to be: its role, and whether it fits.
-use Rattle.std.specs.Prelude.{ℕ, Bool, List, codes, Option, Some, None}
+use Rattle.std.specs.Prelude.{ℕ, Bool, List, codes}
 use Rattle.std.specs.Result.{is_ok}
 use Rattle.text_words.specs.Words.{Word}
 use Rattle.study_arguments.specs.Values.{Lookup, addr, area_id, dotted, link, metric24, metric_type, number16, number32, prefix, router_id, study_word}

@@ -60,6 +60,7 @@ pub(crate) fn push_name_hint<A: Allocator + Copy>(
 }
 
 /// The parts of a word with one slash.
+#[tactic(auto, using(crate::proofs::Slash::three_parts))]
 fn parts_at_slash(word: &[u8]) -> Option<(&[u8], &[u8])>
     ensures { option_map (λ x. (x.0.now, x.1.now)) result
         ≡ two_parts (slice_split (λ b. b == 47) word.now) }

@@ -6,6 +6,7 @@ ghost use Rattle.study_hints.specs.Near.{common, likeness, near};
 use study_words::{ConditionWord, StudyWord, Word};
 
 /// The length of the common front of two words.
+#[tactic(auto, using(crate::proofs::CommonFront::one_more, crate::proofs::CommonFront::ends_here, crate::proofs::CommonFront::all_common))]
 fn common_front(word: &[u8], other: &[u8]) -> usize
     ensures value { result ≡ common word.now other.now }
     ensures short { result ≤ length word.now }
@@ -20,6 +21,7 @@ fn common_front(word: &[u8], other: &[u8]) -> usize
 }
 
 /// The length of the common end of two words.
+#[tactic(auto, using(crate::proofs::CommonFront::one_more_at_end, crate::proofs::CommonFront::end_ends_here, crate::proofs::CommonFront::all_common_at_end))]
 fn common_end(word: &[u8], other: &[u8]) -> usize
     ensures value { result ≡ common (reverse word.now) (reverse other.now) }
     ensures short { result ≤ length word.now }

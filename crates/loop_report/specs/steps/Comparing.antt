@@ -7,6 +7,6 @@ use Rattle.loop_report.specs.declared.compared.Compared.{Compared}
 
 -- what the forwarding graphs of two databases come from, and the prefixes of all entries
 pub record IsComparedOf {A : Type 0} (was is : Lists) (compared : Compared A) : Type 0 where
-  pub was : IsForwardingOf was compared.was
-  pub is : IsForwardingOf is compared.is
+  pub before : IsForwardingOf was compared.was
+  pub now : IsForwardingOf is compared.is
   pub atoms : compared.atoms ≡ nets_in_either was is

@@ -7,8 +7,11 @@ use study_arguments::LinkName;
 
 /// Both router-LSAs are at MaxAge.
 const AT_MAX_AGE: &str = "area 0.0.0.0
-router 1.1.1.1 age=3600: point-to-point 2.2.2.2 data=10.0.12.1 cost=10, stub 10.0.12.0/30 cost=10, point-to-point 2.2.2.2 data=10.0.12.5 cost=11, virtual 4.4.4.4 data=10.0.12.1 cost=1, stub 10.0.12.0/30 cost=1
-router 2.2.2.2 age=3600: point-to-point 1.1.1.1 data=10.0.12.2 cost=65535, stub 10.0.12.0/30 cost=10";
+router 1.1.1.1 age=3600: point-to-point 2.2.2.2 data=10.0.12.1 cost=10, stub \
+10.0.12.0/30 cost=10, point-to-point 2.2.2.2 data=10.0.12.5 cost=11, virtual \
+4.4.4.4 data=10.0.12.1 cost=1, stub 10.0.12.0/30 cost=1
+router 2.2.2.2 age=3600: point-to-point 1.1.1.1 data=10.0.12.2 cost=65535, stub \
+10.0.12.0/30 cost=10";
 
 #[test]
 fn links_of_any_age_are_described(rt: HostRuntime) -> Result<(), Fail> {
@@ -16,7 +19,8 @@ fn links_of_any_age_are_described(rt: HostRuntime) -> Result<(), Fail> {
         (0, "-"),
         (
             1,
-            "#1 point-to-point to r2, 10.0.12.1 = #1 point-to-point to r2, 10.0.12.1, cost 10, back 65535, peer 10.0.12.2, stub #2 10.0.12.0/30 cost 10",
+            "#1 point-to-point to r2, 10.0.12.1 = #1 point-to-point to r2, 10.0.12.1, cost \
+            10, back 65535, peer 10.0.12.2, stub #2 10.0.12.0/30 cost 10",
         ),
         (
             2,

@@ -1,4 +1,4 @@
-use Rattle.std.proofs.Common.{◌≡◌, ◌++◌, List, ℕ, drop, map}
+use Rattle.std.proofs.Common.{◌≡◌, ◌++◌, ℕ, drop, map}
 use Rattle.std.specs.List.{enumerate_from}
 use Rattle.interfaces.specs.declared.interface.Interface.{Interface}
 use Rattle.link_report.specs.declared.ages.Ages.TheVariants.{Live}

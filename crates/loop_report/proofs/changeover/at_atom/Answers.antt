@@ -13,8 +13,8 @@ returns-in_default g c = λ was is of.
 
 pub returns : goal.returns
 returns g c =
-    IfOk-weaker c.joint_loops_at.result (λ loops. AreJointLoops c.args.net c.in_ok-was.was c.in_ok-is.is loops.items)
+    IfOk-weaker c.joint_loops_at.result (λ loops. AreJointLoops c.args.net c.in_ok-earlier.earlier c.in_ok-present.present loops.items)
     (λ loops. (was is : Lists) → IsComparedOf was is c.args.compared.now → IsAtAtom AreJointLoops was is c.args.net loops.items)
     (λ loops found was is of.
-    at_one AreJointLoops was is c.args.net c.args.compared.now.atoms of.atoms loops.items c.in-Some.address c.in_ok-was.was c.in_ok-is.is c.in-Some.ensures
-    (c.in_ok-was.ensures was of.was) (c.in_ok-is.ensures is of.is) found) c.joint_loops_at.ensures
+    at_one AreJointLoops was is c.args.net c.args.compared.now.atoms of.atoms loops.items c.in-Some.address c.in_ok-earlier.earlier c.in_ok-present.present c.in-Some.ensures
+    (c.in_ok-earlier.ensures was of.before) (c.in_ok-present.ensures is of.now) found) c.joint_loops_at.ensures

@@ -12,7 +12,7 @@ loop-net-init g c = λ was is of. c.new-loops.ensures.items
 pub loop-net-preserved : goal.loop-net-preserved
 loop-net-preserved g c = λ was is of.
     parts_more (IsAtAtom AreJointLoops was is) c.args.nets.now c.loop-net.net-index c.net-item.result c.loop-net-test.true c.net-item.is _ _ _
-    (c.loop-net.invariant was is of) (c.in_ok-at_atom.ensures was is of) c.in_ok-append.ensures.items
+    (c.loop-net.invariant was is of) (c.in_ok-part.ensures was is of) c.in_ok-append.ensures.items
 
 pub returns : goal.returns
 returns g c = λ was is of.

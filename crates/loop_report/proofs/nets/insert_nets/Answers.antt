@@ -3,8 +3,7 @@ use Rattle.std.proofs.lemmas.List.{take_all, take_more}
 use Rattle.area_routes.proofs.AddsLemmas.{flat_map_adds}
 use Rattle.lsa_codec.specs.Prefix.{Net}
 use Rattle.forwarding.specs.Matches.{RouterValue}
-use Rattle.router_entries.specs.Entries.{nets_of}
-use Rattle.loop_report.specs.Atoms.{nets_of_all}
+use Rattle.loop_report.specs.Atoms.{nets_of, nets_of_all}
 use Rattle.loop_report.specs.steps.Gathering.{Gathers}
 use Rattle.loop_report.proofs.Gathered.{gathers_both, gathers_none}
 use Rattle.loop_report.proofs.nets.insert_nets.Goals as goal
@@ -20,7 +19,7 @@ loop-routes-preserved g c =
     let so_far = nets_of_all (take i rs) in
     gathers_both so_far c.as_slice.result.now (nets_of_all (take (i + 1) rs)) c.args.found.now.keys c.loop-routes.found.keys c.insert_all.new.found.keys
     c.loop-routes.invariant c.in_ok-insert_all.ensures
-    (ap (λ (l : List Net). so_far ++ l) (c.as_slice.ensures.value ∙ c.in_ok-nets.ensures ∙ ap nets_of c.of.ensures)
+    (ap (λ (l : List Net). so_far ++ l) (c.as_slice.ensures.value ∙ c.in_ok-nets.ensures)
     ∙ sym ((flat_map_adds nets_of).push (take i rs) r)
     ∙ ap nets_of_all (ap (λ (y : RouterValue). take i rs ++ y ∷ []) c.routes-item.is ∙ sym (take_more rs i r c.loop-routes-test.true)))
 

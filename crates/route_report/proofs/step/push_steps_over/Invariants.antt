@@ -1,6 +1,6 @@
 use Rattle.std.proofs.Common.{◌≡◌, ◌++◌, map, take}
 use Rattle.lsdb.specs.Slots.{lists_of}
-use Rattle.route_report.specs.Paths.{step_over}
+use Rattle.route_report.specs.StepsOver.{step_over}
 use Rattle.route_report.proofs.step.push_steps_over.Given as goal
 
 -- those of the ways so far were added

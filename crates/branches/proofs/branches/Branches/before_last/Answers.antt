@@ -49,3 +49,10 @@ returns-in-Some-clause-database g c =
     (session_of_named c.self.inside.first c.self.inside.others.entries c.args.branch _ c.self.view_is c.in-Some.planner.now
     c.if-branch-eq0.false c.in-Some.ensures.value)
     c.before_last-in-Some.ensures.database
+
+pub returns-in_ok-begun-in-None-clause-database : goal.returns-in_ok-begun-in-None-clause-database
+returns-in_ok-begun-in-None-clause-database g c =
+    subst (λ (s : Session). IfOk c.before_last-in-None.result (λ database. option_map lists_of database ≡ before_last c.args.count s))
+    (c.in_ok-begun-in-None.ensures.begun ∙ ap (λ (n : Named). start n.first.base) c.self.view_is
+    ∙ session_of_unnamed c.self.inside.first c.self.inside.others.entries c.args.branch _ c.self.view_is c.if-branch-eq0.false c.in-None.ensures.value)
+    c.before_last-in-None.ensures.database

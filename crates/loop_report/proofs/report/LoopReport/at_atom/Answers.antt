@@ -18,16 +18,16 @@ returns-in_default-clause-blackholes g c = λ was is of.
 
 pub returns-clause-loops : goal.returns-clause-loops
 returns-clause-loops g c =
-    IfOk-weaker c.at_graphs.result (λ report. AreLoopsOf c.args.net c.in_ok-is.is report.loops)
+    IfOk-weaker c.at_graphs.result (λ report. AreLoopsOf c.args.net c.in_ok-present.present report.loops)
     (λ report. (was is : Lists) → IsComparedOf was is c.args.compared.now → IsAtAtom AreLoopsNow was is c.args.net report.loops)
     (λ report found was is of.
-    at_one AreLoopsNow was is c.args.net c.args.compared.now.atoms of.atoms report.loops c.in-Some.address c.in_ok-was.was c.in_ok-is.is c.in-Some.ensures
-    (c.in_ok-was.ensures was of.was) (c.in_ok-is.ensures is of.is) found) c.at_graphs.ensures.loops
+    at_one AreLoopsNow was is c.args.net c.args.compared.now.atoms of.atoms report.loops c.in-Some.address c.in_ok-earlier.earlier c.in_ok-present.present c.in-Some.ensures
+    (c.in_ok-earlier.ensures was of.before) (c.in_ok-present.ensures is of.now) found) c.at_graphs.ensures.loops
 
 pub returns-clause-blackholes : goal.returns-clause-blackholes
 returns-clause-blackholes g c =
-    IfOk-weaker c.at_graphs.result (λ report. report.blackholes ≡ new_blackholes c.args.net c.in_ok-was.was c.in_ok-is.is)
+    IfOk-weaker c.at_graphs.result (λ report. report.blackholes ≡ new_blackholes c.args.net c.in_ok-earlier.earlier c.in_ok-present.present)
     (λ report. (was is : Lists) → IsComparedOf was is c.args.compared.now → IsAtAtom AreNewBlackholes was is c.args.net report.blackholes)
     (λ report found was is of.
-    at_one AreNewBlackholes was is c.args.net c.args.compared.now.atoms of.atoms report.blackholes c.in-Some.address c.in_ok-was.was c.in_ok-is.is c.in-Some.ensures
-    (c.in_ok-was.ensures was of.was) (c.in_ok-is.ensures is of.is) found) c.at_graphs.ensures.blackholes
+    at_one AreNewBlackholes was is c.args.net c.args.compared.now.atoms of.atoms report.blackholes c.in-Some.address c.in_ok-earlier.earlier c.in_ok-present.present c.in-Some.ensures
+    (c.in_ok-earlier.ensures was of.before) (c.in_ok-present.ensures is of.now) found) c.at_graphs.ensures.blackholes

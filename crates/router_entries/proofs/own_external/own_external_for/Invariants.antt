@@ -2,7 +2,7 @@ use Rattle.std.proofs.Common.{◌≡◌, map}
 use Rattle.std.specs.List.{filter_map}
 use Rattle.area_graph.specs.Least.{least}
 use Rattle.router_entries.specs.OwnExternals.{own_by, own_cmp}
-use Rattle.router_entries.proofs.own_external.own_external.Given as goal
+use Rattle.router_entries.proofs.own_external.own_external_for.Given as goal
 
 -- the first of the LSAs so far
 abbrev pub invariant-loop-lsa : goal.invariant-loop-lsa

@@ -1,0 +1,8 @@
+use Rattle.std.proofs.Common.{◌≡◌}
+use Rattle.study_hints.specs.Grammar.{expectation_text}
+use Rattle.study_hints.specs.Help.{with_end}
+use Rattle.study_hints.proofs.Pieces.{pieces}
+use Rattle.study_hints.proofs.help.push_conditions.Given as goal
+
+abbrev pub invariant-loop-word : goal.invariant-loop-word
+invariant-loop-word g l = l.text.items ≡ pieces with_end expectation_text l.initial.text.items l.word-items l.word-index
