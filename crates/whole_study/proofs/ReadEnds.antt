@@ -3,13 +3,14 @@ use Rattle.std.proofs.Common.{◌≡◌, ◌∙◌, ◌↔◌, sym, ap, subst, r
 use Rattle.std.specs.Prelude.{◌||◌, is_some}
 use Rattle.host_io.specs.declared.watch.Watched.{Watched}
 use Rattle.host_io.specs.WholeText.{IsLonger}
+use Rattle.lsdb.specs.declared.fault.DumpFault.{DumpFault}
 use Rattle.whole_run.specs.Inputs.{IsRefusedDump}
 use Rattle.whole_run.specs.Streams.{contents_of}
 use Rattle.whole_study.specs.Begin.{names_of}
 use Rattle.whole_study.specs.Calls.{IsTooMuch, MayEndRun, most}
 use Rattle.whole_study.specs.Given.{Given}
 use Rattle.whole_study.specs.Streams.{HasBytes}
-use Rattle.whole_study.specs.steps.Texts.{IsLongBaseline, IsReadEnd, Never}
+use Rattle.whole_study.specs.steps.Texts.{IsLongBaseline, IsReadEnd, MayEndReading, Never}
 use Rattle.whole_study.specs.declared.fault.RunFault.{RunFault}
 use Rattle.whole_study.specs.declared.fault.RunFault.TheVariants.{Dump, Baseline, Names, Read, Write, TooLarge, OutOfMemory}
 
@@ -67,6 +68,16 @@ long_for P Q Write by end = absurd end
 long_for P Q TooLarge by end = by end
 long_for P Q OutOfMemory by end = tt
 
+-- no writer has failed
+pub reading_end : {A : Type 0} (P Q : DumpFault → Type 0) (long : Type 0) (fault : RunFault A) → IsReadEnd P Q long fault → MayEndReading fault
+reading_end P Q long (Dump fault) end = tt
+reading_end P Q long (Baseline fault) end = tt
+reading_end P Q long (Names refusal) end = end
+reading_end P Q long Read end = tt
+reading_end P Q long Write end = end
+reading_end P Q long TooLarge end = tt
+reading_end P Q long OutOfMemory end = tt
+
 -- ---- readers that have failed
 
 abbrev as_ok : {F : Type 0} (T : Type 0) → T → Result T F
@@ -97,11 +108,11 @@ neither P a not ab = (λ h. absurd (not h), λ h. absurd (false_true (sym ab ∙
     false_true : false ≡ true → ⊥
     false_true e = cc
 
+memory_other : {A : Type 0} (T : Type 0) → as_err {F = RunFault A} T OutOfMemory ≡ as_err T Read → ⊥
+memory_other T e = cc
+
 pub memory_is_no_read : {A : Type 0} (T : Type 0) (r : Result T (RunFault A)) → r ≡ as_err T OutOfMemory → r ≡ as_err T Read → ⊥
-memory_is_no_read T r same h = other (sym same ∙ h)
-  where
-    other : as_err T OutOfMemory ≡ as_err T Read → ⊥
-    other e = cc
+memory_is_no_read T r same h = memory_other T (sym same ∙ h)
 
 pub large_is_no_read : {A : Type 0} (T : Type 0) → as_err {F = RunFault A} T TooLarge ≡ as_err T Read → ⊥
 large_is_no_read T e = cc

@@ -168,7 +168,7 @@ no_longer (t ∷ texts) short longer =
 pub names_few : {A : Type 0} (names : Option (Vec ℕ A)) → IfSome names (λ bytes. vec_len bytes ≤ most)
     → IfSome (bytes_in names) (λ bytes. length bytes ≤ most)
 names_few None few = tt
-names_few (Some names) few = few
+names_few (Some names) few = omega (arith, names.ok, few)
 
 pub not_much : {A : Type 0} (texts : Texts A) → length texts.studies.items ≤ most → IfSome (bytes_in texts.names) (λ bytes. length bytes ≤ most)
     → All HasFewBytes texts.studies.items → IsTooMuch (given_in texts) → ⊥

@@ -9,7 +9,7 @@ ghost use Rattle.whole_run.specs.Streams.{contents_of, has_any_failed};
 ghost use Rattle.whole_study.specs.Calls.{IsTooMuch, MayEndRun, most};
 ghost use Rattle.whole_study.specs.Given.{Given};
 ghost use Rattle.whole_study.specs.Streams.{HaveBytes, has_file_failed, has_study_failed};
-ghost use Rattle.whole_study.specs.steps.Texts.{HasFewBytes, IsLongBaseline, IsLongIn, IsReadEnd, IsReadOf, IsTextOf, Never, bytes_in, given_in};
+ghost use Rattle.whole_study.specs.steps.Texts.{HasFewBytes, IsLongBaseline, IsLongIn, IsReadEnd, IsReadOf, IsTextOf, MayEndReading, Never, bytes_in, given_in};
 
 use crate::fault::RunFault;
 use host_io::{ReadFault, Watched, read_whole};
@@ -204,6 +204,7 @@ pub(crate) fn read_all<'a, A: Allocator + Copy, R: Read, S: Read>(
     ensures much { IfOk result (λ texts. IsTooMuch (given_in texts) → ⊥) }
     ensures end { (given : Given) → HaveBytes R.remaining S.remaining files.old studies.old given
         → IfErr result (MayEndRun given) }
+    ensures early { IfErr result MayEndReading }
     ensures failed { (result ≡ Err RunFault.Read)
         ↔ ((has_file_failed files.new || has_study_failed studies.new) ≡ true) }
 {

@@ -101,3 +101,13 @@ MayEndLoading Read = ⊥
 MayEndLoading Write = ⊥
 MayEndLoading TooLarge = ⊥
 MayEndLoading OutOfMemory = Unit {0}
+
+-- an input cannot be read, or memory ran out
+abbrev pub MayEndReading : {A : Type 0} → RunFault A → Type 0
+MayEndReading (Dump fault) = Unit {0}
+MayEndReading (Baseline fault) = Unit {0}
+MayEndReading (Names refusal) = ⊥
+MayEndReading Read = Unit {0}
+MayEndReading Write = ⊥
+MayEndReading TooLarge = Unit {0}
+MayEndReading OutOfMemory = Unit {0}

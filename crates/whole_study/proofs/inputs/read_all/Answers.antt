@@ -1,9 +1,11 @@
-use Rattle.std.proofs.Common.{◌≡◌, Err, arith, inl, rules}
+use Rattle.std.proofs.Common.{◌≡◌, Err, arith, inl, rules, subst, sym}
+use Rattle.std.specs.Prelude.{IfErr}
 use Rattle.std.proofs.lemmas.Slice.Zip.{AllZip-long}
 use Rattle.host_io.specs.Watched.{has_failed}
 use Rattle.whole_run.specs.Streams.{has_any_failed}
+use Rattle.whole_study.specs.steps.Texts.{MayEndReading}
 use Rattle.whole_study.specs.declared.fault.RunFault.TheVariants.{Read}
-use Rattle.whole_study.proofs.ReadEnds.{both_false, failed_by_err, large_is_no_read, neither, only_baseline, only_dump, only_names, or_false, unfailed_by_ok}
+use Rattle.whole_study.proofs.ReadEnds.{both_false, failed_by_err, large_is_no_read, neither, only_baseline, only_dump, only_names, or_false, reading_end, unfailed_by_ok}
 use Rattle.whole_study.proofs.ReadInputs.{all_known, any_none, given_same, read_known, texts_known}
 use Rattle.whole_study.proofs.RunEnds.{names_few, not_much}
 use Rattle.whole_study.proofs.inputs.read_all.Goals as goal
@@ -54,5 +56,32 @@ returns-clause-few g c = omega (arith, c.if-studies-gt-MOST.false, AllZip-long _
 
 pub returns-clause-much : goal.returns-clause-much
 returns-clause-much g c =
-    not_much _ (omega (arith, c.if-studies-gt-MOST.false, AllZip-long _ _ _ c.in_ok-read_studies.ensures.whole))
+    not_much
+    (record {
+      dump = c.in_ok-read_loaded.field-0;
+      baseline = c.in_ok-read_baseline.field-0;
+      names = c.in_ok-read_names_file.field-0;
+      studies = c.in_ok-read_studies.field-0;
+    })
+    (omega (arith, c.if-studies-gt-MOST.false, AllZip-long _ _ _ c.in_ok-read_studies.ensures.whole))
     (names_few _ c.in_ok-read_names_file.ensures.within) c.in_ok-read_studies.ensures.within
+
+pub returns-in_err-read_loaded-clause-early : goal.returns-in_err-read_loaded-clause-early
+returns-in_err-read_loaded-clause-early g c =
+    let same : c.from_residual.result ≡ Err c.in_err-read_loaded.field-0.0 = search rules in
+    subst (λ r. IfErr r MayEndReading) (sym same) (reading_end _ _ _ c.in_err-read_loaded.field-0.0 c.in_err-read_loaded.ensures.end)
+
+pub returns-in_err-read_baseline-clause-early : goal.returns-in_err-read_baseline-clause-early
+returns-in_err-read_baseline-clause-early g c =
+    let same : c.from_residual-in_err-read_baseline.result ≡ Err c.in_err-read_baseline.field-0.0 = search rules in
+    subst (λ r. IfErr r MayEndReading) (sym same) (reading_end _ _ _ c.in_err-read_baseline.field-0.0 c.in_err-read_baseline.ensures.end)
+
+pub returns-in_err-read_names_file-clause-early : goal.returns-in_err-read_names_file-clause-early
+returns-in_err-read_names_file-clause-early g c =
+    let same : c.from_residual-in_err-read_names_file.result ≡ Err c.in_err-read_names_file.field-0.0 = search rules in
+    subst (λ r. IfErr r MayEndReading) (sym same) (reading_end _ _ _ c.in_err-read_names_file.field-0.0 c.in_err-read_names_file.ensures.end)
+
+pub returns-in_err-read_studies-clause-early : goal.returns-in_err-read_studies-clause-early
+returns-in_err-read_studies-clause-early g c =
+    let same : c.from_residual-in_err-read_studies.result ≡ Err c.in_err-read_studies.field-0.0 = search rules in
+    subst (λ r. IfErr r MayEndReading) (sym same) (reading_end _ _ _ c.in_err-read_studies.field-0.0 c.in_err-read_studies.ensures.end)
