@@ -1,4 +1,4 @@
-use Rattle.std.proofs.Common.{Bool, List, sym, ap, subst, ◌∙◌}
+use Rattle.std.proofs.Common.{ℕ, ◌==◌, Bool, List, sym, ap, subst, ◌∙◌}
 use Rattle.std.specs.List.{flat_map}
 use Rattle.lsa_codec.specs.declared.address.RouterId.{RouterId}
 use Rattle.lsdb.specs.Slots.{lists_of}
@@ -25,7 +25,8 @@ returns g c =
             (subst (λ (rs : List RouterId). AreReached next start rs) (sym c.deref-3.ensures.value) c.in_ok-routers.ensures),
         c.in_ok-ends.ensures
             ∙ ap (λ (b : Bool). ends_of c.ends.result b)
-            (some_loop c.in_ok-loops-2.loops.items c.is_empty.result c.is_empty.ensures),
+            (some_loop c.in_ok-loops-2.loops.items c.is_empty.result
+            (c.is_empty.ensures ∙ ap (λ (n : ℕ). n == 0) c.in_ok-loops-2.loops.ok.0)),
       );
       loops = subst (λ (ls : List (List RouterId)). AreLoops next routers ls)
           (sym (c.in_ok-loops-2.ensures ∙ c.deref-2.ensures.value))
