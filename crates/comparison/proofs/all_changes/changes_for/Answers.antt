@@ -32,8 +32,8 @@ returns g c =
     let i = c.loop-router.router-index in
     let so_far : List RouterId = take i c.args.routers.now in
     let all : List ChangeName → ℕ → ChangesValue = λ names unchanged. record { names = by_group names; unchanged = unchanged } in
-    let same : all c.loop-router.names.items c.loop-router.unchanged ≡ changes_for both c.args.routers.now =
-    ap (λ (l : List ChangeName). all l c.loop-router.unchanged) c.loop-router.invariant.0
+    let same : all c.deref.result.now c.loop-router.unchanged ≡ changes_for both c.args.routers.now =
+    ap (λ (l : List ChangeName). all l c.loop-router.unchanged) (c.deref.ensures.value ∙ c.loop-router.invariant.0)
     ∙ ap (λ (n : ℕ). all (flat_map (names_of both) so_far) n) c.loop-router.invariant.1
     ∙ ap (changes_for both) (take_all i c.args.routers.now c.loop-router-test.false) in
     subst (λ (v : ChangesValue). IfOk c.by_group.result (λ changes. changes ≡ v)) same c.by_group.ensures
