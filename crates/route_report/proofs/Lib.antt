@@ -1,3 +1,4 @@
+pub mod Deciding
 pub mod Finding
 pub mod Grown
 pub mod SureSteps

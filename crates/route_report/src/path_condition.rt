@@ -1,6 +1,7 @@
 //! What is expected of the walks of a packet.
 
 ghost use Rattle.std.specs.Prelude.{◌≡◌, ◌↔◌, true, IfOk};
+ghost use Rattle.std.specs.List.{list_any};
 ghost use Rattle.lsdb.specs.Slots.{lists_of};
 ghost use Rattle.forwarding.specs.Graphs.{next_in};
 ghost use Rattle.forwarding.specs.Walks.{AreReached};
@@ -27,11 +28,18 @@ fn is_amiss(end: PathEnd) -> bool
     }
 }
 
+/// Whether packets are dropped or loop by one of some ends.
+fn is_some_amiss(ends: &[PathEnd]) -> bool
+    ensures { result ≡ list_any is_amiss ends.now }
+{
+    ends.iter().any(|end| is_amiss(*end))
+}
+
 /// Whether packets are delivered, or leave the network.
 fn is_delivered(ends: &[PathEnd]) -> bool
     ensures { result ≡ is_delivered ends.now }
 {
-    !ends.iter().any(|end| is_amiss(*end))
+    !is_some_amiss(ends)
 }
 
 /// Whether the walks of a path do what they have to.

@@ -9,9 +9,9 @@ pub returns-then-contains : goal.returns-then-contains
 returns-then-contains g c =
     let keys = c.args.sure.now.keys in
     elim c.then-contains.branch [
-      then-contains-via-then-contains w ↦
+      | then-contains-via-then-contains w ↦
           adds_none c.args.graph.now c.args.router keys (inl (sym c.contains.ensures ∙ w.if-contains.true))
-    | then-contains-via-else-contains+then-not-sure_by w ↦
+      | then-contains-via-else-contains+then-not-sure_by w ↦
           adds_none c.args.graph.now c.args.router keys (inr (sym (w.sure_by.ensures ∙ ap (sure_by keys) w.step.ensures) ∙ w.if-not-sure_by.true))
     ]
 
