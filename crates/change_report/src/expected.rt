@@ -1,14 +1,24 @@
 //! What is expected of pairs that are lost or gone, and of changes.
 
 ghost use Rattle.std.specs.Prelude.{◌≡◌, ◌++◌, OnOk};
+ghost use Rattle.std.specs.List.{list_all};
+ghost use Rattle.change_lines.specs.PairTexts.{is_listed};
 ghost use Rattle.network_names.specs.Names.{called};
 ghost use Rattle.study_script.specs.Expected.{pairs_allowed};
 ghost use Rattle.change_report.specs.Expected.{are_allowed, are_few, found_text};
 
 use change_lines::{Changes, Pair, is_listed, push_pairs_found, push_unlisted, unlisted};
+use lsa_codec::Prefix;
 use network_names::Names;
 use std::alloc::{AllocError, Allocator};
 use study_script::Allowed;
+
+/// Whether the prefix of each pair is among some.
+fn are_listed(nets: &[Prefix], pairs: &[Pair]) -> bool
+    ensures { result ≡ list_all (λ pair. is_listed nets.now pair.net) pairs.now }
+{
+    pairs.iter().all(|pair| is_listed(nets, pair.net))
+}
 
 /// Whether these pairs may be lost, or gone.
 pub fn are_allowed<A: Allocator + Copy>(allowed: &Allowed<A>, pairs: &[Pair]) -> bool
@@ -17,7 +27,7 @@ pub fn are_allowed<A: Allocator + Copy>(allowed: &Allowed<A>, pairs: &[Pair]) ->
     match allowed {
         Allowed::Nothing => pairs.is_empty(),
         Allowed::AtMost(most) => pairs.len() as u64 <= u64::from(*most),
-        Allowed::Only(nets) => pairs.iter().all(|pair| is_listed(nets, pair.net)),
+        Allowed::Only(nets) => are_listed(nets, pairs),
     }
 }
 

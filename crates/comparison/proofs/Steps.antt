@@ -23,25 +23,27 @@ use Rattle.comparison.specs.Rerouted.{hops_of}
 pub equal_routers : (x y : RouterId) → (x.0 == y.0) ≡ eq_by_cmp router_cmp x y
 equal_routers x y = unsigned_ties x.0 y.0
 
-module _ {X : Type 0} (xs : List X) (i : ℕ) (x : X) (lt : i < length xs) (is : x ≡ get_or xs i x) where
-  so_far : {Y : Type 0} (f : List X → Y) → f (take i xs ++ x ∷ []) ≡ f (take (i + 1) xs)
-  so_far f = ap (λ y. f (take i xs ++ y ∷ [])) is ∙ ap f (sym (take_more xs i x lt))
+module _ {X : Type 0} (xs : List X) (i : ℕ) (x : X) (lt : i < length xs) where
+  so_far : {Y : Type 0} (f : List X → Y) → f (take i xs ++ get_or xs i x ∷ []) ≡ f (take (i + 1) xs)
+  so_far f = ap f (sym (take_more xs i x lt))
 
   -- one more, where a test keeps it
-  pub kept : (p : X → Bool) (found new : List X) (b : Bool) → found ≡ filter p (take i xs) → b ≡ p x → new ≡ found ++ cond b (x ∷ []) []
-      → new ≡ filter p (take (i + 1) xs)
+  pub kept : (p : X → Bool) (found new : List X) (b : Bool) → found ≡ filter p (take i xs) → b ≡ p (get_or xs i x)
+      → new ≡ found ++ cond b (get_or xs i x ∷ []) [] → new ≡ filter p (take (i + 1) xs)
   kept p found new b are same added =
-      added ∙ ap (λ l. l ++ cond b (x ∷ []) []) are ∙ ap (λ (t : Bool). filter p (take i xs) ++ cond t (x ∷ []) []) same
-      ∙ sym (filter-append p (take i xs) (x ∷ [])) ∙ so_far (filter p)
+      added ∙ ap (λ l. l ++ cond b (get_or xs i x ∷ []) []) are
+      ∙ ap (λ (t : Bool). filter p (take i xs) ++ cond t (get_or xs i x ∷ []) []) same
+      ∙ sym (filter-append p (take i xs) (get_or xs i x ∷ [])) ∙ so_far (filter p)
 
   -- one more number
-  pub summed : (f : X → ℕ) (sum more new : ℕ) → sum ≡ sum_by f (take i xs) → more ≡ f x → new ≡ sum + more → new ≡ sum_by f (take (i + 1) xs)
+  pub summed : (f : X → ℕ) (sum more new : ℕ) → sum ≡ sum_by f (take i xs) → more ≡ f (get_or xs i x) → new ≡ sum + more
+      → new ≡ sum_by f (take (i + 1) xs)
   summed f sum more new are is_more added =
-      added ∙ ap (λ n. n + more) are ∙ ap (λ n. sum_by f (take i xs) + n) (is_more ∙ one_sum)
-      ∙ sym (sum_by-append f (take i xs) (x ∷ [])) ∙ so_far (sum_by f)
+      added ∙ ap (λ n. n + more) are ∙ ap (λ n. sum_by f (take i xs) + n) (is_more ∙ one_sum (get_or xs i x))
+      ∙ sym (sum_by-append f (take i xs) (get_or xs i x ∷ [])) ∙ so_far (sum_by f)
     where
-      one_sum : f x ≡ sum_by f (x ∷ [])
-      one_sum = omega arith
+      one_sum : (y : X) → f y ≡ sum_by f (y ∷ [])
+      one_sum y = omega arith
 
 -- the hops of one more route
 pub joined : (routes : List RouteValue) (i : ℕ) (r : RouteValue) (hops new : List Hop) → i < length routes → r ≡ get_or routes i r
@@ -51,7 +53,7 @@ joined routes i r hops new lt is are more =
     ∙ rising_append hop_cmp_total same_hop (flat_map (λ (v : RouteValue). v.hops) (take i routes)) r.hops
     ∙ ap (λ (l : List Hop). rising hop_cmp (flat_map (λ (v : RouteValue). v.hops) (take i routes) ++ l)) (sym (append-nil r.hops))
     ∙ ap (rising hop_cmp) (sym (flat_map-append (λ (v : RouteValue). v.hops) (take i routes) (r ∷ [])))
-    ∙ so_far routes i r lt is hops_of
+    ∙ ap (λ (v : RouteValue). hops_of (take i routes ++ v ∷ [])) is ∙ so_far routes i r lt hops_of
 
 -- the routers of what entries come from
 pub ids_are : (db : Lists) (ids : List RouterId) → map (λ (r : RouterValue). r.router) (map (router_in db) ids) ≡ ids

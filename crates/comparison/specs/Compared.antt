@@ -14,8 +14,8 @@ pub record Compared : Type 0 where
 
 -- what is calculated of a database: where packets go, and which prefixes are announced
 pub record IsCalculated (db : Lists) (forwarding : ForwardingValue) (announced : AnnouncedValue) : Type 0 where
-  pub forwarding : IsForwardingOf db forwarding
-  pub announced : announced ≡ announced_in db
+  pub is_forwarding : IsForwardingOf db forwarding
+  pub is_announced : announced ≡ announced_in db
 
 -- the routers that are attached to areas in one or both, in order
 abbrev pub routers_of_both : Compared → List RouterId
