@@ -49,7 +49,7 @@ fn number_found<A: Allocator + Copy>(
     let Some(lsa) = router_lsa_of_any_age(planner.database(), area, router) else {
         return Ok(Some(0));
     };
-    let numbers = link_numbers(alloc, &lsa, name)?;
+    let numbers = link_numbers(alloc, &lsa, &name)?;
     Ok(one_of(&numbers))
 }
 
