@@ -19,27 +19,27 @@ use Rattle.study_session.specs.Known.{is_known, unless_unknown}
 abbrev pub beside : Lists → Lists → Compared
 beside baseline db = record { baseline = baseline; present = db }
 
-module _ (called : Called) (branch : ℕ) (baseline db : Lists) where
+module _ (called : Called) (branch : ℕ) where
   -- what differs, after the router that the line names
   abbrev pub changes_reply : Option RouterId → ChangesValue → List ChangeLineValue → List ℕ
   changes_reply router changes lines =
       head_of branch words.Changes ++ router_after called router ++ number_after (length changes.names) ++ counts_text changes ++ codes "\n"
       ++ lines_as (change_text called) lines
 
-  abbrev pub changes_of : Option RouterId → ChangesValue → AnswerValue
-  changes_of router changes = accepted_answer (changes_reply router changes (lines_of_changes (beside baseline db) changes.names))
+  abbrev pub changes_of : Lists → Lists → Option RouterId → ChangesValue → AnswerValue
+  changes_of baseline db router changes = accepted_answer (changes_reply router changes (lines_of_changes (beside baseline db) changes.names))
 
-  abbrev pub changes_answer : Option RouterId → AnswerValue
-  changes_answer None = changes_of None (all_changes (beside baseline db))
-  changes_answer (Some router) =
-      unless_unknown branch (is_known baseline db router) (changes_of (Some router) (changes_for (beside baseline db) (router ∷ [])))
+  abbrev pub changes_answer : Lists → Lists → Option RouterId → AnswerValue
+  changes_answer baseline db None = changes_of baseline db None (all_changes (beside baseline db))
+  changes_answer baseline db (Some router) =
+      unless_unknown branch (is_known baseline db router) (changes_of baseline db (Some router) (changes_for (beside baseline db) (router ∷ [])))
 
   -- routers with prefixes that they have no entry for any more
   abbrev pub pairs_reply : SeeWord → List PairLineValue → List ℕ
   pairs_reply word lines = head_of branch word ++ number_after (length lines) ++ codes "\n" ++ lines_as (pair_line called) lines
 
-  abbrev pub lost_answer : AnswerValue
-  lost_answer = accepted_answer (pairs_reply words.Lost (lost_lines (beside baseline db)))
+  abbrev pub lost_answer : Lists → Lists → AnswerValue
+  lost_answer baseline db = accepted_answer (pairs_reply words.Lost (lost_lines (beside baseline db)))
 
-  abbrev pub gone_answer : AnswerValue
-  gone_answer = accepted_answer (pairs_reply words.Gone (gone_lines (beside baseline db)))
+  abbrev pub gone_answer : Lists → Lists → AnswerValue
+  gone_answer baseline db = accepted_answer (pairs_reply words.Gone (gone_lines (beside baseline db)))

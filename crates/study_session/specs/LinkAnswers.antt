@@ -15,14 +15,14 @@ use Rattle.study_session.specs.Answers.{AnswerValue, accepted_answer}
 use Rattle.study_session.specs.Texts.{head_of, number_after, router_after}
 use Rattle.study_session.specs.Known.{is_attached, unless_unknown}
 
--- what the words see of a database, in a branch
-module _ (called : Called) (branch : ℕ) (db : Lists) where
-  abbrev pub routers_answer : AnswerValue
-  routers_answer =
+-- what the words say in a branch
+module _ (called : Called) (branch : ℕ) where
+  abbrev pub routers_answer : Lists → AnswerValue
+  routers_answer db =
       accepted_answer (head_of branch words.Routers ++ number_after (length (router_values db)) ++ codes "\n" ++ router_lines called (router_values db))
 
-  abbrev pub networks_answer : AnswerValue
-  networks_answer =
+  abbrev pub networks_answer : Lists → AnswerValue
+  networks_answer db =
       accepted_answer (head_of branch words.Networks ++ number_after (length (network_values db)) ++ codes "\n" ++ network_lines called (network_values db))
 
   -- the links of some routers, after the router that the line names
@@ -30,6 +30,6 @@ module _ (called : Called) (branch : ℕ) (db : Lists) where
   links_text router links =
       head_of branch words.Links ++ router_after called router ++ number_after (length links) ++ codes "\n" ++ link_lines called links
 
-  abbrev pub links_answer : Option RouterId → AnswerValue
-  links_answer None = accepted_answer (links_text None (links_of_routers db (attached_routers db)))
-  links_answer (Some router) = unless_unknown branch (is_attached db router) (accepted_answer (links_text (Some router) (links_of_routers db (router ∷ []))))
+  abbrev pub links_answer : Lists → Option RouterId → AnswerValue
+  links_answer db None = accepted_answer (links_text None (links_of_routers db (attached_routers db)))
+  links_answer db (Some router) = unless_unknown branch (is_attached db router) (accepted_answer (links_text (Some router) (links_of_routers db (router ∷ []))))

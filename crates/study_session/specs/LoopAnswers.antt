@@ -11,16 +11,16 @@ use Rattle.study_session.specs.Answers.{AnswerValue, accepted_answer, refused_an
 use Rattle.study_session.specs.Texts.{head_of, number_after}
 use Rattle.study_session.specs.Known.{too_few_done}
 
--- what the words see of a database, in a branch
-module _ (called : Called) (branch : ℕ) (db : Lists) where
+-- what the words say in a branch
+module _ (called : Called) (branch : ℕ) where
   -- loops, and new blackholes
   abbrev pub loops_reply : List LoopValue → List BlackholeValue → List ℕ
   loops_reply loops holes =
       head_of branch words.Loops ++ number_after (length loops + length holes) ++ codes " loops" ++ number_after (length loops)
       ++ codes " blackholes" ++ number_after (length holes) ++ codes "\n" ++ loop_lines called loops ++ blackhole_lines called holes
 
-  abbrev pub IsLoopsAnswer : Lists → AnswerValue → Type 0
-  IsLoopsAnswer baseline answer =
+  abbrev pub IsLoopsAnswer : Lists → Lists → AnswerValue → Type 0
+  IsLoopsAnswer db baseline answer =
       (loops : List LoopValue) × (holes : List BlackholeValue)
       × AreAtAtoms AreLoopsNow baseline db loops × AreAtAtoms AreNewBlackholes baseline db holes
       × (answer ≡ accepted_answer (loops_reply loops holes))
@@ -31,7 +31,7 @@ module _ (called : Called) (branch : ℕ) (db : Lists) where
       head_of branch words.Microloops ++ number_after count ++ number_after (length loops) ++ codes "\n" ++ loop_lines called loops
 
   -- by the database before them; where fewer edits are done, there is none
-  abbrev pub IsMicroloopsAnswer : ℕ → Option Lists → AnswerValue → Type 0
-  IsMicroloopsAnswer count None answer = answer ≡ refused_answer branch too_few_done
-  IsMicroloopsAnswer count (Some before) answer =
+  abbrev pub IsMicroloopsAnswer : Lists → ℕ → Option Lists → AnswerValue → Type 0
+  IsMicroloopsAnswer db count None answer = answer ≡ refused_answer branch too_few_done
+  IsMicroloopsAnswer db count (Some before) answer =
       (loops : List LoopValue) × AreAtAtoms AreJointLoops before db loops × (answer ≡ accepted_answer (microloops_reply count loops))

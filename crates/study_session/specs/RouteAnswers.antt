@@ -15,16 +15,16 @@ use Rattle.study_session.specs.Answers.{AnswerValue, accepted_answer}
 use Rattle.study_session.specs.Texts.{address_after, head_of, number_after, router_after}
 use Rattle.study_session.specs.Known.{IfKnown, is_attached, unless_unknown}
 
--- what the words see of a database, in a branch
-module _ (called : Called) (branch : ℕ) (db : Lists) where
+-- what the words say in a branch
+module _ (called : Called) (branch : ℕ) where
   -- what a router uses, after the router and the address that the line names
   abbrev pub routes_reply : RouterId → Option Addr → List RouteLineValue → List ℕ
   routes_reply router address lines =
       head_of branch words.Routes ++ router_after called (Some router) ++ address_after address ++ number_after (length lines) ++ codes "\n"
       ++ routes_text called lines
 
-  abbrev pub routes_answer : RouterId → Option Addr → AnswerValue
-  routes_answer router address =
+  abbrev pub routes_answer : Lists → RouterId → Option Addr → AnswerValue
+  routes_answer db router address =
       unless_unknown branch (is_attached db router) (accepted_answer (routes_reply router address (routes_of db router address)))
 
   -- what becomes of a packet, after the router and the address
@@ -33,6 +33,6 @@ module _ (called : Called) (branch : ℕ) (db : Lists) where
       head_of branch words.Path ++ router_after called (Some router) ++ address_after (Some address)
       ++ number_after (length path.steps + length path.loops) ++ codes " " ++ ends_text path.ends ++ codes "\n" ++ path_text called path
 
-  abbrev pub IsPathAnswer : RouterId → Addr → AnswerValue → Type 0
-  IsPathAnswer router address answer = IfKnown branch (is_attached db router) answer
+  abbrev pub IsPathAnswer : Lists → RouterId → Addr → AnswerValue → Type 0
+  IsPathAnswer db router address answer = IfKnown branch (is_attached db router) answer
       ((path : PathValue) × IsPath db router address path × (answer ≡ accepted_answer (path_reply router address path)))

@@ -72,7 +72,7 @@ pub(crate) fn change_text<A: Allocator + Copy>(
     line: Option<&LinkLine<A>>,
 ) -> Result<Vec<u8, A>, AllocError>
     ensures { IfOk result (λ text. text.items
-        ≡ change_text edit (called names.now) (option_map (λ v. v.now) line)) }
+        ≡ change_text edit (called names.now) (option_map (λ v. v.now) line.entry)) }
 {
     let mut text = Vec::new(alloc);
     if let Some(line) = line {

@@ -28,6 +28,14 @@ fn push_edits<A: Allocator + Copy>(
     Ok(())
 }
 
+/// The records of the edits that are done.
+#[tactic(auto, using(crate::proofs::Logged::as_many, crate::proofs::Logged::first_done))]
+fn done_records<A: Allocator + Copy>(planner: &Planner<A>) -> &[Record<A>]
+    ensures { edits_of result.now ≡ planner.now.session.done }
+{
+    &planner.records()[..planner.done()]
+}
+
 /// The answer to `log`.
 pub(crate) fn log<A: Allocator + Copy>(
     alloc: A,
@@ -36,10 +44,9 @@ pub(crate) fn log<A: Allocator + Copy>(
 ) -> Result<Answer<A>, AllocError>
     ensures { IfOk result (λ answer. answer ≡ log_answer branch planner.now.session) }
 {
-    let done = planner.done();
     let mut text = head(alloc, branch, SeeWord::Log)?;
-    push_number_after(&mut text, done as u64)?;
+    push_number_after(&mut text, planner.done() as u64)?;
     push_word(&mut text, "\n")?;
-    push_edits(alloc, &mut text, &planner.records()[..done])?;
+    push_edits(alloc, &mut text, done_records(planner))?;
     Ok(Answer::accepted(alloc, text))
 }

@@ -1,6 +1,6 @@
 //! Conditions about loops.
 
-ghost use Rattle.std.specs.Prelude.{◌≡◌, ◌<◌, IfOk, length, map};
+ghost use Rattle.std.specs.Prelude.{◌≡◌, ◌<◌, IfOk, Some, length, map};
 ghost use Rattle.network_names.specs.Names.{called};
 ghost use Rattle.lsdb.specs.Slots.{lists_of};
 ghost use Rattle.edit_history.specs.Session.{state};
@@ -64,6 +64,20 @@ pub(crate) fn no_blackholes<A: Allocator + Copy>(
     none(alloc, names, "blackholes", report.blackholes())
 }
 
+/// What is found of microloops between two databases.
+fn none_between<A: Allocator + Copy>(
+    alloc: A,
+    names: &Names<'_, A>,
+    before: &Database<A>,
+    database: &Database<A>,
+) -> Result<Verdict<A>, AllocError>
+    ensures { IfOk result (λ verdict. IsMicroloopsVerdict (called names.now)
+        (lists_of database.now) (Some (lists_of before.now)) (verdict_of verdict)) }
+{
+    let loops = joint_loops(alloc, before, database, &mut Meter::new())?;
+    none(alloc, names, "microloops", &loops)
+}
+
 /// `microloops none`: what is found of it. All sessions stay.
 pub(crate) fn no_microloops<A: Allocator + Copy>(
     alloc: A,
@@ -82,7 +96,5 @@ pub(crate) fn no_microloops<A: Allocator + Copy>(
         return Ok(Verdict::TooFewDone);
     };
     branches.prepare(branch)?;
-    let database = branches.planner(branch).database();
-    let loops = joint_loops(alloc, &before, database, &mut Meter::new())?;
-    none(alloc, names, "microloops", &loops)
+    none_between(alloc, names, &before, branches.planner(branch).database())
 }

@@ -1,6 +1,6 @@
 //! Answers about loops.
 
-ghost use Rattle.std.specs.Prelude.{◌≡◌, ◌<◌, IfOk};
+ghost use Rattle.std.specs.Prelude.{◌≡◌, ◌<◌, IfOk, Some};
 ghost use Rattle.network_names.specs.Names.{called};
 ghost use Rattle.lsdb.specs.Slots.{lists_of};
 ghost use Rattle.edit_history.specs.Session.{state};
@@ -75,6 +75,23 @@ fn microloops_reply<A: Allocator + Copy>(
     Ok(text)
 }
 
+/// The answer to `microloops` between two databases.
+fn microloops_between<A: Allocator + Copy>(
+    alloc: A,
+    names: &Names<'_, A>,
+    branch: u8,
+    count: u32,
+    before: &Database<A>,
+    database: &Database<A>,
+) -> Result<Answer<A>, AllocError>
+    ensures { IfOk result (IsMicroloopsAnswer (called names.now) branch (lists_of database.now)
+        count (Some (lists_of before.now))) }
+{
+    let loops = joint_loops(alloc, before, database, &mut Meter::new())?;
+    let text = microloops_reply(alloc, names, branch, count, &loops)?;
+    Ok(Answer::accepted(alloc, text))
+}
+
 /// The answer to `microloops`. All sessions stay.
 pub(crate) fn microloops_answer<A: Allocator + Copy>(
     alloc: A,
@@ -94,7 +111,5 @@ pub(crate) fn microloops_answer<A: Allocator + Copy>(
     };
     branches.prepare(branch)?;
     let database = branches.planner(branch).database();
-    let loops = joint_loops(alloc, &before, database, &mut Meter::new())?;
-    let text = microloops_reply(alloc, names, branch, count, &loops)?;
-    Ok(Answer::accepted(alloc, text))
+    microloops_between(alloc, names, branch, count, &before, database)
 }

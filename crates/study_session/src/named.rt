@@ -1,6 +1,8 @@
 //! Commands of `ospf-plan` in whose lines names stand.
 
-ghost use Rattle.std.specs.Prelude.{◌≡◌, ◌<◌, IfOk, OnOk};
+ghost use Rattle.std.specs.Prelude.{◌≡◌, ◌<◌, IfOk, OnOk, Some};
+ghost use Rattle.edit_history.specs.Session.{state};
+ghost use Rattle.link_report.specs.Links.{link_at};
 ghost use Rattle.network_names.specs.Names.{called};
 ghost use Rattle.branches.specs.Branches.{sessions_of};
 ghost use Rattle.study_session.specs.NamedCommands.{change_text, link_answer, link_stepped, named_answer, named_number, named_stepped, number_found, one_of};
@@ -49,7 +51,7 @@ fn number_found<A: Allocator + Copy>(
     let Some(lsa) = router_lsa_of_any_age(planner.database(), area, router) else {
         return Ok(Some(0));
     };
-    let numbers = link_numbers(alloc, &lsa, name)?;
+    let numbers = link_numbers(alloc, &lsa, &name)?;
     Ok(one_of(&numbers))
 }
 
@@ -69,6 +71,67 @@ fn named_number<A: Allocator + Copy>(
         LinkName::Address(_) => number_found(alloc, planner, area, router, name),
         LinkName::Prefix(_) => number_found(alloc, planner, area, router, name),
     }
+}
+
+/// The number of the link that is named in a branch. All sessions stay.
+fn number_in<A: Allocator + Copy>(
+    alloc: A,
+    branches: &mut Branches<A>,
+    branch: u8,
+    place: (AreaId, RouterId, LinkName),
+) -> Result<Option<u16>, AllocError>
+    requires { branch < 8 }
+    ensures number { IfOk result (λ number. number
+        ≡ named_number (sessions_of branches.old branch) place.0 place.1 place.2) }
+    ensures kept { sessions_of branches.new ≡ sessions_of branches.old }
+{
+    let (area, router, name) = place;
+    branches.prepare(branch)?;
+    named_number(alloc, branches.planner(branch), area, router, name)
+}
+
+/// What is said of the edit of a link in a branch. All sessions stay.
+fn change_in<A: Allocator + Copy>(
+    alloc: A,
+    branches: &mut Branches<A>,
+    names: &Names<'_, A>,
+    branch: u8,
+    place: (AreaId, RouterId, u16),
+    edit: LinkEdit,
+) -> Result<Vec<u8, A>, AllocError>
+    requires { branch < 8 }
+    ensures text { IfOk result (λ text. text.items ≡ change_text edit (called names.now)
+        (link_at (state (sessions_of branches.old branch)) place.0 place.1 place.2)) }
+    ensures kept { sessions_of branches.new ≡ sessions_of branches.old }
+{
+    let (area, router, number) = place;
+    branches.prepare(branch)?;
+    let now = branches.planner(branch).database();
+    let line = link_line_at(alloc, now, area, router, number)?;
+    change_text(alloc, names, edit, line.as_ref())
+}
+
+/// Carries out an edit of the link with a number, and says what it changed.
+fn edit_numbered<A: Allocator + Copy>(
+    alloc: A,
+    branches: &mut Branches<A>,
+    names: &Names<'_, A>,
+    branch: u8,
+    place: (AreaId, RouterId, u16),
+    edit: LinkEdit,
+) -> Result<Answer<A>, AllocError>
+    requires { branch < 8 }
+    ensures answer { IfOk result (λ answer. answer
+        ≡ link_answer (called names.now) (sessions_of branches.old branch) branch place.0 place.1
+        edit (Some place.2)) }
+    ensures sessions { OnOk result (sessions_of branches.new
+        ≡ link_stepped branch place.0 place.1 edit (Some place.2)
+        (sessions_of branches.old)) }
+{
+    let (area, router, number) = place;
+    let change = change_in(alloc, branches, names, branch, place, edit)?;
+    let command = edit.command(area, router, number);
+    changing(alloc, branches, branch, &command, &change)
 }
 
 /// Carries out an edit of a link that is named, and says what it changed; refused where several
@@ -91,20 +154,12 @@ fn edit_link<A: Allocator + Copy>(
         (sessions_of branches.old)) }
 {
     let (area, router, name) = place;
-    branches.prepare(branch)?;
-    let planner = branches.planner(branch);
-    let Some(number) = named_number(alloc, planner, area, router, name)? else {
-        return Answer::refused(alloc, branch, "E14", "ManyLinks");
-    };
-    let line = link_line_at(alloc, planner.database(), area, router, number)?;
-    let change = change_text(alloc, names, edit, line.as_ref())?;
-    changing(
-        alloc,
-        branches,
-        branch,
-        &edit.command(area, router, number),
-        &change,
-    )
+    match number_in(alloc, branches, branch, (area, router, name))? {
+        Some(number) => {
+            edit_numbered(alloc, branches, names, branch, (area, router, number), edit)
+        }
+        None => Answer::refused(alloc, branch, "E14", "ManyLinks"),
+    }
 }
 
 /// Carries out a command of `ospf-plan` in whose line names stand.

@@ -59,7 +59,7 @@ impl<'n, A: Allocator + Copy> StudySession<'n, A> {
         baseline: Database<A>,
         names: Names<'n, A>,
     ) -> StudySession<'n, A>
-        ensures { study_of result ≡ study_by (sessions_of branches) baseline names }
+        ensures { study_of result ≡ study_by (sessions_of branches) baseline names.entry }
     {
         StudySession {
             branches,
