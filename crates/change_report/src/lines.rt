@@ -55,14 +55,17 @@ fn route_for<A: Allocator + Copy>(
 fn change_line<A: Allocator + Copy>(
     alloc: A,
     both: &Comparison<'_, A>,
-    name: ChangeName,
+    name: &ChangeName,
 ) -> Result<ChangeLine<A>, AllocError>
-    ensures { IfOk result (λ line. line ≡ change_line both.now name) }
+    ensures { IfOk result (λ line. line ≡ change_line both.now name.now) }
 {
-    let (router, net) = (name.router, name.net);
-    let now = route_for(alloc, both.present(), both.are(), router, net)?;
-    let was = route_for(alloc, both.baseline(), both.were(), router, net)?;
-    Ok(ChangeLine { name, now, was })
+    let now = route_for(alloc, both.present(), both.are(), name.router, name.net)?;
+    let was = route_for(alloc, both.baseline(), both.were(), name.router, name.net)?;
+    Ok(ChangeLine {
+        name: *name,
+        now,
+        was,
+    })
 }
 
 /// Changes, each with the route of now and the one before.
@@ -79,7 +82,7 @@ pub fn lines_of_changes<A: Allocator + Copy>(
 {
     let mut lines = Vec::new(alloc);
     for name in names {
-        lines.push(change_line(alloc, both, *name)?)?;
+        lines.push(change_line(alloc, both, name)?)?;
     }
     Ok(lines)
 }
@@ -88,9 +91,9 @@ pub fn lines_of_changes<A: Allocator + Copy>(
 fn route_before<A: Allocator + Copy>(
     alloc: A,
     both: &Comparison<'_, A>,
-    pair: Pair,
+    pair: &Pair,
 ) -> Result<Option<RouteLine<A>>, AllocError>
-    ensures { IfOk result (λ line. line ≡ route_at both.now.baseline pair.router pair.net) }
+    ensures { IfOk result (λ line. line ≡ route_at both.now.baseline pair.now.router pair.now.net) }
 {
     route_at(alloc, both.baseline(), both.were(), pair.router, pair.net)
 }
@@ -99,14 +102,14 @@ fn route_before<A: Allocator + Copy>(
 fn gone_line<A: Allocator + Copy>(
     alloc: A,
     both: &Comparison<'_, A>,
-    pair: Pair,
+    pair: &Pair,
 ) -> Result<PairLine<A>, AllocError>
-    ensures { IfOk result (λ line. line ≡ gone_line both.now pair) }
+    ensures { IfOk result (λ line. line ≡ gone_line both.now pair.now) }
 {
     let was = route_before(alloc, both, pair)?;
     let announced = Vec::new(alloc);
     Ok(PairLine {
-        pair,
+        pair: *pair,
         was,
         announced,
     })
@@ -117,15 +120,15 @@ fn lost_line<A: Allocator + Copy>(
     alloc: A,
     both: &Comparison<'_, A>,
     announcers: &Announcers<A>,
-    pair: Pair,
+    pair: &Pair,
 ) -> Result<PairLine<A>, AllocError>
     requires { announcers.now ≡ announcements (announced_in both.now.baseline) both.now.present }
-    ensures { IfOk result (λ line. line ≡ lost_line both.now pair) }
+    ensures { IfOk result (λ line. line ≡ lost_line both.now pair.now) }
 {
     let was = route_before(alloc, both, pair)?;
     let announced = announcers.routers_of(alloc, pair.net)?;
     Ok(PairLine {
-        pair,
+        pair: *pair,
         was,
         announced,
     })
@@ -143,7 +146,7 @@ fn lines_of_lost<A: Allocator + Copy>(
 {
     let mut lines = Vec::new(alloc);
     for pair in pairs {
-        lines.push(lost_line(alloc, both, announcers, *pair)?)?;
+        lines.push(lost_line(alloc, both, announcers, pair)?)?;
     }
     Ok(lines)
 }
@@ -175,7 +178,7 @@ fn lines_of_gone<A: Allocator + Copy>(
 {
     let mut lines = Vec::new(alloc);
     for pair in pairs {
-        lines.push(gone_line(alloc, both, *pair)?)?;
+        lines.push(gone_line(alloc, both, pair)?)?;
     }
     Ok(lines)
 }
