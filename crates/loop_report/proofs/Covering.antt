@@ -6,7 +6,7 @@ use Rattle.std.proofs.lemmas.Nat.{div-add-mod', div-mul-add, pow_pos}
 use Rattle.std.proofs.lemmas.Nat.Bits.{and_high_mask, and_high_mask_twice}
 use Rattle.lsa_codec.specs.Prefix.{IsNet, Net, mask_of_len, masked}
 use Rattle.lsa_codec.specs.declared.address.Addr.{Addr}
-use Rattle.loop_report.specs.steps.Gathering.{end_of}
+use Rattle.loop_report.specs.steps.Ends.{end_of}
 
 -- a multiple of p, and the numbers from it on that are fewer than p after it
 low_bounds : (n p : ℕ) → 0 < p → (n / p * p ≤ n) × (n < n / p * p + p)

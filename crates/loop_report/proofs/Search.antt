@@ -5,7 +5,7 @@ use Rattle.lsa_codec.specs.Prefix.{IsNet, Net, masked}
 use Rattle.lsa_codec.specs.declared.address.Addr.{Addr}
 use Rattle.forwarding.specs.Matches.{has_net}
 use Rattle.loop_report.specs.Atoms.{IsEmptyAtom, IsInAtom, IsLonger, NoneLonger}
-use Rattle.loop_report.specs.steps.Gathering.{end_of}
+use Rattle.loop_report.specs.steps.Ends.{end_of}
 use Rattle.loop_report.proofs.Covering.{covers_between, covers_itself, covers_more}
 
 module _ (nets : List Net) (net : Net) where
