@@ -1,9 +1,10 @@
 -- What clap found is what its definition gives on the words.
-use Rattle.std.proofs.Common.{◌≡◌, ℕ, List, [], true, ap, ◌∙◌}
+use Rattle.std.proofs.Common.{◌≡◌, ℕ, List, [], true, ap, subst, ◌∙◌}
 use Rattle.std.specs.Prelude.{unwrap_or}
 use Rattle.clap.specs.Walk.{Text, all_of, count_of, first_of, rows_of}
 use Rattle.clap.specs.Matches.{first_value, found_of}
 use Rattle.clap.specs.Simple.{App, HasMatchesOf, is_simple}
+use Rattle.clap.specs.Words.{fault_of, is_simple_and_free}
 use Rattle.clap.proofs.WalkLemmas.{first_value-rows, raw_values-rows}
 use Rattle.clap.specs.declared.parser.matches.ArgMatches.{ArgMatches}
 use Rattle.host_arguments.specs.Commands.{times_given, value_of, values_in, values_of}
@@ -23,3 +24,12 @@ pub times_given-found : (app : App) (words : List Text) (m : ArgMatches) (name :
     → count_of name (rows_of (found_of m)) ≡ times_given app words name
 unfolding times_given
 times_given-found app words m name simple has = ap (count_of name) (has simple).0
+
+-- what clap finds for a command, and refuses, where the command is by its definition
+
+pub matches_by : (app command : App) (words : List Text) (m : ArgMatches) → command ≡ app → HasMatchesOf command words m → HasMatchesOf app words m
+matches_by app command words m is has = subst (λ (a : App). HasMatchesOf a words m) is has
+
+pub no_fault_by : (app command : App) (words : List Text) → command ≡ app
+    → (is_simple_and_free command ≡ true → fault_of command words ≡ []) → is_simple_and_free app ≡ true → fault_of app words ≡ []
+no_fault_by app command words is none = subst (λ (a : App). is_simple_and_free a ≡ true → fault_of a words ≡ []) is none
