@@ -22,6 +22,8 @@ mod compared;
 mod report;
 
 // The texts.
+mod blackhole_text;
+mod loop_text;
 mod text;
 
 // What holds of the definitions.
