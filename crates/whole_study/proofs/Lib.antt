@@ -1,4 +1,5 @@
 pub mod CarriedLines
+pub mod CarryingSteps
 pub mod ReadInputs
 pub mod ReadEnds
 pub mod RunEnds
