@@ -1,5 +1,5 @@
 -- Lines carried out one after another.
-use Rattle.std.proofs.Common.{◌≡◌, ◌∙◌, sym, ap, subst, refl, ℕ, Bool, true, false, List, [], ◌∷◌, ◌++◌, append_assoc, append-nil, ◌+◌, Option, None, inl, inr}
+use Rattle.std.proofs.Common.{◌≡◌, ◌∙◌, sym, ap, subst, refl, ℕ, Bool, true, false, List, [], ◌∷◌, ◌++◌, append_assoc, append-nil, Option, None, inl, inr}
 use Rattle.std.specs.Prelude.{◌⊎◌, ◌&&◌}
 use Rattle.std.specs.List.{list_all}
 use Rattle.std.specs.Io.KnownBytes.{Appends}
@@ -222,19 +222,3 @@ pub stop_either : (keep_going on : Bool) (left : List Line) (given : List Answer
     → (goes_on keep_going given ≡ true) ⊎ StopsAtLast given
 stop_either keep_going true left given stop = inl stop.1
 stop_either keep_going false left given stop = inr stop.1
-
--- what is carried out is a part
-pub part_whole : (keep_going : Bool) (s : Study) (lines : List Line) (old : Written) (before : Summary) (on : Bool) (after : Study) (new : Written)
-    (counted : Summary) → CarriesOut keep_going s lines old before on after new counted → WritesPart keep_going s lines old new
-part_whole keep_going s lines old before on after new counted one = record {
-  given = one.given;
-  gives = record {
-    front = one.front;
-    left = one.left;
-    split = one.split;
-    answered = one.answered;
-    stop = stop_either keep_going on one.left one.given one.stop;
-  };
-  replies = prefix_whole old.replies new.replies (replies_of one.given) one.replies;
-  errors = prefix_whole old.errors new.errors (errors_of one.given) one.errors;
-}

@@ -69,14 +69,6 @@ course_last keep_going s all old before now new counted left part on next then_w
     (sym (course.split ∙ ap (λ (l : List Line). course.front ++ l) turn))
     (carried_both keep_going s course.front part old before now new counted on next then_written then_counted course.carried two)
 
--- all lines are carried out
-pub course_end : (keep_going : Bool) (s : Study) (all : List Line) (old : Written) (before : Summary) (now : Study) (new : Written) (counted : Summary)
-    (left : List Line) → Course keep_going s all old before now new counted left → left ≡ []
-    → CarriesOut keep_going s all old before true now new counted
-course_end keep_going s all old before now new counted left course none =
-    subst (λ (l : List Line). CarriesOut keep_going s l old before true now new counted)
-    (sym (course.split ∙ ap (λ (l : List Line). course.front ++ l) none ∙ append-nil course.front)) course.carried
-
 -- ---- one line
 
 one_stop : (keep_going accepted on : Bool) (given : Answered) → is_accepted given ≡ accepted → on ≡ (keep_going || accepted)

@@ -4,4 +4,3 @@ pub mod ReadInputs
 pub mod ReadEnds
 pub mod RunEnds
 pub mod Begun
-pub mod Opened

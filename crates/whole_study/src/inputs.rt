@@ -59,7 +59,8 @@ pub(crate) struct Texts<'a, A: Allocator = Global> {
     pub(crate) studies: Vec<StudyText<'a, A>, A>,
 }
 
-/// The greatest length of a names file and of a study, in bytes, and the greatest number of studies.
+/// The greatest length of a names file and of a study, in bytes, and the greatest number of
+/// studies.
 const MOST: usize = 1_048_576;
 
 /// The fault of a dump that is longer than the limit.
@@ -69,7 +70,7 @@ const TOO_LARGE: DumpFault = DumpFault {
 };
 
 /// How an input is read, and what is reported where it is too large.
-#[derive(Clone, Copy, Debug, PartialEq, Eq)]
+#[derive(Clone, Copy, Debug)]
 enum Input {
     /// The dump, or the saved session.
     Dump,
