@@ -21,6 +21,7 @@ mod known;
 mod links;
 mod log;
 mod loops;
+mod missing;
 mod questions;
 mod routes;
 
