@@ -9,6 +9,9 @@
 mod answer;
 mod text;
 
+// Pairs that questions and expectations are about.
+mod missing;
+
 // Commands.
 mod link_edit;
 mod named;

@@ -1,0 +1,43 @@
+//! Pairs that are lost or gone.
+
+ghost use Rattle.std.specs.Prelude.{◌≡◌, IfOk};
+ghost use Rattle.study_session.specs.steps.Missing.{missing_pairs, missing_text};
+
+use change_lines::Pair;
+use comparison::Comparison;
+use std::alloc::{AllocError, Allocator};
+
+/// Why routers have no entry for a prefix any more.
+#[derive(Clone, Copy, Debug, PartialEq, Eq)]
+pub(crate) enum Missing {
+    /// `lost`: though somebody announces it still.
+    Lost,
+    /// `gone`: since nobody announces it.
+    Gone,
+}
+
+impl Missing {
+    /// The word of the condition.
+    pub(crate) fn text(self) -> &'static str
+        ensures { result.now ≡ missing_text self }
+    {
+        match self {
+            Missing::Lost => "lost",
+            Missing::Gone => "gone",
+        }
+    }
+
+    /// The routers with such prefixes: by router, then by prefix.
+    pub(crate) fn pairs<A: Allocator + Copy>(
+        self,
+        alloc: A,
+        both: &Comparison<'_, A>,
+    ) -> Result<Vec<Pair, A>, AllocError>
+        ensures { IfOk result (λ pairs. pairs.items ≡ missing_pairs self both.now) }
+    {
+        match self {
+            Missing::Lost => both.lost(alloc),
+            Missing::Gone => both.gone(alloc),
+        }
+    }
+}
