@@ -23,7 +23,7 @@ use std::alloc::{AllocError, Allocator};
 use study_script::Allowed;
 
 /// What is found of pairs that are lost or gone.
-fn pairs<A: Allocator + Copy>(
+fn found_pairs<A: Allocator + Copy>(
     alloc: A,
     names: &Names<'_, A>,
     word: &str,
@@ -40,7 +40,7 @@ fn pairs<A: Allocator + Copy>(
 }
 
 /// `lost` or `gone`: what is found of it.
-pub(crate) fn lost_or_gone<A: Allocator + Copy>(
+pub(crate) fn pairs<A: Allocator + Copy>(
     alloc: A,
     names: &Names<'_, A>,
     baseline: &Database<A>,
@@ -54,7 +54,7 @@ pub(crate) fn lost_or_gone<A: Allocator + Copy>(
 {
     let both = Comparison::of(alloc, baseline, database, &mut Meter::new())?;
     let found = which.pairs(alloc, &both)?;
-    pairs(alloc, names, which.text(), allowed, &found)
+    found_pairs(alloc, names, which.text(), allowed, &found)
 }
 
 /// What is found of changes.

@@ -17,16 +17,6 @@ pub(crate) enum Missing {
 }
 
 impl Missing {
-    /// The word of the condition.
-    pub(crate) fn text(self) -> &'static str
-        ensures { result.now ≡ missing_text self }
-    {
-        match self {
-            Missing::Lost => "lost",
-            Missing::Gone => "gone",
-        }
-    }
-
     /// The routers with such prefixes: by router, then by prefix.
     pub(crate) fn pairs<A: Allocator + Copy>(
         self,
@@ -38,6 +28,16 @@ impl Missing {
         match self {
             Missing::Lost => both.lost(alloc),
             Missing::Gone => both.gone(alloc),
+        }
+    }
+
+    /// The word of the condition.
+    pub(crate) fn text(self) -> &'static str
+        ensures { result.now ≡ missing_text self }
+    {
+        match self {
+            Missing::Lost => "lost",
+            Missing::Gone => "gone",
         }
     }
 }
