@@ -30,6 +30,12 @@ hops_verdict db router net bound =
     unless_no_router (is_attached db router)
     (found (meets bound (hops_of (route_of db router net))) (codes "hops " ++ decimal (hops_of (route_of db router net))))
 
+-- what walks to an address do, and whether that is what they have to do
+abbrev pub IsPathFound : Called → Lists → RouterId → Addr → Passing → VerdictValue → Type 0
+IsPathFound called db router address through verdict =
+    (walked : PathValue) × (holds : Bool) × IsPath db router address walked × ((holds ≡ true) ↔ Holds db router address walked through)
+    × (verdict ≡ found holds (through_text called walked))
+
 module _ (called : Called) (baseline db : Lists) where
   abbrev pub route_verdict : RouterId → Net → Option RouteKind → Option (List RouterId) → Option Bound → VerdictValue
   route_verdict router net kind via cost =
@@ -37,6 +43,5 @@ module _ (called : Called) (baseline db : Lists) where
       (route_found called (has_route kind via cost (route_of db router net)) (route_of db router net))
 
   abbrev pub IsPathVerdict : RouterId → Addr → Passing → VerdictValue → Type 0
-  IsPathVerdict router address through verdict = IfRouter (is_attached db router && is_known_passing baseline db through) verdict
-      ((walked : PathValue) × (holds : Bool) × IsPath db router address walked × ((holds ≡ true) ↔ Holds db router address walked through)
-      × (verdict ≡ found holds (through_text called walked)))
+  IsPathVerdict router address through verdict =
+      IfRouter (is_attached db router && is_known_passing baseline db through) verdict (IsPathFound called db router address through verdict)

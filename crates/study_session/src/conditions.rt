@@ -4,7 +4,7 @@ ghost use Rattle.std.specs.Prelude.{◌≡◌, IfOk, option_map};
 ghost use Rattle.network_names.specs.Names.{called};
 ghost use Rattle.lsdb.specs.Slots.{lists_of};
 ghost use Rattle.route_report.specs.Expected.{found_text};
-ghost use Rattle.study_session.specs.RouteVerdicts.{IsPathVerdict, hops_verdict, no_route_verdict, route_verdict};
+ghost use Rattle.study_session.specs.RouteVerdicts.{IsPathFound, IsPathVerdict, hops_verdict, no_route_verdict, route_verdict};
 ghost use Rattle.study_session.specs.Verdicts.{found};
 ghost use Rattle.study_session.specs.steps.Verdicts.{verdict_of};
 
@@ -102,6 +102,24 @@ pub(crate) fn hops<A: Allocator + Copy>(
     Ok(Verdict::Found { holds, text })
 }
 
+/// What is found of walks that begin at a router.
+fn path_found<A: Allocator + Copy>(
+    alloc: A,
+    names: &Names<'_, A>,
+    database: &Database<A>,
+    place: (RouterId, Addr),
+    passing: Passing,
+) -> Result<Verdict<A>, AllocError>
+    ensures { IfOk result (λ verdict. IsPathFound (called names.now) (lists_of database.now)
+        place.0 place.1 passing (verdict_of verdict)) }
+{
+    let (router, address) = place;
+    let (holds, path) = path_holds(alloc, database, router, address, passing, &mut Meter::new())?;
+    let mut text = Vec::new(alloc);
+    push_through(&mut text, names, &path)?;
+    Ok(Verdict::Found { holds, text })
+}
+
 /// `path`: what is found of it.
 pub(crate) fn path<A: Allocator + Copy>(
     alloc: A,
@@ -114,14 +132,10 @@ pub(crate) fn path<A: Allocator + Copy>(
     ensures { IfOk result (λ verdict. IsPathVerdict (called names.now) (lists_of baseline.now)
         (lists_of database.now) place.0 place.1 passing (verdict_of verdict)) }
 {
-    let (router, address) = place;
-    if !(is_attached(alloc, database, router)?
-        && is_known_passing(alloc, baseline, database, passing)?)
-    {
+    let is_known = is_attached(alloc, database, place.0)?
+        && is_known_passing(alloc, baseline, database, passing)?;
+    if !is_known {
         return Ok(Verdict::NoRouter);
     }
-    let (holds, path) = path_holds(alloc, database, router, address, passing, &mut Meter::new())?;
-    let mut text = Vec::new(alloc);
-    push_through(&mut text, names, &path)?;
-    Ok(Verdict::Found { holds, text })
+    path_found(alloc, names, database, place, passing)
 }
