@@ -9,6 +9,9 @@
 mod answer;
 mod text;
 
+// Pairs that questions and expectations are about.
+mod missing;
+
 // Commands.
 mod link_edit;
 mod named;
@@ -21,7 +24,6 @@ mod known;
 mod links;
 mod log;
 mod loops;
-mod missing;
 mod questions;
 mod routes;
 
