@@ -1,15 +1,17 @@
 //! Answers about what differs from the baseline.
 
-ghost use Rattle.std.specs.Prelude.{◌≡◌, ◌∷◌, [], IfOk, codes};
+ghost use Rattle.std.specs.Prelude.{◌≡◌, IfOk};
 ghost use Rattle.network_names.specs.Names.{called};
 ghost use Rattle.lsdb.specs.Slots.{lists_of};
-ghost use Rattle.study_session.specs.ChangeAnswers.{beside, changes_answer, changes_of, changes_reply, gone_answer, lost_answer, pairs_reply};
+ghost use Rattle.study_session.specs.ChangeAnswers.{changes_answer, changes_of, changes_reply, pairs_reply};
+ghost use Rattle.study_session.specs.steps.Missing.{missing_answer};
 
 use crate::answer::Answer;
 use crate::known::{is_known, no_router};
+use crate::missing::Missing;
 use crate::text::{head, push_number_after, push_router_after, push_word};
 use change_lines::{ChangeLine, Changes, PairLine, push_counts};
-use change_report::{gone_lines, lines_of_changes, lost_lines};
+use change_report::lines_of_changes;
 use comparison::Comparison;
 use lsa_codec::RouterId;
 use lsdb::Database;
@@ -100,36 +102,20 @@ fn pairs_reply<A: Allocator + Copy>(
     Ok(text)
 }
 
-/// The answer to `lost`.
-pub(crate) fn lost_answer<A: Allocator + Copy>(
+/// The answer to `lost` or `gone`.
+pub(crate) fn missing_answer<A: Allocator + Copy>(
     alloc: A,
     names: &Names<'_, A>,
     branch: u8,
     baseline: &Database<A>,
     database: &Database<A>,
+    missing: Missing,
 ) -> Result<Answer<A>, AllocError>
-    ensures { IfOk result (λ answer. answer ≡ lost_answer (called names.now) branch
+    ensures { IfOk result (λ answer. answer ≡ missing_answer (called names.now) branch missing
         (lists_of baseline.now) (lists_of database.now)) }
 {
     let both = Comparison::of(alloc, baseline, database, &mut Meter::new())?;
-    let lines = lost_lines(alloc, &both)?;
-    let text = pairs_reply(alloc, names, branch, SeeWord::Lost, &lines)?;
-    Ok(Answer::accepted(alloc, text))
-}
-
-/// The answer to `gone`.
-pub(crate) fn gone_answer<A: Allocator + Copy>(
-    alloc: A,
-    names: &Names<'_, A>,
-    branch: u8,
-    baseline: &Database<A>,
-    database: &Database<A>,
-) -> Result<Answer<A>, AllocError>
-    ensures { IfOk result (λ answer. answer ≡ gone_answer (called names.now) branch
-        (lists_of baseline.now) (lists_of database.now)) }
-{
-    let both = Comparison::of(alloc, baseline, database, &mut Meter::new())?;
-    let lines = gone_lines(alloc, &both)?;
-    let text = pairs_reply(alloc, names, branch, SeeWord::Gone, &lines)?;
+    let lines = missing.lines(alloc, &both)?;
+    let text = pairs_reply(alloc, names, branch, missing.word(), &lines)?;
     Ok(Answer::accepted(alloc, text))
 }

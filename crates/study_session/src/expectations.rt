@@ -12,6 +12,7 @@ use crate::answer::Answer;
 use crate::change_conditions::{few, pairs, same};
 use crate::conditions::{hops, no_route, path, route};
 use crate::loop_conditions::{no_blackholes, no_loops, no_microloops};
+use crate::loops::microloops_of;
 use crate::missing::Missing;
 use crate::verdict::Verdict;
 use branches::Branches;
@@ -67,7 +68,8 @@ fn verdict<A: Allocator + Copy>(
         Condition::Same(router) => same(alloc, names, baseline, now, *router),
         Condition::AtMostChanges(most) => few(alloc, names, baseline, now, *most),
         Condition::NoMicroloops(count) => {
-            no_microloops(alloc, branches, names, branch, count.unwrap_or(1))
+            let loops = microloops_of(alloc, branches, branch, count.unwrap_or(1))?;
+            no_microloops(alloc, names, loops)
         }
     }
 }

@@ -7,11 +7,12 @@ ghost use Rattle.branches.specs.Branches.{sessions_of};
 ghost use Rattle.study_session.specs.Questions.{IsQuestionAnswer};
 
 use crate::answer::Answer;
-use crate::changes::{changes_answer, gone_answer, lost_answer};
+use crate::changes::{changes_answer, missing_answer};
 use crate::help::help_answer;
 use crate::links::{links_answer, networks_answer, routers_answer};
 use crate::log::log;
-use crate::loops::{loops_answer, microloops_answer};
+use crate::loops::{loops_answer, microloops_answer, microloops_of};
+use crate::missing::Missing;
 use crate::routes::{path_answer, routes_answer};
 use branches::Branches;
 use lsdb::Database;
@@ -47,11 +48,13 @@ pub(crate) fn question<A: Allocator + Copy>(
             path_answer(alloc, names, branch, now, (router, address))
         }
         Question::Changes(router) => { changes_answer(alloc, names, branch, baseline, now, router) }
-        Question::Lost => lost_answer(alloc, names, branch, baseline, now),
-        Question::Gone => gone_answer(alloc, names, branch, baseline, now),
+        Question::Lost => missing_answer(alloc, names, branch, baseline, now, Missing::Lost),
+        Question::Gone => missing_answer(alloc, names, branch, baseline, now, Missing::Gone),
         Question::Loops => loops_answer(alloc, names, branch, baseline, now),
         Question::Microloops(count) => {
-            microloops_answer(alloc, branches, names, branch, count.unwrap_or(1))
+            let count = count.unwrap_or(1);
+            let loops = microloops_of(alloc, branches, branch, count)?;
+            microloops_answer(alloc, names, branch, count, loops)
         }
         Question::Log => log(alloc, branch, planner),
         Question::Help(word) => help_answer(alloc, branch, word),
