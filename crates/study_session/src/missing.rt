@@ -1,4 +1,4 @@
-//! Pairs that are lost or gone.
+//! Prefixes that routers have no entry for any more.
 
 ghost use Rattle.std.specs.Prelude.{◌≡◌, IfOk};
 ghost use Rattle.study_session.specs.steps.Missing.{missing_lines, missing_pairs, missing_text, missing_word};
@@ -9,17 +9,27 @@ use comparison::Comparison;
 use std::alloc::{AllocError, Allocator};
 use study_words::SeeWord;
 
-/// Why routers have no entry for a prefix any more.
-#[derive(Clone, Copy, Debug, PartialEq, Eq)]
+/// Why a router has no entry for a prefix any more.
+#[derive(Clone, Copy, Debug)]
 pub(crate) enum Missing {
-    /// `lost`: though somebody announces it still.
+    /// It has lost the prefix, which somebody announces.
     Lost,
-    /// `gone`: since nobody announces it.
+    /// The prefix is gone: nobody announces it.
     Gone,
 }
 
 impl Missing {
-    /// The routers with such prefixes: by router, then by prefix.
+    /// The word of the question.
+    pub(crate) fn word(self) -> SeeWord
+        ensures { result ≡ missing_word self }
+    {
+        match self {
+            Missing::Lost => SeeWord::Lost,
+            Missing::Gone => SeeWord::Gone,
+        }
+    }
+
+    /// The routers with such prefixes.
     pub(crate) fn pairs<A: Allocator + Copy>(
         self,
         alloc: A,
@@ -33,27 +43,7 @@ impl Missing {
         }
     }
 
-    /// The word of the condition.
-    pub(crate) fn text(self) -> &'static str
-        ensures { result.now ≡ missing_text self }
-    {
-        match self {
-            Missing::Lost => "lost",
-            Missing::Gone => "gone",
-        }
-    }
-
-    /// The word of the question.
-    pub(crate) fn word(self) -> SeeWord
-        ensures { result ≡ missing_word self }
-    {
-        match self {
-            Missing::Lost => SeeWord::Lost,
-            Missing::Gone => SeeWord::Gone,
-        }
-    }
-
-    /// The lines that answer the question.
+    /// The routers with such prefixes, each with what it used.
     pub(crate) fn lines<A: Allocator + Copy>(
         self,
         alloc: A,
@@ -64,6 +54,16 @@ impl Missing {
         match self {
             Missing::Lost => lost_lines(alloc, both),
             Missing::Gone => gone_lines(alloc, both),
+        }
+    }
+
+    /// The word of the condition.
+    pub(crate) fn text(self) -> &'static str
+        ensures { result.now ≡ missing_text self }
+    {
+        match self {
+            Missing::Lost => "lost",
+            Missing::Gone => "gone",
         }
     }
 }
