@@ -46,9 +46,17 @@ fn verdict<A: Allocator + Copy>(
             via,
             cost,
         } => {
-            let via = via.as_ref().map(|those| those.as_slice());
             let place = (*router, *prefix);
-            route(alloc, names, baseline, now, place, *kind, via, *cost)
+            route(
+                alloc,
+                names,
+                baseline,
+                now,
+                place,
+                *kind,
+                via.as_deref(),
+                *cost,
+            )
         }
         Condition::NoRoute { router, prefix } => no_route(alloc, names, now, *router, *prefix),
         Condition::Hops {
