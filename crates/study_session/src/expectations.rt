@@ -46,17 +46,8 @@ fn verdict<A: Allocator + Copy>(
             via,
             cost,
         } => {
-            let place = (*router, *prefix);
-            route(
-                alloc,
-                names,
-                baseline,
-                now,
-                place,
-                *kind,
-                via.as_deref(),
-                *cost,
-            )
+            let (place, via) = ((*router, *prefix), via.as_deref());
+            route(alloc, names, baseline, now, place, *kind, via, *cost)
         }
         Condition::NoRoute { router, prefix } => no_route(alloc, names, now, *router, *prefix),
         Condition::Hops {
