@@ -9,7 +9,6 @@ ghost use Rattle.study_session.specs.Verdicts.{found};
 ghost use Rattle.study_session.specs.steps.Verdicts.{verdict_of};
 
 use crate::known::{are_known, is_attached, is_known_passing};
-use crate::text::push_word;
 use crate::verdict::Verdict;
 use lsa_codec::{Addr, Prefix, RouterId};
 use lsdb::Database;
@@ -19,7 +18,7 @@ use route_report::{has_route, hops_of, meets, path_holds, push_found_route, rout
 use spf::Meter;
 use std::alloc::{AllocError, Allocator};
 use study_script::{Bound, Passing};
-use study_text::push_number;
+use study_text::{push_number, push_word};
 use study_words::RouteKind;
 
 /// What is found where a route, or none, was found.

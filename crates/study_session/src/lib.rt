@@ -22,6 +22,7 @@ mod changes;
 mod help;
 mod known;
 mod links;
+mod listing;
 mod log;
 mod loops;
 mod questions;

@@ -9,13 +9,14 @@ ghost use Rattle.study_session.specs.LoopAnswers.{IsLoopsAnswer, loops_reply, mi
 ghost use Rattle.study_session.specs.steps.Microloops.{AreMicroloops, microloops_by};
 
 use crate::answer::Answer;
-use crate::text::{head, push_number_after, push_word};
+use crate::text::{head, push_number_after};
 use branches::Branches;
 use loop_report::{LoopReport, PrefixLoop, joint_loops, push_blackhole_lines, push_loop_lines};
 use lsdb::Database;
 use network_names::Names;
 use spf::Meter;
 use std::alloc::{AllocError, Allocator};
+use study_text::push_word;
 use study_words::SeeWord;
 
 /// The text of `loops`.
