@@ -29,5 +29,5 @@ pub use path_step::{PathStep, StepTarget, StepWay};
 pub use path_text::{push_ends, push_path};
 pub use route_line::RouteLine;
 pub use route_source::RouteSource;
-pub use route_text::push_routes;
+pub use route_text::{push_route, push_routes};
 pub use route_way::{RouteWay, WayTarget};

@@ -33,6 +33,7 @@ impl<A: Allocator + Copy> Line for PathLoop<A> {
         names: &Names<'_, B>,
     ) -> Result<(), AllocError> {
         push_word(text, "loop ")?;
-        push_list(text, names, &self.routers)
+        push_list(text, names, &self.routers)?;
+        push_word(text, "\n")
     }
 }

@@ -27,21 +27,6 @@ pub fn push_path<A: Allocator + Copy, B: Allocator + Copy>(
     push_lines(text, names, &path.loops)
 }
 
-/// Adds how walks end, joined by commas.
-///
-/// # Errors
-///
-/// Memory ran out. A part of the text may have been added.
-pub fn push_ends<A: Allocator + Copy>(
-    text: &mut Vec<u8, A>,
-    names: &Names<'_, A>,
-    ends: &[PathEnd],
-) -> Result<(), AllocError>
-    ensures { OnOk result (text.new.items ≡ text.old.items ++ ends_text ends.now) }
-{
-    push_list(text, names, ends)
-}
-
 impl<A: Allocator + Copy> Shown for Path<A> {
     ghost use Rattle.route_lines.specs.PathTexts.{through_text};
 
@@ -56,4 +41,19 @@ impl<A: Allocator + Copy> Shown for Path<A> {
         push_word(text, " through ")?;
         push_list(text, names, &self.routers)
     }
+}
+
+/// Adds how walks end, joined by commas.
+///
+/// # Errors
+///
+/// Memory ran out. A part of the text may have been added.
+pub fn push_ends<A: Allocator + Copy>(
+    text: &mut Vec<u8, A>,
+    names: &Names<'_, A>,
+    ends: &[PathEnd],
+) -> Result<(), AllocError>
+    ensures { OnOk result (text.new.items ≡ text.old.items ++ ends_text ends.now) }
+{
+    push_list(text, names, ends)
 }

@@ -1,11 +1,10 @@
-//! The texts of routes. A route is shown without its prefix, as
-//! `intra cost 10 area 0.0.0.1 direct out 10.1.0.3`; its line begins with it.
+//! The texts of routes. A route is shown without its prefix; its line begins with it.
 
 ghost use Rattle.std.specs.Prelude.{◌≡◌, ◌++◌, OnOk, codes, decimal};
 ghost use Rattle.network_names.specs.Names.{called};
 ghost use Rattle.study_words.specs.RouteKinds.{route_kind_text};
 ghost use Rattle.route_lines.specs.RouteLines.{external_kind};
-ghost use Rattle.route_lines.specs.RouteTexts.{area_text, forward_text, metric_text, rest_by, routes_text, source_text, ways_text};
+ghost use Rattle.route_lines.specs.RouteTexts.{area_text, forward_text, metric_text, rest_by, route_text, routes_text, source_text, ways_text};
 
 use crate::own_source::OwnSource;
 use crate::route_line::RouteLine;
@@ -113,19 +112,21 @@ fn push_rest<A: Allocator + Copy, B: Allocator + Copy>(
     }
 }
 
-impl<A: Allocator + Copy> Shown for RouteLine<A> {
-    ghost use Rattle.route_lines.specs.RouteTexts.{route_text};
-
-    ghost shown_as = { route_text };
-
-    fn push_to<B: Allocator + Copy>(
-        &self,
-        text: &mut Vec<u8, B>,
-        names: &Names<'_, B>,
-    ) -> Result<(), AllocError> {
-        push_source(text, self.source)?;
-        push_rest(text, names, self)
-    }
+/// Adds a route without its prefix, as `intra cost 10 area 0.0.0.1 direct out 10.1.0.3`.
+///
+/// # Errors
+///
+/// Memory ran out. A part of the text may have been added.
+pub fn push_route<A: Allocator + Copy, B: Allocator + Copy>(
+    text: &mut Vec<u8, A>,
+    names: &Names<'_, A>,
+    route: &RouteLine<B>,
+) -> Result<(), AllocError>
+    ensures { OnOk result
+        (text.new.items ≡ text.old.items ++ route_text (called names.now) route.now) }
+{
+    push_source(text, route.source)?;
+    push_rest(text, names, route)
 }
 
 impl<A: Allocator + Copy> Line for RouteLine<A> {
@@ -140,7 +141,22 @@ impl<A: Allocator + Copy> Line for RouteLine<A> {
     ) -> Result<(), AllocError> {
         push_prefix(text, self.net)?;
         push_word(text, " ")?;
-        self.push_to(text, names)
+        push_route(text, names, self)?;
+        push_word(text, "\n")
+    }
+}
+
+impl<A: Allocator + Copy> Shown for RouteLine<A> {
+    ghost use Rattle.route_lines.specs.RouteTexts.{route_text};
+
+    ghost shown_as = { route_text };
+
+    fn push_to<B: Allocator + Copy>(
+        &self,
+        text: &mut Vec<u8, B>,
+        names: &Names<'_, B>,
+    ) -> Result<(), AllocError> {
+        push_route(text, names, self)
     }
 }
 

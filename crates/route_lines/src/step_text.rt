@@ -131,6 +131,7 @@ impl Line for PathStep {
         names: &Names<'_, A>,
     ) -> Result<(), AllocError> {
         push_router(text, names, self.router)?;
-        push_doing(text, names, self.way)
+        push_doing(text, names, self.way)?;
+        push_word(text, "\n")
     }
 }

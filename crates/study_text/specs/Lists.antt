@@ -16,10 +16,6 @@ joined_or none word mark (text ∷ texts) = word ++ joined mark (text ∷ texts)
 abbrev pub listed : List (List ℕ) → List ℕ
 listed texts = joined_or (codes "-") [] (codes ",") texts
 
--- texts joined by commas after a word; nothing where there is none
-abbrev pub listed_after : List ℕ → List (List ℕ) → List ℕ
-listed_after word texts = joined_or [] word (codes ",") texts
-
 -- the number of texts that are not shown after the first three
 abbrev pub and_more : ℕ → List ℕ
 and_more count = if nat_le count 3 then [] else codes " and " ++ decimal (count - 3) ++ codes " more"

@@ -16,7 +16,7 @@ mod word;
 mod line;
 
 pub use line::{Line, push_lines};
-pub use list::{push_first_three, push_joined, push_joined_or, push_list, push_list_after};
+pub use list::{push_first_three, push_joined, push_joined_or, push_list};
 pub use number::{push_address, push_number, push_prefix};
 pub use router::push_router;
 pub use shown::Shown;

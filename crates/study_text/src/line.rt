@@ -1,23 +1,22 @@
 //! Lines.
 
-ghost use Rattle.std.specs.Prelude.{◌≡◌, ◌++◌, OnOk, codes};
+ghost use Rattle.std.specs.Prelude.{◌≡◌, ◌++◌, OnOk};
 ghost use Rattle.network_names.specs.Names.{called};
 ghost use Rattle.study_text.specs.Lists.{lines_of};
 
-use crate::word::push_word;
 use network_names::Names;
 use std::alloc::{AllocError, Allocator};
 
 /// What has a line of its own, where routers have names.
 pub trait Line {
-    ghost use Rattle.std.specs.Prelude.{◌≡◌, ◌++◌, OnOk};
+    ghost use Rattle.std.specs.Prelude.{◌≡◌, ◌++◌, OnOk, codes};
     ghost use Rattle.network_names.specs.Names.{called};
     ghost use Rattle.study_text.specs.Shown.{Text};
 
     /// The line without its end, by the names of routers.
     ghost line_as: { Text Self };
 
-    /// Adds the line without its end.
+    /// Adds the line and its end.
     ///
     /// # Errors
     ///
@@ -27,21 +26,8 @@ pub trait Line {
         text: &mut Vec<u8, A>,
         names: &Names<'_, A>,
     ) -> Result<(), AllocError>
-        ensures { OnOk result
-            (text.new.items ≡ text.old.items ++ line_as (called names.now) self.now) };
-}
-
-/// Adds a line and its end.
-fn push_whole<T: Line, A: Allocator + Copy>(
-    text: &mut Vec<u8, A>,
-    names: &Names<'_, A>,
-    item: &T,
-) -> Result<(), AllocError>
-    ensures { OnOk result (text.new.items
-        ≡ text.old.items ++ (T.line_as (called names.now) item.now ++ codes "\n")) }
-{
-    item.push_line(text, names)?;
-    push_word(text, "\n")
+        ensures { OnOk result (text.new.items
+            ≡ text.old.items ++ (line_as (called names.now) self.now ++ codes "\n")) };
 }
 
 /// Adds a line for each of some items.
@@ -58,7 +44,7 @@ pub fn push_lines<T: Line, A: Allocator + Copy>(
         ≡ text.old.items ++ lines_of (T.line_as (called names.now)) items.now) }
 {
     for item in items {
-        push_whole(text, names, item)?;
+        item.push_line(text, names)?;
     }
     Ok(())
 }

@@ -2,7 +2,7 @@
 
 ghost use Rattle.std.specs.Prelude.{◌≡◌, ◌++◌, OnOk, flat_map, map, take};
 ghost use Rattle.network_names.specs.Names.{called};
-ghost use Rattle.study_text.specs.Lists.{and_more, first_three, joined, joined_or, listed, listed_after};
+ghost use Rattle.study_text.specs.Lists.{and_more, first_three, joined, joined_or, listed};
 
 use crate::shown::Shown;
 use crate::word::{push_number_after, push_word};
@@ -84,23 +84,6 @@ pub fn push_list<T: Shown, A: Allocator + Copy>(
         ≡ text.old.items ++ listed (map (T.shown_as (called names.now)) items.now)) }
 {
     push_joined_or(text, names, "-", "", ",", items)
-}
-
-/// Adds items joined by commas after a word; nothing where there is none.
-///
-/// # Errors
-///
-/// Memory ran out.
-pub fn push_list_after<T: Shown, A: Allocator + Copy>(
-    text: &mut Vec<u8, A>,
-    names: &Names<'_, A>,
-    word: &str,
-    items: &[T],
-) -> Result<(), AllocError>
-    ensures { OnOk result (text.new.items ≡ text.old.items
-        ++ listed_after word.now (map (T.shown_as (called names.now)) items.now)) }
-{
-    push_joined_or(text, names, "", word, ",", items)
 }
 
 /// The number of items that are shown of a long list.
