@@ -13,12 +13,12 @@ use crate::verdict::Verdict;
 use lsa_codec::{Addr, Prefix, RouterId};
 use lsdb::Database;
 use network_names::Names;
-use route_lines::{RouteLine, push_through};
+use route_lines::RouteLine;
 use route_report::{has_route, hops_of, meets, path_holds, push_found_route, route_of};
 use spf::Meter;
 use std::alloc::{AllocError, Allocator};
 use study_script::{Bound, Passing};
-use study_text::{push_number, push_word};
+use study_text::{Shown, push_number, push_word};
 use study_words::RouteKind;
 
 /// What is found where a route, or none, was found.
@@ -115,7 +115,7 @@ fn path_found<A: Allocator + Copy>(
     let (router, address) = place;
     let (holds, path) = path_holds(alloc, database, router, address, passing, &mut Meter::new())?;
     let mut text = Vec::new(alloc);
-    push_through(&mut text, names, &path)?;
+    path.push_to(&mut text, names)?;
     Ok(Verdict::Found { holds, text })
 }
 
