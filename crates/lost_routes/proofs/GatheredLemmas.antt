@@ -12,7 +12,7 @@ use Rattle.lsa_codec.proofs.OrderLemmas.{prefix_exact, prefix_total}
 use Rattle.area_graph.specs.Rising.{rising}
 use Rattle.area_routes.proofs.AddsLemmas.{Adds}
 use Rattle.best_ways.proofs.RisingLemmas.{rising_same}
-use Rattle.lost_routes.specs.steps.Gathering.{Gathers}
+use Rattle.lost_routes.specs.Gathering.{Gathers}
 
 swapped : (a b : Bool) → (a || b) ≡ (b || (a || false))
 swapped true true = refl
