@@ -7,12 +7,13 @@ ghost use Rattle.study_session.specs.Lines.{fault_answer};
 ghost use Rattle.network_names.specs.Names.{names_of, stands_for};
 ghost use Rattle.study_arguments.specs.Fault.{fault_at};
 
-use crate::text::{push_mark, push_word};
+use crate::text::push_mark;
 use network_names::Names;
 use std::alloc::{AllocError, Allocator, Global};
 use std::marker::Model;
 use study_arguments::Fault;
 use study_hints::push_fault;
+use study_text::push_word;
 
 /// What became of a line.
 #[derive(Clone, Copy, Debug, PartialEq, Eq)]
