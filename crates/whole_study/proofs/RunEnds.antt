@@ -14,11 +14,11 @@ use Rattle.study_session.specs.declared.answer.Outcome.{Outcome}
 use Rattle.study_session.specs.declared.answer.Outcome.TheVariants.{Accepted, Refused, Failed}
 use Rattle.study_session.specs.Answers.{Study}
 use Rattle.whole_study.specs.Begin.{AreAccepted, Begins}
-use Rattle.whole_study.specs.Calls.{Ends, FitsInputs, HasLonger, IsBeforeReplies, IsTooMuch, MayEndRun, WritesPrefix, most, of_all, of_first}
+use Rattle.whole_study.specs.Calls.{Ends, FitsInputs, HasLonger, IsBeforeReplies, IsTooMuch, MayEndRun, WritesPrefix, most, of_all}
 use Rattle.whole_study.specs.Given.{Given}
 use Rattle.whole_study.specs.Lines.{Line, all_lines}
 use Rattle.whole_study.specs.Run.{Answered, AreAnswered, Gives, IsStop, StopsAtLast, dump_left, dump_of, errors_of, has_passed, is_accepted, replies_of, study_after, summary_of, summary_text, was_accepted, was_failed, was_refused, whole_replies}
-use Rattle.whole_study.specs.steps.Carrying.{CarriesOut, IsStopBy, WritesPart, Written}
+use Rattle.whole_study.specs.steps.Carrying.{CarriesOut, IsStopBy, Written}
 use Rattle.whole_study.specs.steps.Endings.{MayEndWriting}
 use Rattle.whole_study.specs.steps.Texts.{HasFewBytes, bytes_in, given_in, named_text}
 use Rattle.whole_study.specs.declared.fault.RunFault.{RunFault}
