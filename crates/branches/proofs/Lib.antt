@@ -1,5 +1,7 @@
 pub mod SessionLemmas
+pub mod KeptBase
 pub mod BranchSessions
+pub mod PlannersByNumber
 pub mod AllTables
 pub mod RefusedCommands
 pub mod AcceptedEdits

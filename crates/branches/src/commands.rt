@@ -24,7 +24,7 @@ use table_report::push_table;
 /// # Errors
 ///
 /// Memory ran out. Then the session is as it was.
-#[tactic(auto, using(crate::proofs::BranchSessions::after_base))]
+#[tactic(auto, using(crate::proofs::KeptBase::after_base))]
 pub(crate) fn execute<A: Allocator + Copy>(
     alloc: A,
     planner: &mut Planner<A>,

@@ -1,19 +1,23 @@
 //! The words that a program is given, and those that clap found for an argument.
 
-ghost use Rattle.std.specs.Prelude.{◌≡◌, IfOk, map};
+ghost use Rattle.std.specs.Prelude.{◌≡◌, IfErr, IfOk, map};
 ghost use Rattle.clap.specs.Words.{found_of};
 ghost use Rattle.host_arguments.specs.Commands.{values_in};
+ghost use Rattle.host_arguments.specs.OptionsFaults.{IsWordFault};
 
+use crate::fault::OptionsFault;
 use clap::ArgMatches;
 use std::alloc::{AllocError, Global};
-use std::{env, io};
+use std::env;
 
 /// The words of the command line, the program's name first.
 ///
 /// # Errors
 ///
-/// One for a word that is not UTF-8 text, and `ErrorKind::OutOfMemory` where memory ran out.
-pub fn words(rt: &HostRuntime) -> io::Result<Vec<String>> {
+/// `NotText` for a word that is not UTF-8 text, and `OutOfMemory` where memory ran out.
+pub fn words(rt: &HostRuntime) -> Result<Vec<String>, OptionsFault>
+    ensures { IfErr result IsWordFault }
+{
     Ok(env::args(rt)?.collect::<Vec<String>>(rt.alloc())?)
 }
 

@@ -2,8 +2,8 @@
 //!
 //! A program takes the [`words`] of its command line, makes its command of [`named_command`], of
 //! [`value_option`] and of [`flag_option`], and lets clap read the words; [`values_found`] are those
-//! of one argument. Where the words give no options it ends by [`end_without_options`], with clap's
-//! own text, or as memory ran out.
+//! of one argument. By [`ended`] it ends as its run did, or, where the words give no options, with
+//! clap's own text, or as a word is no text or memory ran out.
 #![tactic(auto)]
 
 mod commands;
@@ -12,6 +12,6 @@ mod fault;
 mod given;
 
 pub use commands::{CommandTexts, flag_option, named_command, value_option};
-pub use ending::{end_without_options, end_without_words};
+pub use ending::{ended, success_if};
 pub use fault::OptionsFault;
 pub use given::{values_found, words};

@@ -64,12 +64,9 @@ IsNotReplaced name fault = (why : ReplaceFault) × (fault ≡ not_replaced name 
 
 -- ---- status
 
-abbrev pub capture_status : CaptureFault → ℕ
-capture_status captures.OutOfMemory = 5
-capture_status _ = 3
-
 abbrev pub refusal_status : FileFault → ℕ
-refusal_status (files.Capture fault) = capture_status fault
+refusal_status (files.Capture captures.OutOfMemory) = 5
+refusal_status (files.Capture _) = 3
 refusal_status files.NotJson = 3
 refusal_status files.NoDatabase = 3
 refusal_status files.UnknownKind = 3

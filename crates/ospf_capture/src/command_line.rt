@@ -8,11 +8,9 @@ ghost use Rattle.ospf_capture.specs.CommandLine.{kept_where, ospf_capture, IsGiv
 ghost use Rattle.ospf_capture.specs.steps.FoundFiles.{IsRead};
 
 use crate::arguments::Options;
-use crate::help::{ABOUT, DETAILS, VERSION};
+use crate::help::TEXTS;
 use clap::{Arg, ArgAction, ArgMatches, Command};
-use host_arguments::{
-    CommandTexts, OptionsFault, flag_option, named_command, value_option, values_found,
-};
+use host_arguments::{OptionsFault, flag_option, named_command, value_option, values_found};
 use lsa_instances::FlushedLsas;
 use std::alloc::{AllocError, Global};
 
@@ -39,12 +37,7 @@ pub(crate) fn options<'a>(alloc: Global, words: &'a [String]) -> Result<Options<
 fn command<'a>(alloc: Global) -> Result<Command<'a>, AllocError>
     ensures { IfOk result (λ command. app_of command ≡ ospf_capture) }
 {
-    let texts = CommandTexts {
-        about: ABOUT,
-        version: VERSION,
-        after_help: DETAILS,
-    };
-    named_command(alloc, "ospf-capture", texts)?
+    named_command(alloc, "ospf-capture", TEXTS)?
         .arg(value_option(
             alloc,
             "out",

@@ -1,7 +1,7 @@
 //! How the program ends after a fault: its status, and the line on standard error.
 
 ghost use Rattle.std.specs.Prelude.{◌≡◌, IfOk, string_bytes};
-ghost use Rattle.ospf_capture.specs.Exit.{at_text, capture_name, capture_offset, capture_status, exit_status, exit_text, file_status, file_text, join_status, join_text, refusal_name, refusal_offset, refusal_status, refused_text};
+ghost use Rattle.ospf_capture.specs.Exit.{at_text, capture_name, capture_offset, exit_status, exit_text, file_status, file_text, join_status, join_text, refusal_name, refusal_offset, refusal_status, refused_text};
 
 use crate::fault::{ExitFault, FileEnd};
 use capture_files::CaptureFault;
@@ -9,22 +9,15 @@ use lsdb_merge::JoinFault;
 use network_files::FileFault;
 use std::alloc::{AllocError, Allocator};
 
-fn capture_status(fault: CaptureFault) -> u8
-    ensures { result ≡ capture_status fault }
-{
-    match fault {
-        CaptureFault::OutOfMemory => 5,
-        _ => 3,
-    }
-}
-
 fn refusal_status(fault: FileFault) -> u8
     ensures { result ≡ refusal_status fault }
 {
     match fault {
-        FileFault::Capture(fault) => capture_status(fault),
-        FileFault::NotJson | FileFault::NoDatabase | FileFault::UnknownKind => 3,
-        FileFault::OutOfMemory => 5,
+        FileFault::Capture(CaptureFault::OutOfMemory) | FileFault::OutOfMemory => 5,
+        FileFault::Capture(_)
+        | FileFault::NotJson
+        | FileFault::NoDatabase
+        | FileFault::UnknownKind => 3,
     }
 }
 

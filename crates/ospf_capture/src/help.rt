@@ -1,14 +1,23 @@
 //! The texts of `--help` and `--version`.
 
+use host_arguments::CommandTexts;
+
+/// What the program prints about itself.
+pub(crate) const TEXTS: CommandTexts<'static> = CommandTexts {
+    about: ABOUT,
+    version: VERSION,
+    after_help: DETAILS,
+};
+
 /// What the program is.
-pub(crate) const ABOUT: &str = "Makes a dump for ospf-plan from files that a network provides";
+const ABOUT: &str = "Makes a dump for ospf-plan from files that a network provides";
 
 /// The version of the program, and the logic that it was proved in, as `rt version` prints it.
-pub(crate) const VERSION: &str = "0.10.0, proved in the Rattle logic dac8208d650f15bf";
+const VERSION: &str = "0.10.0, proved in the Rattle logic dac8208d650f15bf";
 
 /// Where files come from, what is printed about them, an example, where the manual is, and the
 /// exit status.
-pub(crate) const DETAILS: &str = "Files that contain the LSAs of a network:
+const DETAILS: &str = "Files that contain the LSAs of a network:
   an SNMP walk        snmpbulkwalk -v2c -c COMMUNITY -On -Ox ROUTER 1.3.6.1.2.1.14 > ROUTER.walk
   a packet capture    tcpdump -i INTERFACE -w LINK.pcap proto ospf
   a printed database  for type in router network summary asbr-summary external; do

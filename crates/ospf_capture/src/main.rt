@@ -17,32 +17,25 @@ mod fault;
 mod files;
 mod help;
 
-use arguments::Options;
 use command_line::options;
 use exit::exit_line;
 use fault::ExitFault;
-use host_arguments::{end_without_options, end_without_words, words};
+use host_arguments::{OptionsFault, ended, success_if, words};
 use host_io::end_with;
 use std::process::ExitCode;
 
 fn main(rt: HostRuntime) -> ExitCode {
-    let words = match words(&rt) {
-        Ok(words) => words,
-        Err(error) => return end_without_words(&rt, &error),
-    };
-    match options(rt.alloc(), words.as_slice()) {
-        Ok(given) => capture(&rt, &given),
-        Err(fault) => end_without_options(&rt, &fault),
-    }
+    ended(&rt, capture(&rt))
 }
 
 /// Makes the dump: status 0 where nothing is missing, else 1.
-fn capture(rt: &HostRuntime, given: &Options<'_>) -> ExitCode {
-    match files::make_dump(rt, given) {
-        Ok(true) => ExitCode::SUCCESS,
-        Ok(false) => ExitCode::from(1),
+fn capture(rt: &HostRuntime) -> Result<ExitCode, OptionsFault> {
+    let words = words(rt)?;
+    let given = options(rt.alloc(), words.as_slice())?;
+    Ok(match files::make_dump(rt, &given) {
+        Ok(complete) => success_if(complete),
         Err(fault) => end(rt, fault),
-    }
+    })
 }
 
 /// Writes the line of a fault, and ends with its status.

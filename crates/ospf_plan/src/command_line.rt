@@ -7,9 +7,9 @@ ghost use Rattle.ospf_plan.specs.CommandLine.{file_rule, ospf_plan, IsGiven};
 ghost use Rattle.ospf_plan.specs.steps.FoundFiles.{IsRead};
 
 use crate::arguments::Options;
-use crate::help::{ABOUT, COMMANDS, VERSION};
+use crate::help::TEXTS;
 use clap::{Arg, ArgAction, ArgMatches, Command};
-use host_arguments::{CommandTexts, OptionsFault, named_command, value_option};
+use host_arguments::{OptionsFault, named_command, value_option};
 use std::alloc::{AllocError, Global};
 
 /// The options that the words of a command line give. The first word is the program's name.
@@ -34,12 +34,7 @@ pub(crate) fn options<'a>(alloc: Global, words: &'a [String]) -> Result<Options<
 fn command<'a>(alloc: Global) -> Result<Command<'a>, AllocError>
     ensures { IfOk result (λ command. app_of command ≡ ospf_plan) }
 {
-    let texts = CommandTexts {
-        about: ABOUT,
-        version: VERSION,
-        after_help: COMMANDS,
-    };
-    named_command(alloc, "ospf-plan", texts)?
+    named_command(alloc, "ospf-plan", TEXTS)?
         .arg(file_option(
             alloc,
             "dump",

@@ -1,14 +1,23 @@
 //! The texts of `--help` and `--version`.
 
+use host_arguments::CommandTexts;
+
+/// What the program prints about itself.
+pub(crate) const TEXTS: CommandTexts<'static> = CommandTexts {
+    about: ABOUT,
+    version: VERSION,
+    after_help: COMMANDS,
+};
+
 /// What the program is.
-pub(crate) const ABOUT: &str = "A what-if planner for OSPF";
+const ABOUT: &str = "A what-if planner for OSPF";
 
 /// The version of the program, and the logic that it was proved in, as `rt version` prints it.
-pub(crate) const VERSION: &str = "0.10.0, proved in the Rattle logic dac8208d650f15bf";
+const VERSION: &str = "0.10.0, proved in the Rattle logic dac8208d650f15bf";
 
 /// The commands of a script with their arguments, examples, where the manual is, and the exit
 /// status.
-pub(crate) const COMMANDS: &str = "Commands, each on a line of the script:
+const COMMANDS: &str = "Commands, each on a line of the script:
   cost AREA ROUTER LINK METRIC                set the metric of a link
   drop-link AREA ROUTER LINK                  remove a link
   fail-link AREA ROUTER NEIGHBOR              remove the point-to-point links of two routers

@@ -17,24 +17,16 @@ mod fault;
 mod files;
 mod help;
 
-use arguments::Options;
 use command_line::options;
 use exit::exit_line;
 use fault::ExitFault;
-use host_arguments::{end_without_options, end_without_words, words};
+use host_arguments::{OptionsFault, ended, words};
 use host_io::end_with;
 use std::alloc::Global;
 use std::process::ExitCode;
 
 fn main(rt: HostRuntime) -> ExitCode {
-    let words = match words(&rt) {
-        Ok(words) => words,
-        Err(error) => return end_without_words(&rt, &error),
-    };
-    match options(rt.alloc(), words.as_slice()) {
-        Ok(given) => plan(&rt, &given),
-        Err(fault) => end_without_options(&rt, &fault),
-    }
+    ended(&rt, plan(&rt))
 }
 
 /// A block that is taken and given back, in bytes: the C library goes by the size of one of up to
@@ -51,12 +43,14 @@ fn keep_heap(alloc: Global) {
 }
 
 /// Runs the script on the dump.
-fn plan(rt: &HostRuntime, given: &Options<'_>) -> ExitCode {
+fn plan(rt: &HostRuntime) -> Result<ExitCode, OptionsFault> {
+    let words = words(rt)?;
+    let given = options(rt.alloc(), words.as_slice())?;
     keep_heap(rt.alloc());
-    match files::run_files(rt, given) {
+    Ok(match files::run_files(rt, &given) {
         Ok(_summary) => ExitCode::SUCCESS,
         Err(fault) => end(rt, &fault),
-    }
+    })
 }
 
 /// Writes the line of a fault, and ends with its status.

@@ -8,11 +8,9 @@ ghost use Rattle.ospf_study.specs.CommandLine.{dump_rule, ospf_study, studies_ru
 ghost use Rattle.ospf_study.specs.steps.FoundFiles.{IsRead};
 
 use crate::arguments::Options;
-use crate::help::{ABOUT, DETAILS, VERSION};
+use crate::help::TEXTS;
 use clap::{Arg, ArgAction, ArgMatches, Command};
-use host_arguments::{
-    CommandTexts, OptionsFault, flag_option, named_command, value_option, values_found,
-};
+use host_arguments::{OptionsFault, flag_option, named_command, value_option, values_found};
 use std::alloc::{AllocError, Global};
 
 /// The options that the words of a command line give. The first word is the program's name.
@@ -36,12 +34,7 @@ pub(crate) fn options<'a>(alloc: Global, words: &'a [String]) -> Result<Options<
 fn command<'a>(alloc: Global) -> Result<Command<'a>, AllocError>
     ensures { IfOk result (λ command. app_of command ≡ ospf_study) }
 {
-    let texts = CommandTexts {
-        about: ABOUT,
-        version: VERSION,
-        after_help: DETAILS,
-    };
-    named_command(alloc, "ospf-study", texts)?
+    named_command(alloc, "ospf-study", TEXTS)?
         .arg(dump_option(alloc))?
         .arg(file_option(
             alloc,

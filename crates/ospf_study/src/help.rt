@@ -1,13 +1,22 @@
 //! The texts of `--help` and `--version`.
 
+use host_arguments::CommandTexts;
+
+/// What the program prints about itself.
+pub(crate) const TEXTS: CommandTexts<'static> = CommandTexts {
+    about: ABOUT,
+    version: VERSION,
+    after_help: DETAILS,
+};
+
 /// What the program is.
-pub(crate) const ABOUT: &str = "Studies what a change does to a network of OSPF routers";
+const ABOUT: &str = "Studies what a change does to a network of OSPF routers";
 
 /// The version of the program, and the logic that it was proved in, as `rt version` prints it.
-pub(crate) const VERSION: &str = "0.10.0, proved in the Rattle logic dac8208d650f15bf";
+const VERSION: &str = "0.10.0, proved in the Rattle logic dac8208d650f15bf";
 
 /// What the lines of studies are, an example, and the exit status.
-pub(crate) const DETAILS: &str =
+const DETAILS: &str =
     "A study has a line for each command. All commands of ospf-plan are taken; these see what comes of
 them, and `help` lists all of them with their arguments:
   routers, links, networks          what the database has

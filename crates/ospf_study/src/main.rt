@@ -17,33 +17,26 @@ mod fault;
 mod files;
 mod help;
 
-use arguments::Options;
 use command_line::options;
 use exit::exit_line;
 use fault::ExitFault;
-use host_arguments::{end_without_options, end_without_words, words};
+use host_arguments::{OptionsFault, ended, success_if, words};
 use std::alloc::Global;
 use std::io::Write;
 use std::process::ExitCode;
 
 fn main(rt: HostRuntime) -> ExitCode {
-    let words = match words(&rt) {
-        Ok(words) => words,
-        Err(error) => return end_without_words(&rt, &error),
-    };
-    match options(rt.alloc(), words.as_slice()) {
-        Ok(given) => study(&rt, &given),
-        Err(fault) => end_without_options(&rt, &fault),
-    }
+    ended(&rt, study(&rt))
 }
 
 /// Carries out the studies: status 0 where each line is accepted, else 1.
-fn study(rt: &HostRuntime, given: &Options<'_>) -> ExitCode {
-    match files::run_files(rt, given) {
-        Ok(true) => ExitCode::SUCCESS,
-        Ok(false) => ExitCode::from(1),
+fn study(rt: &HostRuntime) -> Result<ExitCode, OptionsFault> {
+    let words = words(rt)?;
+    let given = options(rt.alloc(), words.as_slice())?;
+    Ok(match files::run_files(rt, &given) {
+        Ok(accepted) => success_if(accepted),
         Err(fault) => end(rt, &fault),
-    }
+    })
 }
 
 /// Writes the line of a fault, and ends with its status.

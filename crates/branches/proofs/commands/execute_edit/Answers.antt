@@ -1,4 +1,4 @@
-use Rattle.branches.proofs.BranchSessions.{edited_keeps_base}
+use Rattle.branches.proofs.KeptBase.{edited_keeps_base}
 use Rattle.branches.proofs.commands.execute_edit.Goals as goal
 
 pub returns-in-Ok-clause-base : goal.returns-in-Ok-clause-base

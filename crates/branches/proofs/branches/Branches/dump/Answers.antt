@@ -1,7 +1,7 @@
 use Rattle.std.proofs.Common.{◌≡◌, ◌∙◌, IfOk, subst}
 use Rattle.lsdb.specs.Text.{text}
 use Rattle.edit_history.specs.Session.{Session, state}
-use Rattle.branches.proofs.BranchSessions.{session_of_named, session_of_unnamed}
+use Rattle.branches.proofs.PlannersByNumber.{session_of_named, session_of_unnamed}
 use Rattle.branches.proofs.branches.Branches.dump.Goals as goal
 
 pub returns-in-Some-clause-dump : goal.returns-in-Some-clause-dump

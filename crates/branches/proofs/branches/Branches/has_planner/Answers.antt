@@ -2,7 +2,7 @@ use Rattle.std.proofs.Common.{Bool, ap, sym, ◌∙◌}
 use Rattle.std.specs.Prelude.{◌||◌, is_some}
 use Rattle.std.proofs.lemmas.Bool.{ne_eqb}
 use Rattle.branches.specs.Branches.{Named, has_planner}
-use Rattle.branches.proofs.BranchSessions.{has_by_map, planner_at}
+use Rattle.branches.proofs.PlannersByNumber.{has_by_map, planner_at}
 use Rattle.branches.proofs.branches.Branches.has_planner.Goals as goal
 
 pub returns-else-branch-eq0 : goal.returns-else-branch-eq0

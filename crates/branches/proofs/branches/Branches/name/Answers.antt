@@ -1,6 +1,7 @@
 use Rattle.std.proofs.Common.{◌∙◌, ap, sym, subst}
 use Rattle.branches.specs.Branches.{Named, HaveOneBase, named_by, sessions_by, sessions_of, with_session}
-use Rattle.branches.proofs.BranchSessions.{goes_on_named, inserted, one_base, other_goes_on}
+use Rattle.branches.proofs.BranchSessions.{goes_on_named, one_base, other_goes_on}
+use Rattle.branches.proofs.PlannersByNumber.{inserted}
 use Rattle.branches.proofs.branches.Branches.name.Goals as goal
 
 pub invariant_of-self : goal.invariant_of-self

@@ -1,4 +1,4 @@
-use Rattle.branches.proofs.BranchSessions.{absent, session_of_first, session_of_named}
+use Rattle.branches.proofs.PlannersByNumber.{absent, session_of_first, session_of_named}
 use Rattle.branches.proofs.branches.Branches.planner.Goals as goal
 
 pub returns-then-branch-eq0 : goal.returns-then-branch-eq0

@@ -2,43 +2,32 @@ use Rattle.std.proofs.Common.{◌≡◌, ◌++◌, ◌∙◌, ℕ, ap, sym, subs
 use Rattle.std.specs.Prelude.{OnOk}
 use Rattle.std.specs.BTreeMap.{BTreeMap}
 use Rattle.std.specs.String.{string_bytes}
-use Rattle.lsdb.specs.Lists.{Lists}
-use Rattle.edit_history.specs.Session.{Session, start, state}
-use Rattle.recalculate.specs.Counts.{info_of}
+use Rattle.edit_history.specs.Session.{Session, state}
 use Rattle.recalculate.specs.Planning.{PlannerValue}
-use Rattle.branches.specs.Branches.{Named, named_by, sessions_by, sessions_of}
+use Rattle.branches.specs.Branches.{Named, named_by, sessions_of}
 use Rattle.branches.specs.Replies.{router_text}
-use Rattle.branches.proofs.BranchSessions.{first_base, not_named, session_of_named, still_one_base, the_named, written_same}
+use Rattle.branches.proofs.PlannersByNumber.{first_held, first_stays, not_named, other_held, other_stays, session_of_named}
 use Rattle.branches.proofs.branches.Branches.push_table.Goals as goal
 
 pub invariant_of-self : goal.invariant_of-self
 invariant_of-self g c =
-    let named : Named = named_by c.self.inside.first c.self.inside.others.entries in (
-      first_base named c.push_table_now.new.planner.session (ap (λ (s : Session). s.base) c.push_table_now.ensures.kept) c.self.invariant.0,
-      c.self.invariant.1 ∙ ap (λ (base : Lists). info_of (start base)) (ap (λ (s : Session). s.base) (sym c.push_table_now.ensures.kept)),
-    )
+    first_held c.self.inside.first c.push_table_now.new.planner c.push_table_now.ensures.kept c.self.inside.others.entries c.self.inside.beginning c.self.invariant
 
 pub returns-then-branch-eq0-clause-kept : goal.returns-then-branch-eq0-clause-kept
 returns-then-branch-eq0-clause-kept g c =
-    ap (λ (s : Session). sessions_of (the_named s (sessions_by c.self.inside.others.entries))) c.push_table_now.ensures.kept
-    ∙ ap sessions_of c.self.view_is
+    first_stays c.self.inside.first c.push_table_now.new.planner c.push_table_now.ensures.kept c.self.inside.others.entries _ c.self.view_is
 
 pub invariant_of-self-in-Some : goal.invariant_of-self-in-Some
 invariant_of-self-in-Some g c =
-    let w = c.push_table_now-in-Some.new.planner in (
-      still_one_base c.self.inside.first c.self.inside.others (c.get_mut.follows.lender w) c.args.branch c.in-Some.planner.now w c.in-Some.ensures.value
-          (c.get_mut.follows.holds w) (ap (λ (s : Session). s.base) c.push_table_now-in-Some.ensures.kept) c.self.invariant.0,
-      c.self.invariant.1,
-    )
+    let w = c.push_table_now-in-Some.new.planner in
+    other_held c.in-Some.planner.now w c.push_table_now-in-Some.ensures.kept c.self.inside.first c.self.inside.others (c.get_mut.follows.lender w) c.args.branch
+    c.self.inside.beginning c.in-Some.ensures.value (c.get_mut.follows.holds w) c.self.invariant
 
 pub returns-in-Some-clause-kept : goal.returns-in-Some-clause-kept
 returns-in-Some-clause-kept g c =
-    let old = c.self.inside.others in
-    ap (λ es. sessions_of (the_named c.self.inside.first.session es))
-    (written_same old (c.get_mut.follows.lender c.push_table_now-in-Some.new.planner) c.args.branch c.in-Some.planner.now
-    c.push_table_now-in-Some.new.planner c.in-Some.ensures.value
-    (c.get_mut.follows.holds c.push_table_now-in-Some.new.planner) c.push_table_now-in-Some.ensures.kept)
-    ∙ ap sessions_of c.self.view_is
+    let w = c.push_table_now-in-Some.new.planner in
+    other_stays c.in-Some.planner.now w c.push_table_now-in-Some.ensures.kept c.self.inside.first c.self.inside.others (c.get_mut.follows.lender w) c.args.branch _
+    c.self.view_is c.in-Some.ensures.value (c.get_mut.follows.holds w)
 
 pub returns-in-Some-clause-text : goal.returns-in-Some-clause-text
 returns-in-Some-clause-text g c =

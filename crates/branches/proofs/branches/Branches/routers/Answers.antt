@@ -5,7 +5,7 @@ use Rattle.edit_history.specs.Session.{Session, state}
 use Rattle.routing_table.specs.Routers.{attached_routers}
 use Rattle.branches.specs.Branches.{sessions_of}
 use Rattle.branches.proofs.AllTables.{found_parts}
-use Rattle.branches.proofs.BranchSessions.{session_of_first, session_of_named, session_of_unnamed}
+use Rattle.branches.proofs.PlannersByNumber.{session_of_first, session_of_named, session_of_unnamed}
 use Rattle.branches.proofs.branches.Branches.routers.Goals as goal
 
 -- branch 0

@@ -2,22 +2,17 @@ use Rattle.std.proofs.Common.{◌≡◌, ◌∙◌, ℕ, IfOk, ap, false, sym, s
 use Rattle.std.specs.Prelude.{OnOk}
 use Rattle.std.specs.BTreeMap.{BTreeMap}
 use Rattle.std.proofs.lemmas.Bool.{ne_eqb}
-use Rattle.lsdb.specs.Lists.{Lists}
-use Rattle.edit_history.specs.Session.{Session, start}
-use Rattle.recalculate.specs.Counts.{info_of}
+use Rattle.edit_history.specs.Session.{Session}
 use Rattle.recalculate.specs.Planning.{PlannerValue}
 use Rattle.branches.specs.Branches.{Named, Steps, named_by, sessions_by, sessions_of, stepped}
 use Rattle.branches.specs.Replies.{reply_to, said_by}
-use Rattle.branches.proofs.BranchSessions.{the_named, first_goes_on, first_base, not_named, session_of_first, session_of_named, still_one_base}
-use Rattle.branches.proofs.BranchSessions.{written_on, written_same, on_ok, on_err}
+use Rattle.branches.proofs.BranchSessions.{the_named, first_goes_on, on_ok, on_err}
+use Rattle.branches.proofs.PlannersByNumber.{first_holds, not_named, other_holds, session_of_first, session_of_named, written_on, written_same}
 use Rattle.branches.proofs.branches.Branches.step.Goals as goal
 
 pub invariant_of-self : goal.invariant_of-self
 invariant_of-self g c =
-    let named : Named = named_by c.self.inside.first c.self.inside.others.entries in (
-      first_base named c.execute.new.planner.session c.execute.ensures.base c.self.invariant.0,
-      c.self.invariant.1 ∙ ap (λ (base : Lists). info_of (start base)) (sym c.execute.ensures.base),
-    )
+    first_holds c.self.inside.first c.execute.new.planner c.self.inside.others.entries c.self.inside.beginning c.execute.ensures.base c.self.invariant
 
 pub returns-then-branch-eq0-clause-step : goal.returns-then-branch-eq0-clause-step
 returns-then-branch-eq0-clause-step g c =
@@ -36,11 +31,9 @@ returns-then-branch-eq0-clause-step g c =
 
 pub invariant_of-self-in-Some : goal.invariant_of-self-in-Some
 invariant_of-self-in-Some g c =
-    let w = c.execute-in-Some.new.planner in (
-      still_one_base c.self.inside.first c.self.inside.others (c.get_mut.follows.lender w) c.args.branch c.in-Some.planner.now w c.in-Some.ensures.value
-          (c.get_mut.follows.holds w) c.execute-in-Some.ensures.base c.self.invariant.0,
-      c.self.invariant.1,
-    )
+    let w = c.execute-in-Some.new.planner in
+    other_holds c.self.inside.first c.self.inside.others (c.get_mut.follows.lender w) c.args.branch c.in-Some.planner.now w c.self.inside.beginning
+    c.in-Some.ensures.value (c.get_mut.follows.holds w) c.execute-in-Some.ensures.base c.self.invariant
 
 pub returns-in-Some-clause-step : goal.returns-in-Some-clause-step
 returns-in-Some-clause-step g c =

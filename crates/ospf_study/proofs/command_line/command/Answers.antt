@@ -1,0 +1,11 @@
+use Rattle.host_arguments.proofs.MatchLemmas.{added, added_if_ok}
+use Rattle.ospf_study.proofs.command_line.command.Goals as goal
+
+pub returns : goal.returns
+returns c =
+    let dump = added _ _ _ _ _ c.in_ok-arg.ensures c.in_ok-named_command.ensures c.dump_option.ensures.rule c.dump_option.ensures.local in
+    let baseline = added _ _ _ _ _ c.in_ok-arg-2.ensures dump c.file_option.ensures.rule c.file_option.ensures.local in
+    let names = added _ _ _ _ _ c.in_ok-arg-3.ensures baseline c.file_option-2.ensures.rule c.file_option-2.ensures.local in
+    let keep_going = added _ _ _ _ _ c.in_ok-arg-4.ensures names c.flag_option.ensures.rule c.flag_option.ensures.local in
+    let out = added _ _ _ _ _ c.in_ok-arg-5.ensures keep_going c.file_option-3.ensures.rule c.file_option-3.ensures.local in
+    added_if_ok _ _ _ _ _ c.arg-6.ensures out c.study_words.ensures.rule c.study_words.ensures.local
