@@ -1,6 +1,6 @@
 //! The links that ways lead over, and the interfaces at their other ends.
 
-ghost use Rattle.std.specs.Prelude.{◌≡◌, ◌++◌, ℕ, List, filter, IfOk, OnOk};
+ghost use Rattle.std.specs.Prelude.{◌≡◌, filter, IfOk};
 ghost use Rattle.std.specs.List.{flat_map};
 ghost use Rattle.area_graph.specs.Area.{used};
 ghost use Rattle.lsdb.specs.Slots.{lists_of};

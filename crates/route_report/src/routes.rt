@@ -15,6 +15,20 @@ use router_entries::Entries;
 use spf::Meter;
 use std::alloc::{AllocError, Allocator};
 
+/// A line as a list, if there is one.
+fn listed<A: Allocator + Copy>(
+    alloc: A,
+    line: Option<RouteLine<A>>,
+) -> Result<Vec<RouteLine<A>, A>, AllocError>
+    ensures { IfOk result (λ lines. lines.items ≡ cons_option line []) }
+{
+    let mut lines = Vec::new(alloc);
+    if let Some(line) = line {
+        lines.push(line)?;
+    }
+    Ok(lines)
+}
+
 /// What a router uses for each of some prefixes for which it has entries.
 fn lines_for<A: Allocator + Copy>(
     alloc: A,
@@ -28,9 +42,9 @@ fn lines_for<A: Allocator + Copy>(
 {
     let mut lines = Vec::new(alloc);
     for net in nets {
-        if let Some(line) = route_line(alloc, database, graphs, routes, *net)? {
-            lines.push(line)?;
-        }
+        let line = route_line(alloc, database, graphs, routes, *net)?;
+        let mut found = listed(alloc, line)?;
+        lines.append(&mut found)?;
     }
     Ok(lines)
 }
@@ -47,19 +61,6 @@ fn all_lines<A: Allocator + Copy>(
 {
     let nets = Entries::of(routes).nets_in_order(alloc)?;
     lines_for(alloc, database, graphs, routes, &nets)
-}
-
-/// A line as a list, if there is one.
-fn listed<A: Allocator + Copy>(
-    alloc: A,
-    line: Option<RouteLine<A>>,
-) -> Result<Vec<RouteLine<A>, A>, AllocError>
-    ensures { IfOk result (λ lines. lines.items ≡ cons_option line []) }
-{
-    match line {
-        Some(line) => Ok(Vec::from_array(alloc, [line])?),
-        None => Ok(Vec::new(alloc)),
-    }
 }
 
 /// What a router uses for an address, as a list: its entry for the longest prefix that covers the
