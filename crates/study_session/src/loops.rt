@@ -9,14 +9,15 @@ ghost use Rattle.study_session.specs.LoopAnswers.{IsLoopsAnswer, loops_reply, mi
 ghost use Rattle.study_session.specs.steps.Microloops.{AreMicroloops, microloops_by};
 
 use crate::answer::Answer;
+use crate::listing::push_counted;
 use crate::text::{head, push_number_after};
 use branches::Branches;
-use loop_report::{LoopReport, PrefixLoop, joint_loops, push_blackhole_lines, push_loop_lines};
+use loop_report::{LoopReport, PrefixLoop, joint_loops};
 use lsdb::Database;
 use network_names::Names;
 use spf::Meter;
 use std::alloc::{AllocError, Allocator};
-use study_text::push_word;
+use study_text::{push_lines, push_word};
 use study_words::SeeWord;
 
 /// The text of `loops`.
@@ -37,8 +38,8 @@ fn loops_reply<A: Allocator + Copy>(
     push_word(&mut text, " blackholes")?;
     push_number_after(&mut text, holes.len() as u64)?;
     push_word(&mut text, "\n")?;
-    push_loop_lines(&mut text, names, loops)?;
-    push_blackhole_lines(&mut text, names, holes)?;
+    push_lines(&mut text, names, loops)?;
+    push_lines(&mut text, names, holes)?;
     Ok(text)
 }
 
@@ -71,9 +72,7 @@ fn microloops_reply<A: Allocator + Copy>(
 {
     let mut text = head(alloc, branch, SeeWord::Microloops)?;
     push_number_after(&mut text, u64::from(count))?;
-    push_number_after(&mut text, loops.len() as u64)?;
-    push_word(&mut text, "\n")?;
-    push_loop_lines(&mut text, names, loops)?;
+    push_counted(&mut text, names, loops)?;
     Ok(text)
 }
 
