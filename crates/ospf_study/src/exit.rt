@@ -1,6 +1,6 @@
 //! How the program ends after a fault: its status, and the line on standard error.
 
-ghost use Rattle.std.specs.Prelude.{◌≡◌, IfOk};
+ghost use Rattle.std.specs.Prelude.{◌≡◌, IfOk, string_bytes};
 ghost use Rattle.ospf_study.specs.Exit.{dump_status, dump_text, exit_status, exit_text, names_text, open_text, run_status, run_text};
 
 use crate::fault::{ExitFault, FileArg};
@@ -40,14 +40,20 @@ fn status_of(fault: &ExitFault<'_>) -> u8
     }
 }
 
-/// The line of a refused dump or baseline.
+/// The text of the line of a refused dump or baseline.
+fn dump_text(alloc: Global, what: &str, fault: DumpFault) -> Result<String, AllocError>
+    ensures { IfOk result (λ line. string_bytes line ≡ dump_text what.now fault) }
+{
+    match fault.kind {
+        DumpFaultKind::OutOfMemory => String::from_str(alloc, "memory: OutOfMemory\n"),
+        _ => format!(in alloc; "{what}: {fault}\n"),
+    }
+}
+
 fn dump_line(alloc: Global, what: &str, fault: DumpFault) -> Result<Vec<u8>, AllocError>
     ensures { IfOk result (λ line. line.items ≡ dump_text what.now fault) }
 {
-    let line = match fault.kind {
-        DumpFaultKind::OutOfMemory => String::from_str(alloc, "memory: OutOfMemory\n"),
-        _ => format!(in alloc; "{what}: {fault}\n"),
-    }?;
+    let line = dump_text(alloc, what, fault)?;
     Vec::from_slice(alloc, line.as_bytes())
 }
 
