@@ -1,5 +1,5 @@
 -- The search for an address of an atom: from each address that a longer prefix covers to the end of that prefix.
-use Rattle.std.proofs.Common.{◌≡◌, ◌^◌, ◌<◌, ◌≤◌, true, List, sym, ap, ◌∙◌, arith, ⊎_elim}
+use Rattle.std.proofs.Common.{◌≡◌, ◌^◌, ◌<◌, ◌≤◌, List, sym, ap, ◌∙◌, arith, ⊎_elim}
 use Rattle.std.proofs.lemmas.Bool.{cases_lt, false≢true}
 use Rattle.lsa_codec.specs.Prefix.{IsNet, Net, masked}
 use Rattle.lsa_codec.specs.declared.address.Addr.{Addr}
