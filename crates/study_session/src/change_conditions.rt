@@ -1,15 +1,16 @@
 //! Conditions about what differs from the baseline.
 
-ghost use Rattle.std.specs.Prelude.{◌≡◌, IfOk, codes};
+ghost use Rattle.std.specs.Prelude.{◌≡◌, IfOk};
 ghost use Rattle.network_names.specs.Names.{called};
 ghost use Rattle.lsdb.specs.Slots.{lists_of};
-ghost use Rattle.comparison.specs.Named.{gone as gone_pairs, lost as lost_pairs};
 ghost use Rattle.study_script.specs.Expected.{pairs_allowed};
 ghost use Rattle.study_session.specs.ChangeVerdicts.{changes_verdict, few_verdict, pairs_verdict, same_verdict};
 ghost use Rattle.study_session.specs.ChangeAnswers.{beside};
+ghost use Rattle.study_session.specs.steps.Missing.{missing_pairs, missing_text};
 ghost use Rattle.study_session.specs.steps.Verdicts.{verdict_of};
 
 use crate::known::is_known;
+use crate::missing::Missing;
 use crate::verdict::Verdict;
 use change_lines::{Changes, Pair, push_changes_found};
 use change_report::{are_allowed, are_few, push_found};
@@ -22,7 +23,7 @@ use std::alloc::{AllocError, Allocator};
 use study_script::Allowed;
 
 /// What is found of pairs that are lost or gone.
-fn pairs<A: Allocator + Copy>(
+fn found_pairs<A: Allocator + Copy>(
     alloc: A,
     names: &Names<'_, A>,
     word: &str,
@@ -38,36 +39,22 @@ fn pairs<A: Allocator + Copy>(
     Ok(Verdict::Found { holds, text })
 }
 
-/// `lost`: what is found of it.
-pub(crate) fn lost<A: Allocator + Copy>(
+/// `lost` or `gone`: what is found of it.
+pub(crate) fn pairs<A: Allocator + Copy>(
     alloc: A,
     names: &Names<'_, A>,
     baseline: &Database<A>,
     database: &Database<A>,
+    which: Missing,
     allowed: &Allowed<A>,
 ) -> Result<Verdict<A>, AllocError>
     ensures { IfOk result (λ verdict. verdict_of verdict
-        ≡ pairs_verdict (called names.now) (codes "lost") (pairs_allowed allowed.now)
-        (lost_pairs (beside (lists_of baseline.now) (lists_of database.now)))) }
+        ≡ pairs_verdict (called names.now) (missing_text which) (pairs_allowed allowed.now)
+        (missing_pairs which (beside (lists_of baseline.now) (lists_of database.now)))) }
 {
     let both = Comparison::of(alloc, baseline, database, &mut Meter::new())?;
-    pairs(alloc, names, "lost", allowed, &both.lost(alloc)?)
-}
-
-/// `gone`: what is found of it.
-pub(crate) fn gone<A: Allocator + Copy>(
-    alloc: A,
-    names: &Names<'_, A>,
-    baseline: &Database<A>,
-    database: &Database<A>,
-    allowed: &Allowed<A>,
-) -> Result<Verdict<A>, AllocError>
-    ensures { IfOk result (λ verdict. verdict_of verdict
-        ≡ pairs_verdict (called names.now) (codes "gone") (pairs_allowed allowed.now)
-        (gone_pairs (beside (lists_of baseline.now) (lists_of database.now)))) }
-{
-    let both = Comparison::of(alloc, baseline, database, &mut Meter::new())?;
-    pairs(alloc, names, "gone", allowed, &both.gone(alloc)?)
+    let found = which.pairs(alloc, &both)?;
+    found_pairs(alloc, names, which.text(), allowed, &found)
 }
 
 /// What is found of changes.
