@@ -2,8 +2,8 @@
 //! studies show them (RFC 2328, 12.4.1 and 12.4.2).
 //!
 //! Each has its values, [`RouterLine`], [`LinkLine`] and [`NetworkLine`], whose lines
-//! [`push_lines`](study_text::push_lines) adds. [`link_line_at`] describes one link of a router-LSA of any age, and [`link_numbers`]
-//! finds the links that a word of an edit names.
+//! [`push_lines`](study_text::push_lines) adds. [`link_line_at`] describes one link of a router-LSA
+//! of any age, and [`link_numbers`] finds the links that a word of an edit names.
 #![tactic(auto)]
 
 // What the values are made from.

@@ -1,5 +1,5 @@
-//! The line of a network, as `10.2.0.0/24 area 0.0.0.1 dr r5 10.2.0.5 members r5 one-way r6,r7`: the
-//! prefix, the area, the Designated Router with its address, and the routers that are listed.
+//! The line of a network, as `10.2.0.0/24 area 0.0.0.1 dr r5 10.2.0.5 members r5 one-way r6,r7`:
+//! the prefix, the area, the Designated Router with its address, and the routers that are listed.
 
 ghost use Rattle.std.specs.Prelude.{◌≡◌, ◌++◌, OnOk};
 ghost use Rattle.network_names.specs.Names.{called};

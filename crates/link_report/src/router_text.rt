@@ -1,6 +1,6 @@
-//! The line of a router, as `1.1.1.1 r1 areas 0.0.0.0,0.0.0.1 roles abr,asbr links 2 transit 1 stubs
-//! 3`: its Router ID, its name, its areas, its roles, and how many links there are of types 1, 2 and
-//! 3; a dash stands for what the router does not have.
+//! The line of a router, as `1.1.1.1 r1 areas 0.0.0.0,0.0.0.1 roles abr,asbr links 2 transit 1
+//! stubs 3`: its Router ID, its name, its areas, its roles, and how many links there are of types
+//! 1, 2 and 3; a dash stands for what the router does not have.
 
 ghost use Rattle.std.specs.Prelude.{◌≡◌, ◌++◌, OnOk};
 ghost use Rattle.network_names.specs.Names.{called};

@@ -4,8 +4,9 @@ ghost use Rattle.std.specs.Prelude.{◌≡◌, IfOk};
 ghost use Rattle.network_names.specs.Names.{called};
 ghost use Rattle.lsdb.specs.Slots.{lists_of};
 ghost use Rattle.study_script.specs.Expected.{pairs_allowed};
-ghost use Rattle.study_session.specs.ChangeVerdicts.{changes_verdict, few_verdict, pairs_verdict, same_verdict};
+ghost use Rattle.study_session.specs.ChangeVerdicts.{changes_beside, changes_verdict, few_verdict, is_known_if_named, pairs_verdict, same_verdict};
 ghost use Rattle.study_session.specs.ChangeAnswers.{beside};
+ghost use Rattle.study_session.specs.Verdicts.{is_none};
 ghost use Rattle.study_session.specs.steps.Missing.{missing_pairs, missing_text};
 ghost use Rattle.study_session.specs.steps.Verdicts.{verdict_of};
 
@@ -72,6 +73,47 @@ fn changes<A: Allocator + Copy>(
     Ok(Verdict::Found { holds, text })
 }
 
+/// Whether a router, if one is named, is attached in a database or in the baseline.
+fn is_known_if_named<A: Allocator + Copy>(
+    alloc: A,
+    baseline: &Database<A>,
+    database: &Database<A>,
+    router: Option<RouterId>,
+) -> Result<bool, AllocError>
+    ensures { IfOk result (λ known. known
+        ≡ is_known_if_named (lists_of baseline.now) (lists_of database.now) router) }
+{
+    match router {
+        Some(router) => is_known(alloc, baseline, database, router),
+        None => Ok(true),
+    }
+}
+
+/// What differs, for a router or for all.
+#[tactic(auto, unfolding(crate::specs::ChangeVerdicts::changes_beside))]
+fn changes_beside<A: Allocator + Copy>(
+    alloc: A,
+    baseline: &Database<A>,
+    database: &Database<A>,
+    router: Option<RouterId>,
+) -> Result<Changes<A>, AllocError>
+    ensures { IfOk result (λ found. found
+        ≡ changes_beside (lists_of baseline.now) (lists_of database.now) router) }
+{
+    let both = Comparison::of(alloc, baseline, database, &mut Meter::new())?;
+    match router {
+        Some(router) => both.changes_of(alloc, router),
+        None => both.changes(alloc),
+    }
+}
+
+/// Whether nothing differs.
+fn are_none<A: Allocator + Copy>(changes: &Changes<A>) -> bool
+    ensures { result ≡ is_none changes.now.names }
+{
+    changes.names.is_empty()
+}
+
 /// `same`: what is found of it.
 pub(crate) fn same<A: Allocator + Copy>(
     alloc: A,
@@ -83,17 +125,11 @@ pub(crate) fn same<A: Allocator + Copy>(
     ensures { IfOk result (λ verdict. verdict_of verdict ≡ same_verdict (called names.now)
         (lists_of baseline.now) (lists_of database.now) router) }
 {
-    if let Some(one) = router {
-        if !is_known(alloc, baseline, database, one)? {
-            return Ok(Verdict::NoRouter);
-        }
-        let both = Comparison::of(alloc, baseline, database, &mut Meter::new())?;
-        let found = both.changes_of(alloc, one)?;
-        return changes(alloc, names, found.names.is_empty(), &found);
+    if !is_known_if_named(alloc, baseline, database, router)? {
+        return Ok(Verdict::NoRouter);
     }
-    let both = Comparison::of(alloc, baseline, database, &mut Meter::new())?;
-    let found = both.changes(alloc)?;
-    changes(alloc, names, found.names.is_empty(), &found)
+    let found = changes_beside(alloc, baseline, database, router)?;
+    changes(alloc, names, are_none(&found), &found)
 }
 
 /// `changes`: what is found of it.
@@ -107,7 +143,6 @@ pub(crate) fn few<A: Allocator + Copy>(
     ensures { IfOk result (λ verdict. verdict_of verdict ≡ few_verdict (called names.now)
         (lists_of baseline.now) (lists_of database.now) most) }
 {
-    let both = Comparison::of(alloc, baseline, database, &mut Meter::new())?;
-    let found = both.changes(alloc)?;
+    let found = changes_beside(alloc, baseline, database, None)?;
     changes(alloc, names, are_few(most, &found), &found)
 }
