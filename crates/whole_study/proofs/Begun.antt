@@ -1,5 +1,5 @@
 -- A study that has begun, and its inputs, which are accepted.
-use Rattle.std.proofs.Common.{◌≡◌, ◌∙◌, ap, sym, subst, refl, ℕ, List, Option, None, Some, Result, Ok}
+use Rattle.std.proofs.Common.{◌≡◌, ◌∙◌, ap, sym, subst, refl, ℕ, List, Option, None, Some, Result, Ok, Err, IfErr, IsErrAnd, inl}
 use Rattle.std.specs.Prelude.{IsOk, IfSome}
 use Rattle.lsdb.specs.Lists.{Lists}
 use Rattle.lsdb.specs.Slots.{Slots, lists_of}
@@ -13,7 +13,7 @@ use Rattle.whole_run.specs.Inputs.{IsAccepted}
 use Rattle.whole_study.specs.Begin.{AreAccepted, Begins, IsBaseline, names_of}
 use Rattle.whole_study.specs.Calls.{MayEndRun}
 use Rattle.whole_study.specs.Given.{Given}
-use Rattle.whole_study.specs.steps.Texts.{IsNamesEnd}
+use Rattle.whole_study.specs.steps.Texts.{IsNamesEnd, IsReadEnd, IsRefusedBaseline, Never}
 use Rattle.whole_study.specs.declared.fault.RunFault.{RunFault}
 use Rattle.whole_study.specs.declared.fault.RunFault.TheVariants.{Dump, Baseline, Names, Read, Write, TooLarge, OutOfMemory}
 
@@ -49,6 +49,24 @@ accepted_of given s begins = record {
   baseline = baseline_accepted begins.session given.baseline s.baseline begins.baseline;
   names = ok_of (names_in (names_of given)) begins.named begins.names;
 }
+
+-- ---- inputs that are refused
+
+-- `?` passes an error up as it is
+pub passed_up : {T E : Type 0} (r : Result T E) (e : E) (P : E → Type 0) → IsErrAnd r (λ y. y ≡ e) → P e → IfErr r P
+passed_up (Ok x) e P is holds = tt
+passed_up (Err y) e P is holds = subst P (sym is) holds
+
+-- the baseline is refused, where the dump is accepted
+pub baseline_refused : {A : Type 0} (given : Given) (fault : RunFault A) → IsAccepted given.dump
+    → IsReadEnd Never (IsRefusedBaseline given.baseline) ⊥ fault → MayEndRun given fault
+baseline_refused given (Dump fault) dump end = absurd end
+baseline_refused given (Baseline fault) dump (some, refused) = (some, (refused, inl dump))
+baseline_refused given (Names refusal) dump end = absurd end
+baseline_refused given Read dump end = tt
+baseline_refused given Write dump end = absurd end
+baseline_refused given TooLarge dump end = absurd end
+baseline_refused given OutOfMemory dump end = tt
 
 -- the names file is refused, where the dump and the baseline are accepted
 pub names_refused : {A : Type 0} (given : Given) (file : List ℕ) (fault : RunFault A) → file ≡ names_of given → IsAccepted given.dump

@@ -1,6 +1,6 @@
 //! The session of a run, opened from its inputs.
 
-ghost use Rattle.std.specs.Prelude.{◌≡◌, Err, IfErr, IfOk, Ok, Some, [], is_some, true, unwrap_or};
+ghost use Rattle.std.specs.Prelude.{◌≡◌, IfErr, IfOk, Ok, Some, [], unwrap_or};
 ghost use Rattle.lsdb.specs.Slots.{lists_of};
 ghost use Rattle.edit_history.specs.Session.{Session, state};
 ghost use Rattle.saved_sessions.specs.Opening.{opened};
@@ -9,7 +9,7 @@ ghost use Rattle.study_session.specs.Answers.{study_of};
 ghost use Rattle.whole_run.specs.Inputs.{IsRefusedDump};
 ghost use Rattle.whole_study.specs.Begin.{Begins, IsBaseline};
 ghost use Rattle.whole_study.specs.Calls.{MayEndRun};
-ghost use Rattle.whole_study.specs.steps.Texts.{IsNamesEnd, IsReadEnd, MayEndLoading, Never, bytes_in, given_in};
+ghost use Rattle.whole_study.specs.steps.Texts.{IsNamesEnd, IsReadEnd, IsRefusedBaseline, MayEndLoading, Never, bytes_in, given_in};
 
 use crate::fault::{NamesRefusal, RunFault};
 use crate::inputs::Texts;
@@ -25,7 +25,7 @@ use study_session::StudySession;
 fn open_dump<A: Allocator + Copy>(alloc: A, bytes: &[u8]) -> Result<Planner<A>, RunFault<A>>
     ensures opened { IfOk result (λ planner. opened bytes.now ≡ Ok planner.session) }
     ensures end { IfErr result (IsReadEnd (IsRefusedDump (Some bytes.now)) Never ⊥) }
-    ensures read { result ≡ Err RunFault.Read → ⊥ }
+    ensures early { IfErr result MayEndLoading }
 {
     match open(alloc, bytes) {
         Ok(planner) => Ok(planner),
@@ -41,7 +41,7 @@ fn open_baseline<A: Allocator + Copy>(alloc: A, bytes: &[u8]) -> Result<Database
     ensures opened { IfOk result (λ database. (other : Session)
         × ((opened bytes.now ≡ Ok other) × (lists_of database ≡ state other))) }
     ensures end { IfErr result (IsReadEnd Never (IsRefusedDump (Some bytes.now)) ⊥) }
-    ensures read { result ≡ Err RunFault.Read → ⊥ }
+    ensures early { IfErr result MayEndLoading }
 {
     match open(alloc, bytes) {
         Ok(planner) => Ok(planner.database().clone_of()?),
@@ -60,9 +60,9 @@ fn baseline_of<A: Allocator + Copy>(
 ) -> Result<Database<A>, RunFault<A>>
     ensures baseline { IfOk result (λ database.
         IsBaseline planner.old.session (bytes_in baseline.now) (lists_of database)) }
-    ensures end { IfErr result (IsReadEnd Never (λ fault. (is_some baseline.now ≡ true)
-        × IsRefusedDump (bytes_in baseline.now) fault) ⊥) }
-    ensures read { result ≡ Err RunFault.Read → ⊥ }
+    ensures end { IfErr result
+        (IsReadEnd Never (IsRefusedBaseline (bytes_in baseline.now)) ⊥) }
+    ensures early { IfErr result MayEndLoading }
     ensures kept { planner.new ≡ planner.old }
 {
     match baseline {
@@ -78,6 +78,7 @@ fn load_names<'t, A: Allocator + Copy>(
 ) -> Result<Names<'t, A>, RunFault<A>>
     ensures taken { IfOk result (Taken (names_in text.now)) }
     ensures end { IfErr result (IsNamesEnd text.now) }
+    ensures early { IfErr result MayEndLoading }
 {
     match read_names(alloc, text) {
         Ok(names) => Ok(names),

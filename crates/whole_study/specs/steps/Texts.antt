@@ -1,5 +1,5 @@
 -- The inputs of a run as they are read, and how the reading may end.
-use Rattle.std.specs.Prelude.{◌≡◌, ℕ, ◌≤◌, List, length, map, Option, option_map, Some, Err, IfSome, Vec, is_some, vec_len}
+use Rattle.std.specs.Prelude.{◌≡◌, ℕ, ◌≤◌, true, List, length, map, Option, option_map, Some, Err, IfSome, Vec, is_some, vec_len}
 use Rattle.std.specs.List.{AllZip}
 use Rattle.host_io.specs.Watched.{inner_of}
 use Rattle.host_io.specs.declared.watch.Watched.{Watched}
@@ -100,6 +100,10 @@ IsEndOf input.Text known fault = IsReadEnd Never Never (IsLonger known most) fau
 -- one of the studies is too long, where their texts are known
 abbrev pub IsLongIn : {S : Type 0} → (S → Option (List ℕ)) → List (StudyFile S) → Type 0
 IsLongIn remaining files = (studies : List NamedText) → AllZip (HasText remaining) files studies → HasLonger studies
+
+-- a baseline is given, and refused for its first fault
+abbrev pub IsRefusedBaseline : Option (List ℕ) → DumpFault → Type 0
+IsRefusedBaseline known fault = (is_some known ≡ true) × IsRefusedDump known fault
 
 -- a names file is refused for its first fault, or memory ran out
 abbrev pub IsNamesEnd : {A : Type 0} → List ℕ → RunFault A → Type 0
