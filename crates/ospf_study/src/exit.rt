@@ -112,8 +112,8 @@ fn line_of(alloc: Global, fault: &ExitFault<'_>) -> Result<Vec<u8>, AllocError>
 }
 
 /// The exit status and the line for standard error, its line feed included: 3 where the dump, the
-/// baseline or the names file is refused, 4 where a file cannot be opened, read or written or is too
-/// long, 5 for want of memory.
+/// baseline or the names file is refused, 4 where a file cannot be opened, read or written or is
+/// too long, 5 for want of memory.
 ///
 /// An error is want of memory for the line; the status stands all the same.
 pub(crate) fn exit_line(alloc: Global, fault: &ExitFault<'_>) -> (u8, Result<Vec<u8>, AllocError>)

@@ -91,7 +91,8 @@ fn open_inputs<'a>(rt: &HostRuntime, options: &Options<'_>) -> Result<RunFiles<F
 fn standard_input<'a, 'n, H: Files + Input + Alloc>(
     rt: &H,
 ) -> Result<Vec<StudyFile<'n, Either<H::File, H::Reader>>, H::A>, ExitFault<'a>>
-    ensures { IfOk result (λ studies. All (λ study. has_failed study.reader ≡ false) studies.items) }
+    ensures { IfOk result
+        (λ studies. All (λ study. has_failed study.reader ≡ false) studies.items) }
 {
     let mut studies = Vec::new(rt.alloc());
     let reader = Watched::new(Right(rt.reader()));
@@ -105,7 +106,8 @@ fn open_studies<'a, 'n, H: Files + Input + Alloc>(
     rt: &H,
     names: &[&'n str],
 ) -> Result<Vec<StudyFile<'n, Either<H::File, H::Reader>>, H::A>, ExitFault<'a>>
-    ensures { IfOk result (λ studies. All (λ study. has_failed study.reader ≡ false) studies.items) }
+    ensures { IfOk result
+        (λ studies. All (λ study. has_failed study.reader ≡ false) studies.items) }
 {
     let mut studies = Vec::new(rt.alloc());
     'opening: for name in names {
