@@ -1,8 +1,9 @@
 -- The texts of changes.
-use Rattle.std.specs.Prelude.{ℕ, List, [], ◌++◌, map, length, flat_map, Option, None, Some, codes, decimal}
+use Rattle.std.specs.Prelude.{ℕ, List, ◌++◌, map, option_map, length, flat_map, Option, codes, decimal}
 use Rattle.lsa_codec.specs.Prefix.{Net}
+use Rattle.lsa_codec.specs.declared.address.RouterId.{RouterId}
 use Rattle.lsa_codec.specs.Spelling.{prefix_text}
-use Rattle.study_text.specs.Lists.{first_three}
+use Rattle.study_text.specs.Lists.{after_word, first_three}
 use Rattle.study_text.specs.Shown.{Called, shown}
 use Rattle.route_lines.specs.RouteLines.{RouteLineValue}
 use Rattle.route_lines.specs.RouteTexts.{route_text}
@@ -21,19 +22,17 @@ pub record ChangesValue : Type 0 where
   pub names : List ChangeName
   pub unchanged : ℕ
 
--- a prefix after a space, if there is one
-abbrev pub net_after : Option Net → List ℕ
-net_after None = []
-net_after (Some net) = codes " " ++ prefix_text net
+-- a router, and a prefix after a space, if there is one
+abbrev pub at_text : Called → RouterId → Option Net → List ℕ
+at_text called router net = shown called router ++ after_word (codes " ") (option_map prefix_text net)
 
 -- group, router and prefix
 abbrev pub name_text : Called → ChangeName → List ℕ
-name_text called name = group_text name.group ++ codes " " ++ shown called name.router ++ net_after name.net
+name_text called name = group_text name.group ++ codes " " ++ at_text called name.router name.net
 
 -- a route after a word, if there is one
 abbrev pub route_after : Called → List ℕ → Option RouteLineValue → List ℕ
-route_after called word None = []
-route_after called word (Some route) = word ++ route_text called route
+route_after called word route = after_word word (option_map (route_text called) route)
 
 -- the line of a change
 abbrev pub change_text : Called → ChangeLineValue → List ℕ

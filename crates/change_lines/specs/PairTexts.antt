@@ -1,13 +1,12 @@
 -- The texts of routers with prefixes that they have no entry for any more.
-use Rattle.std.specs.Prelude.{ℕ, Bool, ◌==◌, ◌&&◌, not, List, [], ◌∷◌, ◌++◌, map, length, Option, codes}
+use Rattle.std.specs.Prelude.{ℕ, Bool, ◌==◌, ◌&&◌, not, List, [], ◌++◌, map, length, Option, Some, codes}
 use Rattle.std.specs.List.{filter, list_any}
 use Rattle.lsa_codec.specs.Prefix.{Net}
-use Rattle.lsa_codec.specs.Spelling.{prefix_text}
 use Rattle.lsa_codec.specs.declared.address.RouterId.{RouterId}
-use Rattle.study_text.specs.Lists.{first_three, listed}
+use Rattle.study_text.specs.Lists.{first_three, joined_or}
 use Rattle.study_text.specs.Shown.{Called, shown}
 use Rattle.route_lines.specs.RouteLines.{RouteLineValue}
-use Rattle.change_lines.specs.ChangeTexts.{counted, route_after}
+use Rattle.change_lines.specs.ChangeTexts.{at_text, counted, route_after}
 use Rattle.change_lines.specs.declared.pair.Pair.{Pair}
 
 -- a pair, the route that the router had, and the routers that announce the prefix still
@@ -17,12 +16,11 @@ pub record PairLineValue : Type 0 where
   pub announced : List RouterId
 
 abbrev pub pair_text : Called → Pair → List ℕ
-pair_text called pair = shown called pair.router ++ codes " " ++ prefix_text pair.net
+pair_text called pair = at_text called pair.router (Some pair.net)
 
 -- the routers that announce a prefix, if there are any
 abbrev pub announced_text : Called → List RouterId → List ℕ
-announced_text called [] = []
-announced_text called (router ∷ routers) = codes " announced " ++ listed (map (shown called) (router ∷ routers))
+announced_text called routers = joined_or [] (codes " announced ") (codes ",") (map (shown called) routers)
 
 -- the line of a pair
 abbrev pub pair_line : Called → PairLineValue → List ℕ

@@ -1,14 +1,17 @@
 //! What differs, by name.
 
 ghost use Rattle.std.specs.Prelude.{◌≡◌, ◌++◌, OnOk};
-ghost use Rattle.change_lines.specs.ChangeTexts.{net_after};
+ghost use Rattle.std.specs.Option.{option_copied};
+ghost use Rattle.network_names.specs.Names.{called};
+ghost use Rattle.change_lines.specs.ChangeTexts.{at_text};
 ghost use Rattle.change_lines.specs.Groups.{is_of};
 
 use crate::group::ChangeGroup;
 use lsa_codec::{Prefix, RouterId};
 use network_names::Names;
 use std::alloc::{AllocError, Allocator};
-use study_text::{Shown, push_prefix, push_router};
+use study_text::{Shown, push_after, push_router, push_word};
+use study_words::Word;
 
 /// What differs, by name.
 #[derive(Clone, Copy, Debug, PartialEq, Eq)]
@@ -30,18 +33,18 @@ impl ChangeName {
     }
 }
 
-/// Adds a prefix after a space, if there is one.
-fn push_net_after<A: Allocator + Copy>(
+/// Adds a router, and a prefix after a space, if there is one.
+pub(crate) fn push_at<A: Allocator + Copy>(
     text: &mut Vec<u8, A>,
-    net: Option<Prefix>,
+    names: &Names<'_, A>,
+    router: RouterId,
+    net: Option<&Prefix>,
 ) -> Result<(), AllocError>
-    ensures { OnOk result (text.new.items ≡ text.old.items ++ net_after net) }
+    ensures { OnOk result (text.new.items
+        ≡ text.old.items ++ at_text (called names.now) router (option_copied net.entry)) }
 {
-    let Some(net) = net else {
-        return Ok(());
-    };
-    text.extend_from_slice(b" ")?;
-    push_prefix(text, net)
+    push_router(text, names, router)?;
+    push_after(text, names, " ", net)
 }
 
 impl Shown for ChangeName {
@@ -54,9 +57,8 @@ impl Shown for ChangeName {
         text: &mut Vec<u8, A>,
         names: &Names<'_, A>,
     ) -> Result<(), AllocError> {
-        text.extend_from_slice(self.group.text().as_bytes())?;
-        text.extend_from_slice(b" ")?;
-        push_router(text, names, self.router)?;
-        push_net_after(text, self.net)
+        push_word(text, self.group.text())?;
+        push_word(text, " ")?;
+        push_at(text, names, self.router, self.net.as_ref())
     }
 }

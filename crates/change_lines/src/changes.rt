@@ -8,7 +8,8 @@ use crate::change_name::ChangeName;
 use crate::group::ChangeGroup;
 use std::alloc::{AllocError, Allocator, Global};
 use std::marker::Model;
-use study_text::push_number;
+use study_text::{push_number_after, push_word};
+use study_words::Word;
 
 /// What differs from a baseline, by group, then by router and prefix.
 #[derive(Drop)]
@@ -91,10 +92,9 @@ fn push_count<A: Allocator + Copy>(
 ) -> Result<(), AllocError>
     ensures { OnOk result (text.new.items ≡ text.old.items ++ group_count names.now group) }
 {
-    text.extend_from_slice(b" ")?;
-    text.extend_from_slice(group.text().as_bytes())?;
-    text.extend_from_slice(b" ")?;
-    push_number(text, count_of(names, group) as u64)
+    push_word(text, " ")?;
+    push_word(text, group.text())?;
+    push_number_after(text, " ", count_of(names, group) as u64)
 }
 
 /// Adds the number of changes of each of some groups.
@@ -124,8 +124,7 @@ fn push_all_counts<A: Allocator + Copy>(
         (text.new.items ≡ text.old.items ++ counts_of names.now groups.now unchanged) }
 {
     push_group_counts(text, names, groups)?;
-    text.extend_from_slice(b" unchanged ")?;
-    push_number(text, unchanged)
+    push_number_after(text, " unchanged ", unchanged)
 }
 
 /// Adds the number of changes of each group, and that of prefixes without one, as

@@ -10,7 +10,7 @@ use crate::pair::Pair;
 use lsa_codec::Prefix;
 use network_names::Names;
 use std::alloc::{AllocError, Allocator};
-use study_text::{push_first_three, push_number};
+use study_text::{push_first_three, push_number_after, push_word};
 
 /// Adds a word, a space and a number.
 #[tactic(auto, unfolding(crate::specs::ChangeTexts::counted))]
@@ -21,9 +21,8 @@ fn push_counted<A: Allocator + Copy>(
 ) -> Result<(), AllocError>
     ensures { OnOk result (text.new.items ≡ text.old.items ++ counted word.now count) }
 {
-    text.extend_from_slice(word.as_bytes())?;
-    text.extend_from_slice(b" ")?;
-    push_number(text, count as u64)
+    push_word(text, word)?;
+    push_number_after(text, " ", count as u64)
 }
 
 /// Adds the number of changes, and the first of them, as `changes 1: moved r1 10.0.0.0/24`.

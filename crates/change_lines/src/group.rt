@@ -1,7 +1,9 @@
 //! The groups of changes.
 
 ghost use Rattle.std.specs.Prelude.{◌≡◌};
-ghost use Rattle.change_lines.specs.Groups.{change_groups, group_text, place_of};
+ghost use Rattle.change_lines.specs.Groups.{place_of};
+
+use study_words::Word;
 
 /// A group of changes, as `changes` shows them.
 #[derive(Clone, Copy, Debug, PartialEq, Eq)]
@@ -26,55 +28,64 @@ pub enum ChangeGroup {
     Moved,
 }
 
-impl ChangeGroup {
-    /// All groups, in the order of a reply.
-    pub fn all() -> &'static [ChangeGroup]
-        ensures { result.now ≡ change_groups }
-    {
-        &[
-            ChangeGroup::RouterGone,
-            ChangeGroup::RouterNew,
-            ChangeGroup::Lost,
-            ChangeGroup::Gone,
-            ChangeGroup::Gained,
-            ChangeGroup::OtherKind,
-            ChangeGroup::Dearer,
-            ChangeGroup::Cheaper,
-            ChangeGroup::Moved,
-        ]
-    }
+/// The groups in the order of a reply, each with its place and its word, handed to a macro.
+macro_rules! change_groups {
+    ($take:ident $($group:tt)?) => {
+        $take!($($group)?
+            RouterGone 0 "router-gone"
+            RouterNew 1 "router-new"
+            Lost 2 "lost"
+            Gone 3 "gone"
+            Gained 4 "gained"
+            OtherKind 5 "type"
+            Dearer 6 "dearer"
+            Cheaper 7 "cheaper"
+            Moved 8 "moved"
+        )
+    };
+}
 
-    /// The word for the group.
-    pub fn text(self) -> &'static str
-        ensures { result.now ≡ group_text self }
-    {
-        match self {
-            ChangeGroup::RouterGone => "router-gone",
-            ChangeGroup::RouterNew => "router-new",
-            ChangeGroup::Lost => "lost",
-            ChangeGroup::Gone => "gone",
-            ChangeGroup::Gained => "gained",
-            ChangeGroup::OtherKind => "type",
-            ChangeGroup::Dearer => "dearer",
-            ChangeGroup::Cheaper => "cheaper",
-            ChangeGroup::Moved => "moved",
+macro_rules! list_of {
+    ($($name:ident $place:literal $text:literal)*) => { &[$(ChangeGroup::$name),*] };
+}
+
+macro_rules! text_of {
+    ($group:tt $($name:ident $place:literal $text:literal)*) => {
+        match $group {
+            $(ChangeGroup::$name => $text),*
         }
-    }
+    };
+}
 
+macro_rules! place_of {
+    ($group:tt $($name:ident $place:literal $text:literal)*) => {
+        match $group {
+            $(ChangeGroup::$name => $place),*
+        }
+    };
+}
+
+impl ChangeGroup {
     /// The place of the group in the order of a reply.
     pub(crate) fn place(self) -> u8
         ensures { result ≡ place_of self }
     {
-        match self {
-            ChangeGroup::RouterGone => 0,
-            ChangeGroup::RouterNew => 1,
-            ChangeGroup::Lost => 2,
-            ChangeGroup::Gone => 3,
-            ChangeGroup::Gained => 4,
-            ChangeGroup::OtherKind => 5,
-            ChangeGroup::Dearer => 6,
-            ChangeGroup::Cheaper => 7,
-            ChangeGroup::Moved => 8,
-        }
+        change_groups!(place_of self)
+    }
+}
+
+impl Word for ChangeGroup {
+    ghost use Rattle.change_lines.specs.Groups.{change_groups, group_text};
+
+    ghost all = { change_groups };
+
+    ghost spelled = { group_text };
+
+    fn all() -> &'static [ChangeGroup] {
+        change_groups!(list_of)
+    }
+
+    fn text(self) -> &'static str {
+        change_groups!(text_of self)
     }
 }

@@ -1,8 +1,8 @@
 //! What differs from a baseline as studies show it: values, and their texts.
 //!
-//! [`Changes`] has what differs by name: its group, its router and its prefix. A [`ChangeLine`] adds
-//! the routes of now and of before, a [`PairLine`] the route that is lost or gone and who announces
-//! its prefix. All are values, whatever databases they are of.
+//! [`Changes`] has what differs by name: its group, its router and its prefix. A [`ChangeLine`]
+//! adds the routes of now and of before, a [`PairLine`] the route that is lost or gone and who
+//! announces its prefix. All are values, whatever databases they are of.
 #![tactic(auto)]
 
 // Changes.

@@ -1,9 +1,10 @@
 //! Pairs of a router and a prefix.
 
+use crate::change_name::push_at;
 use lsa_codec::{Prefix, RouterId};
 use network_names::Names;
 use std::alloc::{AllocError, Allocator};
-use study_text::{Shown, push_prefix, push_router};
+use study_text::Shown;
 
 /// A router, and a prefix that it has no entry for any more.
 #[derive(Clone, Copy, Debug, PartialEq, Eq)]
@@ -24,8 +25,6 @@ impl Shown for Pair {
         text: &mut Vec<u8, A>,
         names: &Names<'_, A>,
     ) -> Result<(), AllocError> {
-        push_router(text, names, self.router)?;
-        text.extend_from_slice(b" ")?;
-        push_prefix(text, self.net)
+        push_at(text, names, self.router, Some(&self.net))
     }
 }

@@ -1,5 +1,5 @@
 -- Loops that keep, add up or join what they find.
-use Rattle.std.proofs.Common.{◌≡◌, ℕ, ◌+◌, ◌<◌, Bool, cond, List, [], ◌∷◌, ◌++◌, length, map, take, get_or, refl, sym, ap, ◌∙◌, arith}
+use Rattle.std.proofs.Common.{◌≡◌, ℕ, ◌+◌, ◌<◌, Bool, cond, List, [], ◌∷◌, ◌++◌, Option, length, map, take, get_or, refl, sym, ap, subst, ◌∙◌, arith}
 use Rattle.std.specs.Prelude.{◌==◌, flat_map}
 use Rattle.std.specs.Cmp.{unsigned_ties}
 use Rattle.std.specs.List.{filter, sum_by}
@@ -11,6 +11,7 @@ use Rattle.std.proofs.lemmas.Grind.{flat_map-append}
 use Rattle.lsa_codec.specs.Order.{router_cmp}
 use Rattle.lsa_codec.specs.declared.address.RouterId.{RouterId}
 use Rattle.lsdb.specs.Lists.{Lists}
+use Rattle.forwarding.specs.Graphs.{ForwardingValue, IsForwardingOf, routers_of, routes_at}
 use Rattle.forwarding.specs.Matches.{RouterValue, router_in}
 use Rattle.area_graph.specs.Rising.{rising}
 use Rattle.best_ways.proofs.RisingLemmas.{rising_append}
@@ -18,6 +19,7 @@ use Rattle.best_ways.specs.Values.{RouteValue}
 use Rattle.next_hops.specs.Hop.{hop_cmp}
 use Rattle.next_hops.specs.declared.hop.Hop.{Hop}
 use Rattle.next_hops.proofs.HopLemmas.{hop_cmp_total, same_hop}
+use Rattle.comparison.specs.Compared.{Compared}
 use Rattle.comparison.specs.Rerouted.{hops_of}
 
 pub equal_routers : (x y : RouterId) → (x.0 == y.0) ≡ eq_by_cmp router_cmp x y
@@ -59,3 +61,14 @@ joined routes i r hops new lt is are more =
 pub ids_are : (db : Lists) (ids : List RouterId) → map (λ (r : RouterValue). r.router) (map (router_in db) ids) ≡ ids
 ids_are db [] = refl
 ids_are db (id ∷ ids) = ap (λ l. id ∷ l) (ids_are db ids)
+
+-- what holds of the routes of a router that are found holds of those in both databases
+pub of_both : (both : Compared) (router : RouterId) (were are : ForwardingValue) (was is : Option RouterValue) (P : Option RouterValue → Option RouterValue → Type 0)
+    → IsForwardingOf both.baseline were → IsForwardingOf both.present are → was ≡ routes_at were.routers router → is ≡ routes_at are.routers router
+    → P was is → P (routes_at (routers_of both.baseline) router) (routes_at (routers_of both.present) router)
+of_both both router were are was is P of_baseline of_present found_was found_is holds =
+    subst (λ (o : Option RouterValue). P (routes_at (routers_of both.baseline) router) o) (found are is of_present.routers found_is)
+    (subst (λ (o : Option RouterValue). P o is) (found were was of_baseline.routers found_was) holds)
+  where
+    found : {all : List RouterValue} (f : ForwardingValue) (routes : Option RouterValue) → f.routers ≡ all → routes ≡ routes_at f.routers router → routes ≡ routes_at all router
+    found f routes same is = is ∙ ap (λ (rs : List RouterValue). routes_at rs router) same

@@ -1,5 +1,5 @@
 -- A database, and another that is its baseline.
-use Rattle.std.specs.Prelude.{◌≡◌, List, map, ◌++◌}
+use Rattle.std.specs.Prelude.{◌≡◌, List, ◌++◌}
 use Rattle.lsa_codec.specs.Order.{router_cmp}
 use Rattle.lsa_codec.specs.declared.address.RouterId.{RouterId}
 use Rattle.lsdb.specs.Lists.{Lists}

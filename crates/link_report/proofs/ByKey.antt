@@ -27,6 +27,10 @@ pub is_router_lsa : (router : RouterId) (lsas : List (List ℕ)) (lsa : List ℕ
 is_router_lsa router lsas lsa found =
     ap (λ (k : Key). k.kind) (same_key_true (key_of lsa) (router_key router) (found_passes (has_key (router_key router)) lsas lsa found))
 
+-- what a slot holds is what was found
+pub held_is : {X : Type 0} (at : Option (Option X)) (found : Option X) (x : X) → at ≡ Some found → at ≡ Some (Some x) → found ≡ Some x
+held_is at found x slot here = cc
+
 -- a router-LSA has a view
 pub viewed_router : (view : Option (List ℕ)) (lsa : List ℕ)
     → MatchOption view (kind_of lsa ≢ router_lsa) (λ v. (v ≡ lsa) × (kind_of lsa ≡ router_lsa) × IsAccepted lsa)

@@ -1,14 +1,15 @@
 -- The lines of `links`, and the descriptions and names of links.
-use Rattle.std.specs.Prelude.{ℕ, if◌then◌else◌, List, [], ◌∷◌, ◌++◌, map, Option, None, Some, codes, decimal}
-use Rattle.std.specs.List.{flat_map}
+use Rattle.std.specs.Prelude.{ℕ, if◌then◌else◌, List, [], ◌++◌, map, option_map, Option, None, Some, codes, decimal}
 use Rattle.lsa_codec.specs.declared.address.Addr.{Addr}
+use Rattle.lsa_codec.specs.declared.address.AreaId.{AreaId}
+use Rattle.lsa_codec.specs.declared.address.RouterId.{RouterId}
 use Rattle.lsa_codec.specs.declared.link.Link.{Link}
 use Rattle.lsa_codec.specs.declared.link.LinkKind.{LinkKind}
 use Rattle.lsa_codec.specs.declared.link.LinkKind.TheVariants.{PointToPoint, Transit, Stub, Virtual, Other}
 use Rattle.lsa_codec.specs.Links.{is_stub, stub_net}
 use Rattle.lsa_codec.specs.Prefix.{Net}
 use Rattle.lsa_codec.specs.Spelling.{address_text, prefix_text}
-use Rattle.study_text.specs.Lists.{joined}
+use Rattle.study_text.specs.Lists.{after_word, joined_or, lines_of}
 use Rattle.study_text.specs.Shown.{Called, shown}
 use Rattle.link_report.specs.declared.link_side.InterfaceStub.{InterfaceStub}
 use Rattle.link_report.specs.Links.{LinkValue, neighbor_of}
@@ -53,24 +54,22 @@ name_text called v = codes "#" ++ decimal v.number ++ codes " " ++ kind_text v.l
 
 -- texts joined by slashes, or `none`
 abbrev pub slashed : List (List ℕ) → List ℕ
-slashed [] = codes "none"
-slashed (text ∷ texts) = joined (codes "/") (text ∷ texts)
-
-abbrev pub costs_text : List ℕ → List ℕ
-costs_text costs = slashed (map decimal costs)
+slashed texts = joined_or (codes "none") [] (codes "/") texts
 
 abbrev pub peers_text : List Addr → List ℕ
 peers_text peers = slashed (map (λ peer. address_text peer.0) peers)
 
 -- the costs back
 abbrev pub back_text : List ℕ → List ℕ
-back_text costs = codes ", back " ++ costs_text costs
+back_text costs = codes ", back " ++ slashed (map decimal costs)
 
--- the stub link of an interface, if there is one
-abbrev pub stub_text : Option InterfaceStub → List ℕ
-stub_text None = []
-stub_text (Some stub) =
-    codes ", stub #" ++ decimal stub.number ++ codes " " ++ net_text (stub_net stub.link) ++ codes " cost " ++ decimal stub.link.metric
+-- the stub link of an interface
+abbrev pub stub_text : InterfaceStub → List ℕ
+stub_text stub = decimal stub.number ++ codes " " ++ net_text (stub_net stub.link) ++ codes " cost " ++ decimal stub.link.metric
+
+-- the same, if there is one
+abbrev pub stub_after : Option InterfaceStub → List ℕ
+stub_after stub = after_word (codes ", stub #") (option_map stub_text stub)
 
 -- the link whose interface has a link as its stub link, if there is one
 abbrev pub owner_text : Option ℕ → List ℕ
@@ -79,7 +78,7 @@ owner_text (Some number) = codes ", of #" ++ decimal number
 
 -- what stands after the cost, by the kind of the link
 abbrev pub rest_by : LinkKind → LinkValue → List ℕ
-rest_by PointToPoint v = back_text v.back ++ codes ", peer " ++ peers_text v.peers ++ stub_text v.stub
+rest_by PointToPoint v = back_text v.back ++ codes ", peer " ++ peers_text v.peers ++ stub_after v.stub
 rest_by Transit v = back_text v.back ++ codes ", network " ++ net_text v.net
 rest_by Stub v = owner_text v.owner
 rest_by Virtual v = []
@@ -95,12 +94,12 @@ description called v = name_text called v ++ codes ", cost " ++ decimal v.link.m
 -- ---- lines
 
 -- the router and the area
-abbrev pub place_text : Called → LinkValue → List ℕ
-place_text called v = shown called v.router ++ codes " area " ++ address_text v.area.0 ++ codes " "
+abbrev pub place_text : Called → RouterId → AreaId → List ℕ
+place_text called router area = shown called router ++ codes " area " ++ address_text area.0 ++ codes " "
 
--- the line of a link, with its end: the router, the area and the description
+-- the line of a link: the router, the area and the description
 abbrev pub link_line : Called → LinkValue → List ℕ
-link_line called v = place_text called v ++ description called v ++ codes "\n"
+link_line called v = place_text called v.router v.area ++ description called v
 
 abbrev pub link_lines : Called → List LinkValue → List ℕ
-link_lines called values = flat_map (link_line called) values
+link_lines called values = lines_of (link_line called) values

@@ -3,12 +3,10 @@ use Rattle.std.specs.Prelude.{ℕ, if◌then◌else◌, List, [], ◌∷◌, map
 use Rattle.std.specs.List.{filter_map, flat_map}
 use Rattle.std.specs.Ordering.{nat_cmp, ordering_then}
 use Rattle.std.specs.declared.cmp.Ordering.{Ordering}
-use Rattle.lsa_codec.specs.declared.address.Addr.{Addr}
 use Rattle.lsa_codec.specs.declared.address.AreaId.{AreaId}
 use Rattle.lsa_codec.specs.declared.address.RouterId.{RouterId}
 use Rattle.lsa_codec.specs.Fields.{advertising_router_of, link_state_id_of}
 use Rattle.lsa_codec.specs.Order.{prefix_cmp, router_cmp}
-use Rattle.lsa_codec.specs.Prefix.{Net}
 use Rattle.lsa_codec.specs.Views.{net_of_lsa}
 use Rattle.lsdb.specs.Lists.{Lists}
 use Rattle.area_graph.specs.Area.{is_network_lsa}
@@ -18,12 +16,11 @@ use Rattle.interfaces.specs.Networks.{members_of, network_lsa_in}
 use Rattle.link_report.specs.declared.network_line.NetworkPlace.{NetworkPlace}
 use Rattle.link_report.specs.Areas.{UsedAreaValue, used_areas}
 
--- a network: its area, its prefix, the address of its Designated Router, that router, the routers that are listed and have a link to
--- the network, and the others that are listed
+-- a network: its area, its prefix and the address of its Designated Router, that router, the routers that are listed and have a link
+-- to the network, and the others that are listed
 pub record NetworkValue : Type 0 where
   pub area : AreaId
-  pub net : Net
-  pub address : Addr
+  pub place : NetworkPlace
   pub router : RouterId
   pub members : List RouterId
   pub one_way : List RouterId
@@ -48,8 +45,7 @@ not_joined members = map (λ member. member.router) (filter (λ member. not memb
 abbrev pub network_value : UsedAreaValue → NetworkPlace → List ℕ → NetworkValue
 network_value area place lsa = record {
   area = area.area;
-  net = place.net;
-  address = place.address;
+  place = place;
   router = record { 0 = advertising_router_of lsa };
   members = rising router_cmp (joined (members_of area.db area.area lsa));
   one_way = rising router_cmp (not_joined (members_of area.db area.area lsa));

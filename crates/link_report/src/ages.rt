@@ -1,11 +1,11 @@
 //! Router-LSAs of an area, live ones or those of any age.
 
-ghost use Rattle.std.specs.Prelude.{◌≡◌, IfOk, option_map};
+ghost use Rattle.std.specs.Prelude.{◌≡◌, IfOk};
 ghost use Rattle.lsdb.specs.Slots.{lists_of};
 ghost use Rattle.link_report.specs.AnyAge.{interfaces_by, router_lsa_of_any_age};
 
 use interfaces::{Interface, interfaces_in, interfaces_of};
-use lsa_codec::{AreaId, Key, Lsa, RouterId, RouterView};
+use lsa_codec::{AreaId, Key, RouterId, RouterView};
 use lsdb::{Database, Section};
 use std::alloc::{AllocError, Allocator};
 
@@ -18,19 +18,6 @@ pub(crate) enum Ages {
     Any,
 }
 
-/// The LSA with the key of a router in an area, whatever its age.
-fn lsa_of_any_age<A: Allocator + Copy>(
-    database: &Database<A>,
-    area: AreaId,
-    router: RouterId,
-) -> Option<&Lsa<A>>
-    ensures { option_map (λ lsa. lsa.now) result
-        ≡ router_lsa_of_any_age (lists_of database.now) area router }
-{
-    let slot = database.find(Section::Area(area), Key::of_router(router))?;
-    database.get(slot)
-}
-
 /// The router-LSA of a router in an area, whatever its age, where there is one.
 ///
 /// It takes no memory, and time logarithmic in the number of LSAs of the area.
@@ -41,7 +28,8 @@ pub fn router_lsa_of_any_age<A: Allocator + Copy>(
 ) -> Option<RouterView<'_>>
     ensures { result ≡ router_lsa_of_any_age (lists_of database.now) area router }
 {
-    let lsa = lsa_of_any_age(database, area, router)?;
+    let slot = database.find(Section::Area(area), Key::of_router(router))?;
+    let lsa = database.get(slot)?;
     lsa.router()
 }
 

@@ -1,9 +1,9 @@
 //! The routers, links and networks of a database, as the words `routers`, `links` and `networks` of
 //! studies show them (RFC 2328, 12.4.1 and 12.4.2).
 //!
-//! Each has its values, [`RouterLine`], [`LinkLine`] and [`NetworkLine`], and a text with a line
-//! for each. [`link_line_at`] describes one link of a router-LSA of any age, and [`link_numbers`]
-//! finds the links that a word of an edit names.
+//! Each has its values, [`RouterLine`], [`LinkLine`] and [`NetworkLine`], whose lines
+//! [`push_lines`](study_text::push_lines) adds. [`link_line_at`] describes one link of a router-LSA
+//! of any age, and [`link_numbers`] finds the links that a word of an edit names.
 #![tactic(auto)]
 
 // What the values are made from.
@@ -28,9 +28,7 @@ mod network_text;
 pub use ages::router_lsa_of_any_age;
 pub use link_line::{LinkLine, link_line_at, link_lines};
 pub use link_side::InterfaceStub;
-pub use link_text::{push_link, push_link_lines, push_link_name};
+pub use link_text::{push_link, push_link_name};
 pub use named::link_numbers;
 pub use network_line::{NetworkLine, network_lines};
-pub use network_text::push_network_lines;
 pub use router_line::{RouterLine, router_lines};
-pub use router_text::push_router_lines;

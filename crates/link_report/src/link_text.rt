@@ -1,32 +1,62 @@
-//! The lines of `links`, and the descriptions and names of links.
+//! The line of a link, as `r3 area 0.0.0.0 #2 stub 10.0.13.0/30, cost 10, of #1`: the router, the
+//! area and the description; descriptions and names of links.
 
-ghost use Rattle.std.specs.Prelude.{◌≡◌, ◌++◌, IfOk, OnOk, codes, decimal, map};
-ghost use Rattle.lsa_codec.specs.Spelling.{address_text};
+ghost use Rattle.std.specs.Prelude.{◌≡◌, ◌++◌, IfOk, OnOk, map};
 ghost use Rattle.network_names.specs.Names.{called};
-ghost use Rattle.study_text.specs.Shown.{shown};
-ghost use Rattle.link_report.specs.LinkTexts.{back_text, costs_text, description, far_text, kind_text, link_line, link_lines, name_text, net_text, owner_text, peers_text, place_text, rest_text, stub_text, where_text};
-ghost use Rattle.link_report.specs.Links.{neighbor_of};
+ghost use Rattle.link_report.specs.LinkTexts.{back_text, description, far_text, kind_text, name_text, net_text, owner_text, place_text, rest_text, where_text};
 
 use crate::link_line::LinkLine;
 use crate::link_side::InterfaceStub;
-use lsa_codec::{Addr, Link, LinkKind, Prefix, RouterId};
+use lsa_codec::{Addr, AreaId, Link, LinkKind, Prefix, RouterId};
 use network_names::Names;
 use std::alloc::{AllocError, Allocator};
-use study_text::{Shown, push_address, push_joined, push_number, push_prefix, push_router};
+use study_text::{
+    Line, Shown, push_address, push_after, push_joined_or, push_number, push_number_after,
+    push_prefix, push_router, push_word,
+};
+
+/// Adds the router of a link, and the area.
+fn push_place<A: Allocator + Copy>(
+    text: &mut Vec<u8, A>,
+    names: &Names<'_, A>,
+    router: RouterId,
+    area: AreaId,
+) -> Result<(), AllocError>
+    ensures { OnOk result
+        (text.new.items ≡ text.old.items ++ place_text (called names.now) router area) }
+{
+    push_router(text, names, router)?;
+    push_word(text, " area ")?;
+    push_address(text, Addr(area.0))?;
+    push_word(text, " ")
+}
+
+impl<A: Allocator + Copy> Line for LinkLine<A> {
+    ghost use Rattle.link_report.specs.LinkTexts.{link_line};
+
+    ghost line_as = { link_line };
+
+    fn push_line<B: Allocator + Copy>(
+        &self,
+        text: &mut Vec<u8, B>,
+        names: &Names<'_, B>,
+    ) -> Result<(), AllocError> {
+        push_place(text, names, self.router, self.area)?;
+        push_link(text, names, self)?;
+        push_word(text, "\n")
+    }
+}
 
 /// Adds the kind of a link.
 fn push_kind<A: Allocator + Copy>(text: &mut Vec<u8, A>, kind: LinkKind) -> Result<(), AllocError>
     ensures { OnOk result (text.new.items ≡ text.old.items ++ kind_text kind) }
 {
     match kind {
-        LinkKind::PointToPoint => text.extend_from_slice(b"point-to-point"),
-        LinkKind::Transit => text.extend_from_slice(b"transit"),
-        LinkKind::Stub => text.extend_from_slice(b"stub"),
-        LinkKind::Virtual => text.extend_from_slice(b"virtual"),
-        LinkKind::Other(code) => {
-            text.extend_from_slice(b"type ")?;
-            push_number(text, u64::from(code))
-        }
+        LinkKind::PointToPoint => push_word(text, "point-to-point"),
+        LinkKind::Transit => push_word(text, "transit"),
+        LinkKind::Stub => push_word(text, "stub"),
+        LinkKind::Virtual => push_word(text, "virtual"),
+        LinkKind::Other(code) => push_number_after(text, "type ", u64::from(code)),
     }
 }
 
@@ -56,7 +86,7 @@ fn push_net<A: Allocator + Copy>(
 {
     match net {
         Some(net) => push_prefix(text, net),
-        None => text.extend_from_slice(b"none"),
+        None => push_word(text, "none"),
     }
 }
 
@@ -71,12 +101,12 @@ fn push_where<A: Allocator + Copy>(
         (text.new.items ≡ text.old.items ++ where_text (called names.now) link net) }
 {
     if link.kind.is_stub() {
-        text.extend_from_slice(b" ")?;
+        push_word(text, " ")?;
         return push_net(text, net);
     }
-    text.extend_from_slice(b" to ")?;
+    push_word(text, " to ")?;
     push_far(text, names, link)?;
-    text.extend_from_slice(b", ")?;
+    push_word(text, ", ")?;
     push_address(text, link.link_data)
 }
 
@@ -86,19 +116,35 @@ fn push_where<A: Allocator + Copy>(
 /// # Errors
 ///
 /// Memory ran out. A part of the text may have been added.
-pub fn push_link_name<A: Allocator + Copy>(
+pub fn push_link_name<A: Allocator + Copy, B: Allocator + Copy>(
     text: &mut Vec<u8, A>,
     names: &Names<'_, A>,
-    line: &LinkLine<A>,
+    line: &LinkLine<B>,
 ) -> Result<(), AllocError>
     ensures { OnOk result
         (text.new.items ≡ text.old.items ++ name_text (called names.now) line.now) }
 {
-    text.extend_from_slice(b"#")?;
-    push_number(text, line.number as u64)?;
-    text.extend_from_slice(b" ")?;
+    push_number_after(text, "#", line.number as u64)?;
+    push_word(text, " ")?;
     push_kind(text, line.link.kind)?;
     push_where(text, names, line.link, line.net)
+}
+
+impl Shown for InterfaceStub {
+    ghost use Rattle.link_report.specs.LinkTexts.{stub_text};
+
+    ghost shown_as = { λ called stub. stub_text stub };
+
+    fn push_to<A: Allocator + Copy>(
+        &self,
+        text: &mut Vec<u8, A>,
+        _names: &Names<'_, A>,
+    ) -> Result<(), AllocError> {
+        push_number(text, self.number as u64)?;
+        push_word(text, " ")?;
+        push_net(text, self.link.net())?;
+        push_number_after(text, " cost ", u64::from(self.link.metric))
+    }
 }
 
 /// A cost, which is shown as a number.
@@ -126,51 +172,17 @@ fn costs_shown<A: Allocator + Copy>(alloc: A, costs: &[u32]) -> Result<Vec<Cost,
     costs.iter().map(|cost| Cost(*cost)).collect(alloc)
 }
 
-/// Adds costs joined by slashes, or `none`.
-fn push_costs<A: Allocator + Copy>(
+/// Adds what it costs to come back over a link: costs joined by slashes, or `none`.
+fn push_back<A: Allocator + Copy>(
     text: &mut Vec<u8, A>,
     names: &Names<'_, A>,
     costs: &[u32],
 ) -> Result<(), AllocError>
-    ensures { OnOk result (text.new.items ≡ text.old.items ++ costs_text costs.now) }
+    ensures { OnOk result (text.new.items ≡ text.old.items ++ back_text costs.now) }
 {
-    if costs.is_empty() {
-        return text.extend_from_slice(b"none");
-    }
     let shown = costs_shown(*text.allocator(), costs)?;
-    push_joined(text, names, "/", &shown)
-}
-
-/// Adds addresses joined by slashes, or `none`.
-fn push_peers<A: Allocator + Copy>(
-    text: &mut Vec<u8, A>,
-    names: &Names<'_, A>,
-    peers: &[Addr],
-) -> Result<(), AllocError>
-    ensures { OnOk result (text.new.items ≡ text.old.items ++ peers_text peers.now) }
-{
-    if peers.is_empty() {
-        return text.extend_from_slice(b"none");
-    }
-    push_joined(text, names, "/", peers)
-}
-
-/// Adds the stub link of an interface, if there is one.
-fn push_stub<A: Allocator + Copy>(
-    text: &mut Vec<u8, A>,
-    stub: Option<InterfaceStub>,
-) -> Result<(), AllocError>
-    ensures { OnOk result (text.new.items ≡ text.old.items ++ stub_text stub) }
-{
-    let Some(stub) = stub else {
-        return Ok(());
-    };
-    text.extend_from_slice(b", stub #")?;
-    push_number(text, stub.number as u64)?;
-    text.extend_from_slice(b" ")?;
-    push_net(text, stub.link.net())?;
-    text.extend_from_slice(b" cost ")?;
-    push_number(text, u64::from(stub.link.metric))
+    push_word(text, ", back ")?;
+    push_joined_or(text, names, "none", "", "/", &shown)
 }
 
 /// Adds the link whose interface has a link as its stub link, if there is one.
@@ -180,43 +192,30 @@ fn push_owner<A: Allocator + Copy>(
 ) -> Result<(), AllocError>
     ensures { OnOk result (text.new.items ≡ text.old.items ++ owner_text owner) }
 {
-    let Some(number) = owner else {
-        return Ok(());
-    };
-    text.extend_from_slice(b", of #")?;
-    push_number(text, number as u64)
-}
-
-/// Adds what it costs to come back over a link.
-fn push_back<A: Allocator + Copy>(
-    text: &mut Vec<u8, A>,
-    names: &Names<'_, A>,
-    costs: &[u32],
-) -> Result<(), AllocError>
-    ensures { OnOk result (text.new.items ≡ text.old.items ++ back_text costs.now) }
-{
-    text.extend_from_slice(b", back ")?;
-    push_costs(text, names, costs)
+    match owner {
+        Some(number) => push_number_after(text, ", of #", number as u64),
+        None => Ok(()),
+    }
 }
 
 /// Adds what stands in the description of a link after its cost.
-fn push_rest<A: Allocator + Copy>(
+fn push_rest<A: Allocator + Copy, B: Allocator + Copy>(
     text: &mut Vec<u8, A>,
     names: &Names<'_, A>,
-    line: &LinkLine<A>,
+    line: &LinkLine<B>,
 ) -> Result<(), AllocError>
     ensures { OnOk result (text.new.items ≡ text.old.items ++ rest_text line.now) }
 {
     match line.link.kind {
         LinkKind::PointToPoint => {
-            push_back(text, names, line.back.as_slice())?;
-            text.extend_from_slice(b", peer ")?;
-            push_peers(text, names, line.peers.as_slice())?;
-            push_stub(text, line.stub)
+            push_back(text, names, &line.back)?;
+            push_word(text, ", peer ")?;
+            push_joined_or(text, names, "none", "", "/", &line.peers)?;
+            push_after(text, names, ", stub #", line.stub.as_ref())
         }
         LinkKind::Transit => {
-            push_back(text, names, line.back.as_slice())?;
-            text.extend_from_slice(b", network ")?;
+            push_back(text, names, &line.back)?;
+            push_word(text, ", network ")?;
             push_net(text, line.net)
         }
         LinkKind::Stub => push_owner(text, line.owner),
@@ -231,65 +230,15 @@ fn push_rest<A: Allocator + Copy>(
 /// # Errors
 ///
 /// Memory ran out. A part of the text may have been added.
-pub fn push_link<A: Allocator + Copy>(
+pub fn push_link<A: Allocator + Copy, B: Allocator + Copy>(
     text: &mut Vec<u8, A>,
     names: &Names<'_, A>,
-    line: &LinkLine<A>,
+    line: &LinkLine<B>,
 ) -> Result<(), AllocError>
     ensures { OnOk result
         (text.new.items ≡ text.old.items ++ description (called names.now) line.now) }
 {
     push_link_name(text, names, line)?;
-    text.extend_from_slice(b", cost ")?;
-    push_number(text, u64::from(line.link.metric))?;
+    push_number_after(text, ", cost ", u64::from(line.link.metric))?;
     push_rest(text, names, line)
-}
-
-/// Adds the router of a link, and the area.
-fn push_place<A: Allocator + Copy>(
-    text: &mut Vec<u8, A>,
-    names: &Names<'_, A>,
-    line: &LinkLine<A>,
-) -> Result<(), AllocError>
-    ensures { OnOk result
-        (text.new.items ≡ text.old.items ++ place_text (called names.now) line.now) }
-{
-    push_router(text, names, line.router)?;
-    text.extend_from_slice(b" area ")?;
-    push_address(text, Addr(line.area.0))?;
-    text.extend_from_slice(b" ")
-}
-
-/// Adds the line of a link: the router, the area and the description.
-fn push_link_line<A: Allocator + Copy>(
-    text: &mut Vec<u8, A>,
-    names: &Names<'_, A>,
-    line: &LinkLine<A>,
-) -> Result<(), AllocError>
-    ensures { OnOk result
-        (text.new.items ≡ text.old.items ++ link_line (called names.now) line.now) }
-{
-    push_place(text, names, line)?;
-    push_link(text, names, line)?;
-    text.extend_from_slice(b"\n")
-}
-
-/// Adds a line for each link, as `r3 area 0.0.0.0 #2 stub 10.0.13.0/30, cost 10, of #1`: the
-/// router, the area and the description.
-///
-/// # Errors
-///
-/// Memory ran out. A part of the text may have been added.
-pub fn push_link_lines<A: Allocator + Copy>(
-    text: &mut Vec<u8, A>,
-    names: &Names<'_, A>,
-    lines: &[LinkLine<A>],
-) -> Result<(), AllocError>
-    ensures { OnOk result
-        (text.new.items ≡ text.old.items ++ link_lines (called names.now) lines.now) }
-{
-    for line in lines {
-        push_link_line(text, names, line)?;
-    }
-    Ok(())
 }

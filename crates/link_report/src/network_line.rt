@@ -14,15 +14,22 @@ use lsdb::Database;
 use std::alloc::{AllocError, Allocator, Global};
 use std::marker::Model;
 
+/// Where the line of a network stands: by prefix, then by Link State ID.
+#[derive(Clone, Copy, Debug, PartialEq, Eq, PartialOrd, Ord)]
+pub(crate) struct NetworkPlace {
+    /// The prefix of the network.
+    pub(crate) net: Prefix,
+    /// The address of its Designated Router, which is the Link State ID.
+    pub(crate) address: Addr,
+}
+
 /// A transit network, by its network-LSA in use. Contracts see it as the record of its fields.
 #[derive(Drop)]
 pub struct NetworkLine<A: Allocator = Global> {
     /// The area.
     pub(crate) area: AreaId,
-    /// The prefix of the network.
-    pub(crate) net: Prefix,
-    /// The address of its Designated Router, which is the Link State ID.
-    pub(crate) address: Addr,
+    /// Its prefix, and the address of its Designated Router.
+    pub(crate) place: NetworkPlace,
     /// The Designated Router, which originated the LSA.
     pub(crate) router: RouterId,
     /// The routers that the LSA lists and that have a link to the network, in rising order.
@@ -38,19 +45,11 @@ impl<A: Allocator> Model for NetworkLine<A> {
 
     ghost view = { λ n. record {
       area = n.area;
-      net = n.net;
-      address = n.address;
+      place = n.place;
       router = n.router;
       members = n.members.items;
       one_way = n.one_way.items;
     } };
-}
-
-/// Where the line of a network stands: by prefix, then by Link State ID.
-#[derive(Clone, Copy, Debug, PartialEq, Eq, PartialOrd, Ord)]
-pub(crate) struct NetworkPlace {
-    net: Prefix,
-    address: Addr,
 }
 
 /// The place of a network-LSA. Other LSAs have none.
@@ -113,8 +112,7 @@ fn network_line<A: Allocator + Copy>(
     let members = members_of(alloc, area.database(), area.area(), lsa)?;
     Ok(NetworkLine {
         area: area.area(),
-        net: place.net,
-        address: place.address,
+        place,
         router: lsa.key().adv,
         members: rising(alloc, &joined(alloc, &members)?)?,
         one_way: rising(alloc, &not_joined(alloc, &members)?)?,

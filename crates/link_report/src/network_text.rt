@@ -1,94 +1,64 @@
-//! The lines of `networks`.
+//! The line of a network, as `10.2.0.0/24 area 0.0.0.1 dr r5 10.2.0.5 members r5 one-way r6,r7`:
+//! the prefix, the area, the Designated Router with its address, and the routers that are listed.
 
-ghost use Rattle.std.specs.Prelude.{◌≡◌, ◌++◌, OnOk, codes};
+ghost use Rattle.std.specs.Prelude.{◌≡◌, ◌++◌, OnOk};
 ghost use Rattle.network_names.specs.Names.{called};
-ghost use Rattle.link_report.specs.NetworkTexts.{designated_text, members_text, network_line, network_lines, one_way_text};
+ghost use Rattle.link_report.specs.NetworkTexts.{designated_text, members_text};
 
 use crate::network_line::NetworkLine;
 use lsa_codec::{Addr, RouterId};
 use network_names::Names;
 use std::alloc::{AllocError, Allocator};
-use study_text::{push_address, push_list, push_prefix, push_router};
+use study_text::{
+    Line, push_address, push_joined_or, push_list, push_prefix, push_router, push_word,
+};
 
 /// Adds the prefix of a network, its area and its Designated Router.
-fn push_designated<A: Allocator + Copy>(
+fn push_designated<A: Allocator + Copy, B: Allocator>(
     text: &mut Vec<u8, A>,
     names: &Names<'_, A>,
-    line: &NetworkLine<A>,
+    line: &NetworkLine<B>,
 ) -> Result<(), AllocError>
     ensures { OnOk result
         (text.new.items ≡ text.old.items ++ designated_text (called names.now) line.now) }
 {
-    push_prefix(text, line.net)?;
-    text.extend_from_slice(b" area ")?;
+    push_prefix(text, line.place.net)?;
+    push_word(text, " area ")?;
     push_address(text, Addr(line.area.0))?;
-    text.extend_from_slice(b" dr ")?;
+    push_word(text, " dr ")?;
     push_router(text, names, line.router)?;
-    text.extend_from_slice(b" ")?;
-    push_address(text, line.address)
+    push_word(text, " ")?;
+    push_address(text, line.place.address)
 }
 
-/// Adds the routers that are listed and have a link to the network.
+/// Adds the routers that are listed and have a link to the network, and those that have none, if
+/// there are any.
 fn push_members<A: Allocator + Copy>(
     text: &mut Vec<u8, A>,
     names: &Names<'_, A>,
-    routers: &[RouterId],
+    members: &[RouterId],
+    one_way: &[RouterId],
 ) -> Result<(), AllocError>
-    ensures { OnOk result
-        (text.new.items ≡ text.old.items ++ members_text (called names.now) routers.now) }
+    ensures { OnOk result (text.new.items ≡ text.old.items
+        ++ members_text (called names.now) members.now one_way.now) }
 {
-    text.extend_from_slice(b" members ")?;
-    push_list(text, names, routers)
+    push_word(text, " members ")?;
+    push_list(text, names, members)?;
+    push_joined_or(text, names, "", " one-way ", ",", one_way)
 }
 
-/// Adds the routers that are listed and have no link to the network, if there are any.
-fn push_one_way<A: Allocator + Copy>(
-    text: &mut Vec<u8, A>,
-    names: &Names<'_, A>,
-    routers: &[RouterId],
-) -> Result<(), AllocError>
-    ensures { OnOk result
-        (text.new.items ≡ text.old.items ++ one_way_text (called names.now) routers.now) }
-{
-    if routers.is_empty() {
-        return Ok(());
+impl<A: Allocator + Copy> Line for NetworkLine<A> {
+    ghost use Rattle.link_report.specs.NetworkTexts.{network_line};
+
+    ghost line_as = { network_line };
+
+    fn push_line<B: Allocator + Copy>(
+        &self,
+        text: &mut Vec<u8, B>,
+        names: &Names<'_, B>,
+    ) -> Result<(), AllocError> {
+        push_designated(text, names, self)?;
+        push_members(text, names, &self.members, &self.one_way)?;
+        push_word(text, "\n")
     }
-    text.extend_from_slice(b" one-way ")?;
-    push_list(text, names, routers)
-}
-
-/// Adds the line of a network.
-fn push_network_line<A: Allocator + Copy>(
-    text: &mut Vec<u8, A>,
-    names: &Names<'_, A>,
-    line: &NetworkLine<A>,
-) -> Result<(), AllocError>
-    ensures { OnOk result
-        (text.new.items ≡ text.old.items ++ network_line (called names.now) line.now) }
-{
-    push_designated(text, names, line)?;
-    push_members(text, names, line.members.as_slice())?;
-    push_one_way(text, names, line.one_way.as_slice())?;
-    text.extend_from_slice(b"\n")
-}
-
-/// Adds a line for each network, as
-/// `10.2.0.0/24 area 0.0.0.1 dr r5 10.2.0.5 members r5 one-way r6,r7`: the prefix, the area, the
-/// Designated Router with its address, and the routers that are listed.
-///
-/// # Errors
-///
-/// Memory ran out. A part of the text may have been added.
-pub fn push_network_lines<A: Allocator + Copy>(
-    text: &mut Vec<u8, A>,
-    names: &Names<'_, A>,
-    lines: &[NetworkLine<A>],
-) -> Result<(), AllocError>
-    ensures { OnOk result
-        (text.new.items ≡ text.old.items ++ network_lines (called names.now) lines.now) }
-{
-    for line in lines {
-        push_network_line(text, names, line)?;
-    }
-    Ok(())
 }

@@ -1,15 +1,16 @@
-//! The lines of `routers`.
+//! The line of a router, as `1.1.1.1 r1 areas 0.0.0.0,0.0.0.1 roles abr,asbr links 2 transit 1
+//! stubs 3`: its Router ID, its name, its areas, its roles, and how many links there are of types
+//! 1, 2 and 3; a dash stands for what the router does not have.
 
-ghost use Rattle.std.specs.Prelude.{◌≡◌, ◌++◌, OnOk, codes, decimal};
-ghost use Rattle.std.specs.List.{flat_map};
+ghost use Rattle.std.specs.Prelude.{◌≡◌, ◌++◌, OnOk};
 ghost use Rattle.network_names.specs.Names.{called};
-ghost use Rattle.link_report.specs.RouterTexts.{areas_text, counts_text, name_or_dash, roles_text, router_line, router_lines};
+ghost use Rattle.link_report.specs.RouterTexts.{areas_text, counts_text, name_or_dash, roles_text};
 
 use crate::router_line::RouterLine;
-use lsa_codec::{Addr, RouterId};
+use lsa_codec::{Addr, AreaId, RouterId};
 use network_names::Names;
 use std::alloc::{AllocError, Allocator};
-use study_text::{push_address, push_list, push_number};
+use study_text::{Line, push_address, push_list, push_number_after, push_word};
 
 /// Adds the name of a router, or a dash where it has none.
 fn push_name<A: Allocator + Copy>(
@@ -22,7 +23,7 @@ fn push_name<A: Allocator + Copy>(
 {
     match names.name_of(router) {
         Some(name) => text.extend_from_slice(name),
-        None => text.extend_from_slice(b"-"),
+        None => push_word(text, "-"),
     }
 }
 
@@ -30,16 +31,17 @@ fn push_name<A: Allocator + Copy>(
 fn push_areas<A: Allocator + Copy>(
     text: &mut Vec<u8, A>,
     names: &Names<'_, A>,
-    line: &RouterLine<A>,
+    router: RouterId,
+    areas: &[AreaId],
 ) -> Result<(), AllocError>
     ensures { OnOk result
-        (text.new.items ≡ text.old.items ++ areas_text (called names.now) line.now) }
+        (text.new.items ≡ text.old.items ++ areas_text (called names.now) router areas.now) }
 {
-    push_address(text, Addr(line.router.0))?;
-    text.extend_from_slice(b" ")?;
-    push_name(text, names, line.router)?;
-    text.extend_from_slice(b" areas ")?;
-    push_list(text, names, line.areas.as_slice())
+    push_address(text, Addr(router.0))?;
+    push_word(text, " ")?;
+    push_name(text, names, router)?;
+    push_word(text, " areas ")?;
+    push_list(text, names, areas)
 }
 
 /// Adds the roles of a router.
@@ -51,71 +53,39 @@ fn push_roles<A: Allocator + Copy>(
     ensures { OnOk result (text.new.items ≡ text.old.items ++ roles_text is_abr is_asbr) }
 {
     match (is_abr, is_asbr) {
-        (true, true) => text.extend_from_slice(b"abr,asbr"),
-        (true, false) => text.extend_from_slice(b"abr"),
-        (false, true) => text.extend_from_slice(b"asbr"),
-        (false, false) => text.extend_from_slice(b"-"),
+        (true, true) => push_word(text, "abr,asbr"),
+        (true, false) => push_word(text, "abr"),
+        (false, true) => push_word(text, "asbr"),
+        (false, false) => push_word(text, "-"),
     }
-}
-
-/// Adds a word and how many there are of what it names.
-fn push_count<A: Allocator + Copy>(
-    text: &mut Vec<u8, A>,
-    word: &[u8],
-    count: usize,
-) -> Result<(), AllocError>
-    ensures { OnOk result (text.new.items ≡ text.old.items ++ (word.now ++ decimal count)) }
-{
-    text.extend_from_slice(word)?;
-    push_number(text, count as u64)
 }
 
 /// Adds how many links a router has.
-fn push_counts<A: Allocator + Copy>(
+fn push_counts<A: Allocator + Copy, B: Allocator>(
     text: &mut Vec<u8, A>,
-    line: &RouterLine<A>,
+    line: &RouterLine<B>,
 ) -> Result<(), AllocError>
     ensures { OnOk result (text.new.items ≡ text.old.items ++ counts_text line.now) }
 {
-    push_count(text, b" links ", line.links)?;
-    push_count(text, b" transit ", line.transit)?;
-    push_count(text, b" stubs ", line.stubs)
+    push_number_after(text, " links ", line.links as u64)?;
+    push_number_after(text, " transit ", line.transit as u64)?;
+    push_number_after(text, " stubs ", line.stubs as u64)
 }
 
-/// Adds the line of a router.
-fn push_router_line<A: Allocator + Copy>(
-    text: &mut Vec<u8, A>,
-    names: &Names<'_, A>,
-    line: &RouterLine<A>,
-) -> Result<(), AllocError>
-    ensures { OnOk result
-        (text.new.items ≡ text.old.items ++ router_line (called names.now) line.now) }
-{
-    push_areas(text, names, line)?;
-    text.extend_from_slice(b" roles ")?;
-    push_roles(text, line.is_abr, line.is_asbr)?;
-    push_counts(text, line)?;
-    text.extend_from_slice(b"\n")
-}
+impl<A: Allocator + Copy> Line for RouterLine<A> {
+    ghost use Rattle.link_report.specs.RouterTexts.{router_line};
 
-/// Adds a line for each router:
-/// `1.1.1.1 r1 areas 0.0.0.0,0.0.0.1 roles abr,asbr links 2 transit 1 stubs 3`. It has the Router
-/// ID, the name, the areas, the roles, and how many links there are of types 1, 2 and 3; a dash
-/// stands for what the router does not have.
-///
-/// # Errors
-///
-/// Memory ran out. A part of the text may have been added.
-pub fn push_router_lines<A: Allocator + Copy>(
-    text: &mut Vec<u8, A>,
-    names: &Names<'_, A>,
-    lines: &[RouterLine<A>],
-) -> Result<(), AllocError>
-    ensures { OnOk result
-        (text.new.items ≡ text.old.items ++ router_lines (called names.now) lines.now) }
-{
-    for line in lines {
-        push_router_line(text, names, line)?;
+    ghost line_as = { router_line };
+
+    fn push_line<B: Allocator + Copy>(
+        &self,
+        text: &mut Vec<u8, B>,
+        names: &Names<'_, B>,
+    ) -> Result<(), AllocError> {
+        push_areas(text, names, self.router, &self.areas)?;
+        push_word(text, " roles ")?;
+        push_roles(text, self.is_abr, self.is_asbr)?;
+        push_counts(text, self)?;
+        push_word(text, "\n")
     }
-    Ok(())
 }

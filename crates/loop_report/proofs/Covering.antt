@@ -1,12 +1,12 @@
 -- The addresses that a prefix covers, as numbers.
-use Rattle.std.proofs.Common.{◌≡◌, ℕ, ◌+◌, ◌-◌, ◌*◌, ◌/◌, ◌%◌, ◌^◌, ◌<◌, ◌≤◌, true, refl, sym, ap, ◌∙◌, arith}
+use Rattle.std.proofs.Common.{◌≡◌, ℕ, ◌+◌, ◌-◌, ◌*◌, ◌/◌, ◌^◌, ◌<◌, ◌≤◌, sym, ap, ◌∙◌, arith}
 use Rattle.std.specs.Prelude.{bit_and}
 use Rattle.std.proofs.lemmas.Bool.{eqb-true}
 use Rattle.std.proofs.lemmas.Nat.{div-add-mod', div-mul-add, pow_pos}
 use Rattle.std.proofs.lemmas.Nat.Bits.{and_high_mask, and_high_mask_twice}
 use Rattle.lsa_codec.specs.Prefix.{IsNet, Net, mask_of_len, masked}
 use Rattle.lsa_codec.specs.declared.address.Addr.{Addr}
-use Rattle.loop_report.specs.steps.Gathering.{end_of}
+use Rattle.loop_report.specs.steps.Ends.{end_of}
 
 -- a multiple of p, and the numbers from it on that are fewer than p after it
 low_bounds : (n p : ℕ) → 0 < p → (n / p * p ≤ n) × (n < n / p * p + p)

@@ -3,5 +3,4 @@ pub mod Alike
 pub mod Among
 pub mod OneAtom
 pub mod Search
-pub mod Gathered
 pub mod Parted

@@ -1,12 +1,15 @@
 -- Lists that are put together of parts, and the part of an atom.
-use Rattle.std.proofs.Common.{◌≡◌, ◌∙◌, ℕ, ◌+◌, ◌<◌, List, [], ◌∷◌, ◌++◌, append_assoc, get_or, length, take, refl, sym, ap, subst}
+use Rattle.std.proofs.Common.{◌≡◌, ◌∙◌, ℕ, ◌+◌, ◌<◌, List, [], ◌∷◌, ◌++◌, Result, Ok, Err, append_assoc, get_or, length, take, refl, sym, ap, subst}
+use Rattle.std.specs.Prelude.{IfOk}
 use Rattle.std.proofs.lemmas.List.{append-nil, take_more}
 use Rattle.lsa_codec.specs.Prefix.{Net}
 use Rattle.lsa_codec.specs.declared.address.Addr.{Addr}
 use Rattle.lsdb.specs.Lists.{Lists}
 use Rattle.forwarding.specs.Graphs.{StepValue, graph_of}
 use Rattle.loop_report.specs.Atoms.{IsEmptyAtom, IsInAtom, nets_in_either}
-use Rattle.loop_report.specs.Parts.{AreParts, IsAtAtom}
+use Rattle.loop_report.specs.Parts.{AreAtAtoms, AreParts, IsAtAtom}
+use Rattle.loop_report.specs.steps.Comparing.{IsComparedOf}
+use Rattle.loop_report.specs.declared.compared.Compared.{Compared}
 use Rattle.loop_report.proofs.Alike.{is_same, was_same}
 
 module _ {X Y : Type 0} (IsPart : X → List Y → Type 0) where
@@ -46,3 +49,12 @@ module _ {Y : Type 0} (Found : Net → List StepValue → List StepValue → Lis
         found = λ other in_other. at_each one other (subst (λ (ns : List Net). IsInAtom ns net one) nets_are in_one) in_other at_first;
         none = λ empty. absurd (empty one (subst (λ (ns : List Net). IsInAtom ns net one) nets_are in_one));
       }
+
+-- what is found at the atoms of all prefixes of two databases that are compared
+pub at_all : {A R E Y : Type 0} (result : Result R E) (items : R → List Y) (Found : Net → List StepValue → List StepValue → List Y → Type 0) (was is : Lists)
+    (compared : Compared A) (nets : List Net) → nets ≡ compared.atoms → IsComparedOf was is compared
+    → IfOk result (λ r. (before now : Lists) → IsComparedOf before now compared → AreParts (IsAtAtom Found before now) nets (items r))
+    → IfOk result (λ r. AreAtAtoms Found was is (items r))
+at_all (Ok r) items Found was is compared nets same of are =
+    subst (λ (l : List Net). AreParts (IsAtAtom Found was is) l (items r)) (same ∙ of.atoms) (are was is of)
+at_all (Err e) items Found was is compared nets same of are = tt

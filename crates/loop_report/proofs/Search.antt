@@ -1,11 +1,11 @@
 -- The search for an address of an atom: from each address that a longer prefix covers to the end of that prefix.
-use Rattle.std.proofs.Common.{◌≡◌, ℕ, ◌^◌, ◌<◌, ◌≤◌, true, List, sym, ap, ◌∙◌, arith, ⊎_elim}
+use Rattle.std.proofs.Common.{◌≡◌, ◌^◌, ◌<◌, ◌≤◌, List, sym, ap, ◌∙◌, arith, ⊎_elim}
 use Rattle.std.proofs.lemmas.Bool.{cases_lt, false≢true}
 use Rattle.lsa_codec.specs.Prefix.{IsNet, Net, masked}
 use Rattle.lsa_codec.specs.declared.address.Addr.{Addr}
 use Rattle.forwarding.specs.Matches.{has_net}
 use Rattle.loop_report.specs.Atoms.{IsEmptyAtom, IsInAtom, IsLonger, NoneLonger}
-use Rattle.loop_report.specs.steps.Gathering.{end_of}
+use Rattle.loop_report.specs.steps.Ends.{end_of}
 use Rattle.loop_report.proofs.Covering.{covers_between, covers_itself, covers_more}
 
 module _ (nets : List Net) (net : Net) where

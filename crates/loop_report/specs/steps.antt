@@ -1,3 +1,3 @@
 -- What the steps of the code do: only contracts within the crate cite these.
-pub mod Gathering
+pub mod Ends
 pub mod Comparing

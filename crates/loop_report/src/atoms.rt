@@ -5,7 +5,7 @@ ghost use Rattle.lsa_codec.specs.Order.{prefix_cmp};
 ghost use Rattle.lsa_codec.specs.declared.address.Addr.{Addr as AnyAddr};
 ghost use Rattle.area_graph.specs.Rising.{rising};
 ghost use Rattle.loop_report.specs.Atoms.{IsEmptyAtom, IsInAtom, IsLonger, NoneLonger, nets_of_all};
-ghost use Rattle.loop_report.specs.steps.Gathering.{end_of};
+ghost use Rattle.loop_report.specs.steps.Ends.{end_of};
 
 use crate::nets::{insert_nets, members};
 use forwarding::Forwarding;

@@ -1,6 +1,6 @@
 //! What may loop while routers change over from one database to another.
 
-ghost use Rattle.std.specs.Prelude.{◌≡◌, IfOk};
+ghost use Rattle.std.specs.Prelude.{IfOk};
 ghost use Rattle.lsdb.specs.Lists.{Lists};
 ghost use Rattle.lsdb.specs.Slots.{lists_of};
 ghost use Rattle.loop_report.specs.Loops.{AreJointLoops};

@@ -1,6 +1,6 @@
 //! Two databases that are compared.
 
-ghost use Rattle.std.specs.Prelude.{◌≡◌, IfOk};
+ghost use Rattle.std.specs.Prelude.{IfOk};
 ghost use Rattle.lsdb.specs.Slots.{lists_of};
 ghost use Rattle.loop_report.specs.steps.Comparing.{IsComparedOf};
 

@@ -22,6 +22,8 @@ mod compared;
 mod report;
 
 // The texts.
+mod blackhole_text;
+mod loop_text;
 mod text;
 
 // What holds of the definitions.
@@ -33,4 +35,4 @@ pub use changeover::joint_loops;
 pub use laws::{an_atom_has_one_graph, each_address_has_one_atom, entries_have_prefixes};
 pub use loops::PrefixLoop;
 pub use report::LoopReport;
-pub use text::{push_blackhole_lines, push_found, push_loop_lines};
+pub use text::push_found;

@@ -17,11 +17,11 @@ pub struct PrefixLoop<A: Allocator = Global> {
 }
 
 impl<A: Allocator> Model for PrefixLoop<A> {
-    ghost use Rattle.loop_report.specs.Loops.{LoopValue};
+    ghost use Rattle.loop_report.specs.Loops.{LoopValue, at_net};
 
     ghost Value = { LoopValue };
 
-    ghost view = { λ l. record { net = l.net; routers = l.routers } };
+    ghost view = { λ l. at_net l.net l.routers };
 }
 
 impl<A: Allocator + Copy> PrefixLoop<A> {

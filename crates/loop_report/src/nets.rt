@@ -2,7 +2,7 @@
 
 ghost use Rattle.std.specs.Prelude.{◌≡◌, IfOk, OnOk};
 ghost use Rattle.loop_report.specs.Atoms.{nets_of, nets_of_all};
-ghost use Rattle.loop_report.specs.steps.Gathering.{Gathers};
+ghost use Rattle.lost_routes.specs.Gathering.{Gathers};
 
 use forwarding::{Forwarding, RouterRoutes};
 use lsa_codec::Prefix;

@@ -5,8 +5,8 @@ use Rattle.lsa_codec.specs.Prefix.{Net}
 use Rattle.lsdb.specs.Lists.{AreaHead, Lists, areas_of}
 use Rattle.routing_table.specs.AreaLsas.{area_lsas, lsas_in}
 use Rattle.routing_table.proofs.AreaLsaLemmas.{lsas_all, lsas_among, lsas_more}
-use Rattle.lost_routes.specs.steps.Gathering.{Gathers}
-use Rattle.lost_routes.proofs.Gathered.{gathers_both, gathers_same}
+use Rattle.lost_routes.specs.Gathering.{Gathers}
+use Rattle.lost_routes.proofs.GatheredLemmas.{gathers_both, gathers_same}
 
 module _ (db : Lists) (g : List (List ℕ) → List Net) where
   -- the prefixes of some areas

@@ -1,4 +1,4 @@
-pub mod Gathered
+pub mod GatheredLemmas
 pub mod AreaNets
 pub mod Missing
 pub mod Present

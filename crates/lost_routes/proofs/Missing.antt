@@ -4,8 +4,8 @@ use Rattle.std.specs.List.{filter}
 use Rattle.std.proofs.lemmas.List.Elements.{filter-append}
 use Rattle.lsa_codec.specs.Prefix.{Net}
 use Rattle.area_routes.proofs.AddsLemmas.{Adds}
-use Rattle.lost_routes.specs.steps.Gathering.{Gathers}
-use Rattle.lost_routes.proofs.Gathered.{gathers_same}
+use Rattle.lost_routes.specs.Gathering.{Gathers}
+use Rattle.lost_routes.proofs.GatheredLemmas.{gathers_same}
 
 module _ (p : Net → Bool) where
   pub filter_adds : Adds (filter p) (λ net. filter p (net ∷ []))

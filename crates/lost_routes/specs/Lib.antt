@@ -1,5 +1,5 @@
+pub mod Gathering
 pub mod Announced
 pub mod Lost
 pub mod LostPairs
 pub mod Announcers
-pub mod steps

@@ -8,7 +8,7 @@ ghost use Rattle.lsdb.specs.Slots.{lists_of};
 ghost use Rattle.area_graph.specs.Area.{is_live};
 ghost use Rattle.forwarding.specs.Matches.{has_net};
 ghost use Rattle.lost_routes.specs.Announced.{announced_in, external_prefix, is_announced, live_networks, networks_of, summary_prefix};
-ghost use Rattle.lost_routes.specs.steps.Gathering.{Gathers};
+ghost use Rattle.lost_routes.specs.Gathering.{Gathers};
 
 use crate::gather::add_some;
 use lsa_codec::{LS_INFINITY, Links, Lsa, Prefix};

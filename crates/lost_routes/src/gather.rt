@@ -2,7 +2,7 @@
 
 ghost use Rattle.std.specs.Prelude.{[], OnOk};
 ghost use Rattle.std.specs.List.{cons_option};
-ghost use Rattle.lost_routes.specs.steps.Gathering.{Gathers};
+ghost use Rattle.lost_routes.specs.Gathering.{Gathers};
 
 use lsa_codec::Prefix;
 use std::alloc::{AllocError, Allocator};

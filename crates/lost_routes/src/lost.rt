@@ -3,7 +3,7 @@
 ghost use Rattle.std.specs.Prelude.{◌≡◌, ◌∷◌, [], filter, not, IfOk, OnOk};
 ghost use Rattle.lost_routes.specs.Announced.{is_announced};
 ghost use Rattle.lost_routes.specs.Lost.{lacks, lost_routes, missing};
-ghost use Rattle.lost_routes.specs.steps.Gathering.{Gathers};
+ghost use Rattle.lost_routes.specs.Gathering.{Gathers};
 
 use crate::announced::Announced;
 use lsa_codec::Prefix;

@@ -1,6 +1,6 @@
 //! How the program ends after a fault: its status, and the line on standard error.
 
-ghost use Rattle.std.specs.Prelude.{◌≡◌, IfOk};
+ghost use Rattle.std.specs.Prelude.{◌≡◌, IfOk, string_bytes};
 ghost use Rattle.ospf_study.specs.Exit.{dump_status, dump_text, exit_status, exit_text, names_text, open_text, run_status, run_text};
 
 use crate::fault::{ExitFault, FileArg};
@@ -40,14 +40,20 @@ fn status_of(fault: &ExitFault<'_>) -> u8
     }
 }
 
-/// The line of a refused dump or baseline.
+/// The text of the line of a refused dump or baseline.
+fn dump_text(alloc: Global, what: &str, fault: DumpFault) -> Result<String, AllocError>
+    ensures { IfOk result (λ line. string_bytes line ≡ dump_text what.now fault) }
+{
+    match fault.kind {
+        DumpFaultKind::OutOfMemory => String::from_str(alloc, "memory: OutOfMemory\n"),
+        _ => format!(in alloc; "{what}: {fault}\n"),
+    }
+}
+
 fn dump_line(alloc: Global, what: &str, fault: DumpFault) -> Result<Vec<u8>, AllocError>
     ensures { IfOk result (λ line. line.items ≡ dump_text what.now fault) }
 {
-    let line = match fault.kind {
-        DumpFaultKind::OutOfMemory => String::from_str(alloc, "memory: OutOfMemory\n"),
-        _ => format!(in alloc; "{what}: {fault}\n"),
-    }?;
+    let line = dump_text(alloc, what, fault)?;
     Vec::from_slice(alloc, line.as_bytes())
 }
 
@@ -106,8 +112,8 @@ fn line_of(alloc: Global, fault: &ExitFault<'_>) -> Result<Vec<u8>, AllocError>
 }
 
 /// The exit status and the line for standard error, its line feed included: 3 where the dump, the
-/// baseline or the names file is refused, 4 where a file cannot be opened, read or written or is too
-/// long, 5 for want of memory.
+/// baseline or the names file is refused, 4 where a file cannot be opened, read or written or is
+/// too long, 5 for want of memory.
 ///
 /// An error is want of memory for the line; the status stands all the same.
 pub(crate) fn exit_line(alloc: Global, fault: &ExitFault<'_>) -> (u8, Result<Vec<u8>, AllocError>)

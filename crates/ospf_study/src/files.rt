@@ -35,7 +35,7 @@ pub(crate) fn run_files<'a>(
     let mut files = open_inputs(rt, options)?;
     let names = options.studies.as_slice();
     let mut studies = if names.is_empty() {
-        open_studies(rt, &[STANDARD_INPUT])?
+        standard_input(rt)?
     } else {
         open_studies(rt, names)?
     };
@@ -87,12 +87,27 @@ fn open_inputs<'a>(rt: &HostRuntime, options: &Options<'_>) -> Result<RunFiles<F
     })
 }
 
+/// Standard input, in place of studies.
+fn standard_input<'a, 'n, H: Files + Input + Alloc>(
+    rt: &H,
+) -> Result<Vec<StudyFile<'n, Either<H::File, H::Reader>>, H::A>, ExitFault<'a>>
+    ensures { IfOk result
+        (λ studies. All (λ study. has_failed study.reader ≡ false) studies.items) }
+{
+    let mut studies = Vec::new(rt.alloc());
+    let reader = Watched::new(Right(rt.reader()));
+    let name = STANDARD_INPUT;
+    studies.push(StudyFile { name, reader })?;
+    Ok(studies)
+}
+
 /// Opens the studies, or standard input in place of one.
 fn open_studies<'a, 'n, H: Files + Input + Alloc>(
     rt: &H,
     names: &[&'n str],
 ) -> Result<Vec<StudyFile<'n, Either<H::File, H::Reader>>, H::A>, ExitFault<'a>>
-    ensures { IfOk result (λ studies. All (λ study. has_failed study.reader ≡ false) studies.items) }
+    ensures { IfOk result
+        (λ studies. All (λ study. has_failed study.reader ≡ false) studies.items) }
 {
     let mut studies = Vec::new(rt.alloc());
     'opening: for name in names {
@@ -178,7 +193,10 @@ fn write_out<'a, R: Files + Alloc>(
     ensures fault { IfErr result IsNotReplaced }
 {
     match (path, &ended.dump) {
-        (Some(path), Some(dump)) => replace_file(rt, path, dump.as_slice()).map_err(not_replaced),
+        (Some(path), Some(dump)) => match replace_file(rt, path, dump.as_slice()) {
+            Ok(()) => Ok(()),
+            Err(fault) => Err(not_replaced(fault)),
+        },
         _ => Ok(()),
     }
 }

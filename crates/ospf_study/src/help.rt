@@ -17,8 +17,8 @@ const VERSION: &str = "0.10.0, proved in the Rattle logic dac8208d650f15bf";
 
 /// What the lines of studies are, an example, and the exit status.
 const DETAILS: &str =
-    "A study has a line for each command. All commands of ospf-plan are taken; these see what comes of
-them, and `help` lists all of them with their arguments:
+    "A study has a line for each command. All commands of ospf-plan are taken; these see what comes
+of them, and `help` lists all of them with their arguments:
   routers, links, networks          what the database has
   routes ROUTER, path ROUTER ADDR   how packets go
   changes, lost, gone               what differs from the baseline
@@ -32,7 +32,7 @@ line FILE:LINE: for each line that is refused, and for each expectation that doe
 ends after the first of these, unless --keep-going is given.
 
 Example:
-  printf 'fail-router 3.3.3.3\\nexpect lost none\\nexpect loops none\\n' | ospf-study --dump net.oswp
+  printf 'fail-router 3.3.3.3\\nexpect lost none\\n' | ospf-study --dump net.oswp
 
 Manual: `man ospf-study` explains each line.
 

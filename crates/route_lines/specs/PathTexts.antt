@@ -3,7 +3,7 @@ use Rattle.std.specs.Prelude.{ℕ, List, ◌++◌, map, Option, None, Some, code
 use Rattle.lsa_codec.specs.declared.address.Addr.{Addr}
 use Rattle.lsa_codec.specs.declared.address.RouterId.{RouterId}
 use Rattle.lsa_codec.specs.Spelling.{prefix_text}
-use Rattle.study_text.specs.Lists.{listed}
+use Rattle.study_text.specs.Lists.{lines_of, listed}
 use Rattle.study_text.specs.Shown.{Called, shown}
 use Rattle.route_lines.specs.declared.path_end.PathEnd.{PathEnd}
 use Rattle.route_lines.specs.declared.path_end.PathEnd.TheVariants.{Delivered, External, Blackhole, Loop}
@@ -12,7 +12,7 @@ use Rattle.route_lines.specs.declared.path_step.StepTarget.{StepTarget}
 use Rattle.route_lines.specs.declared.path_step.StepTarget.TheVariants as target
 use Rattle.route_lines.specs.declared.path_step.StepWay.{StepWay}
 use Rattle.route_lines.specs.PathLines.{PathValue}
-use Rattle.route_lines.specs.RouteTexts.{after_word, lines_of, out_text, source_text}
+use Rattle.route_lines.specs.RouteTexts.{address_after, out_text, source_text}
 
 -- ---- a router
 
@@ -20,7 +20,7 @@ use Rattle.route_lines.specs.RouteTexts.{after_word, lines_of, out_text, source_
 abbrev pub leading_text : Called → Option Addr → StepTarget → List ℕ
 leading_text called out (target.To router cost) = codes " -> " ++ shown called router ++ out_text out ++ codes " cost " ++ decimal cost
 leading_text called out target.Delivered = codes " delivered" ++ out_text out
-leading_text called out (target.External address) = codes " external" ++ out_text out ++ after_word (codes " to ") address
+leading_text called out (target.External address) = codes " external" ++ out_text out ++ address_after (codes " to ") address
 
 -- a way, and the route that it is of, up to its metric
 abbrev pub step_way_text : Called → StepWay → List ℕ

@@ -1,12 +1,12 @@
 -- The texts of routes.
-use Rattle.std.specs.Prelude.{ℕ, ◌==◌, if◌then◌else◌, List, [], ◌++◌, map, flat_map, Option, None, Some, codes, decimal}
+use Rattle.std.specs.Prelude.{ℕ, ◌==◌, if◌then◌else◌, List, [], ◌++◌, map, option_map, Option, None, Some, codes, decimal}
 use Rattle.lsa_codec.specs.declared.address.Addr.{Addr}
 use Rattle.lsa_codec.specs.declared.address.AreaId.{AreaId}
 use Rattle.lsa_codec.specs.Spelling.{address_text, prefix_text}
 use Rattle.study_words.specs.RouteKinds.{route_kind_text}
 use Rattle.study_words.specs.declared.route_kind.RouteKind.{RouteKind}
 use Rattle.study_words.specs.declared.route_kind.RouteKind.TheVariants.{Intra, Inter, External1, External2, Own}
-use Rattle.study_text.specs.Lists.{joined}
+use Rattle.study_text.specs.Lists.{after_word, joined, lines_of}
 use Rattle.study_text.specs.Shown.{Called, shown}
 use Rattle.route_lines.specs.declared.own_source.OwnSource.{OwnSource}
 use Rattle.route_lines.specs.declared.route_source.RouteSource.{RouteSource}
@@ -14,17 +14,12 @@ use Rattle.route_lines.specs.declared.route_way.WayTarget.{WayTarget}
 use Rattle.route_lines.specs.declared.route_way.WayTarget.TheVariants.{Via, Direct, Exit}
 use Rattle.route_lines.specs.RouteLines.{RouteLineValue, RouteWayValue, external_kind}
 
--- a line for each of some things
-abbrev pub lines_of : {X : Type 0} → (X → List ℕ) → List X → List ℕ
-lines_of text xs = flat_map (λ x. text x ++ codes "\n") xs
-
 -- an address after a word, if there is one
-abbrev pub after_word : List ℕ → Option Addr → List ℕ
-after_word word None = []
-after_word word (Some address) = word ++ address_text address.0
+abbrev pub address_after : List ℕ → Option Addr → List ℕ
+address_after word address = after_word word (option_map (λ a. address_text a.0) address)
 
 abbrev pub out_text : Option Addr → List ℕ
-out_text out = after_word (codes " out ") out
+out_text out = address_after (codes " out ") out
 
 -- ---- ways
 
@@ -35,7 +30,7 @@ addresses_text addresses = joined (codes "/") (map (λ address. address_text add
 abbrev pub target_text : Called → List Addr → WayTarget → List ℕ
 target_text called addresses (Via router) = codes "via " ++ shown called router ++ codes " " ++ addresses_text addresses
 target_text called addresses Direct = codes "direct"
-target_text called addresses (Exit address) = codes "exit" ++ after_word (codes " ") address
+target_text called addresses (Exit address) = codes "exit" ++ address_after (codes " ") address
 
 abbrev pub way_text : Called → RouteWayValue → List ℕ
 way_text called way = target_text called way.addresses way.target ++ out_text way.out
@@ -65,9 +60,9 @@ source_text source = source_by source source.own
 abbrev pub forward_text : Addr → List ℕ
 forward_text forward = if forward.0 == 0 then [] else codes " forward " ++ address_text forward.0
 
+-- the area, if there is one
 abbrev pub area_text : Option AreaId → List ℕ
-area_text None = []
-area_text (Some area) = codes " area " ++ address_text area.0
+area_text area = after_word (codes " area ") (option_map (λ a. address_text a.0) area)
 
 -- what follows the costs
 abbrev pub rest_by : Called → RouteLineValue → Option OwnSource → List ℕ

@@ -5,9 +5,6 @@
 //! database they are of.
 #![tactic(auto)]
 
-// Parts of texts.
-mod part;
-
 // Routes.
 mod own_source;
 mod route_line;
@@ -25,12 +22,11 @@ mod path_text;
 mod step_text;
 
 pub use own_source::OwnSource;
-pub use part::push_lines;
 pub use path::Path;
 pub use path_end::PathEnd;
 pub use path_loop::PathLoop;
 pub use path_step::{PathStep, StepTarget, StepWay};
-pub use path_text::{push_ends, push_path, push_through};
+pub use path_text::{push_ends, push_path};
 pub use route_line::RouteLine;
 pub use route_source::RouteSource;
 pub use route_text::{push_route, push_routes};

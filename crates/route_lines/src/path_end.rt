@@ -3,10 +3,9 @@
 ghost use Rattle.std.specs.Prelude.{◌≡◌};
 ghost use Rattle.route_lines.specs.PathTexts.{end_text};
 
-use crate::part::push_word;
 use network_names::Names;
 use std::alloc::{AllocError, Allocator};
-use study_text::Shown;
+use study_text::{Shown, push_word};
 
 /// How walks of a packet end.
 #[derive(Clone, Copy, Debug, PartialEq, Eq)]

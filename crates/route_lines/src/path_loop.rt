@@ -1,11 +1,10 @@
 //! Loops that paths reach.
 
-use crate::part::push_word;
 use lsa_codec::RouterId;
 use network_names::Names;
 use std::alloc::{AllocError, Allocator, Global};
 use std::marker::Model;
-use study_text::{Shown, push_list};
+use study_text::{Line, push_list, push_word};
 
 /// The routers of a loop, in rising order. Contracts see it as this list.
 #[derive(Drop)]
@@ -23,17 +22,18 @@ impl<A: Allocator> Model for PathLoop<A> {
     ghost view = { λ l. l.routers.items };
 }
 
-impl<A: Allocator + Copy> Shown for PathLoop<A> {
+impl<A: Allocator + Copy> Line for PathLoop<A> {
     ghost use Rattle.route_lines.specs.PathTexts.{loop_text};
 
-    ghost shown_as = { loop_text };
+    ghost line_as = { loop_text };
 
-    fn push_to<B: Allocator + Copy>(
+    fn push_line<B: Allocator + Copy>(
         &self,
         text: &mut Vec<u8, B>,
         names: &Names<'_, B>,
     ) -> Result<(), AllocError> {
         push_word(text, "loop ")?;
-        push_list(text, names, &self.routers)
+        push_list(text, names, &self.routers)?;
+        push_word(text, "\n")
     }
 }

@@ -1,4 +1,4 @@
-//! The texts of routes.
+//! The texts of routes. A route is shown without its prefix; its line begins with it.
 
 ghost use Rattle.std.specs.Prelude.{◌≡◌, ◌++◌, OnOk, codes, decimal};
 ghost use Rattle.network_names.specs.Names.{called};
@@ -7,14 +7,16 @@ ghost use Rattle.route_lines.specs.RouteLines.{external_kind};
 ghost use Rattle.route_lines.specs.RouteTexts.{area_text, forward_text, metric_text, rest_by, route_text, routes_text, source_text, ways_text};
 
 use crate::own_source::OwnSource;
-use crate::part::{push_address_after, push_lines, push_number_after, push_word};
 use crate::route_line::RouteLine;
 use crate::route_source::RouteSource;
 use crate::route_way::RouteWay;
 use lsa_codec::{Addr, AreaId};
 use network_names::Names;
 use std::alloc::{AllocError, Allocator};
-use study_text::{Shown, push_joined, push_prefix};
+use study_text::{
+    Line, Shown, push_address, push_after, push_joined, push_lines, push_number_after, push_prefix,
+    push_word,
+};
 use study_words::{RouteKind, Word};
 
 /// Adds the metric of a route of a kind that has one.
@@ -76,20 +78,8 @@ fn push_forward<A: Allocator + Copy>(text: &mut Vec<u8, A>, forward: Addr) -> Re
     if forward.0 == 0 {
         return Ok(());
     }
-    push_address_after(text, " forward ", forward)
-}
-
-/// Adds an area, if there is one.
-fn push_area<A: Allocator + Copy>(
-    text: &mut Vec<u8, A>,
-    area: Option<AreaId>,
-) -> Result<(), AllocError>
-    ensures { OnOk result (text.new.items ≡ text.old.items ++ area_text area) }
-{
-    match area {
-        Some(area) => push_address_after(text, " area ", Addr(area.0)),
-        None => Ok(()),
-    }
+    push_word(text, " forward ")?;
+    push_address(text, forward)
 }
 
 /// Adds the area and the ways of a route.
@@ -102,7 +92,7 @@ fn push_ways<A: Allocator + Copy, B: Allocator + Copy>(
     ensures { OnOk result (text.new.items ≡ text.old.items
         ++ (area_text area ++ codes " " ++ ways_text (called names.now) ways.now)) }
 {
-    push_area(text, area)?;
+    push_after(text, names, " area ", area.as_ref())?;
     push_word(text, " ")?;
     push_joined(text, names, ", ", ways)
 }
@@ -139,18 +129,33 @@ pub fn push_route<A: Allocator + Copy, B: Allocator + Copy>(
     push_rest(text, names, route)
 }
 
-impl<A: Allocator + Copy> Shown for RouteLine<A> {
+impl<A: Allocator + Copy> Line for RouteLine<A> {
     ghost use Rattle.route_lines.specs.RouteTexts.{route_line};
 
-    ghost shown_as = { route_line };
+    ghost line_as = { route_line };
 
-    fn push_to<B: Allocator + Copy>(
+    fn push_line<B: Allocator + Copy>(
         &self,
         text: &mut Vec<u8, B>,
         names: &Names<'_, B>,
     ) -> Result<(), AllocError> {
         push_prefix(text, self.net)?;
         push_word(text, " ")?;
+        push_route(text, names, self)?;
+        push_word(text, "\n")
+    }
+}
+
+impl<A: Allocator + Copy> Shown for RouteLine<A> {
+    ghost use Rattle.route_lines.specs.RouteTexts.{route_text};
+
+    ghost shown_as = { route_text };
+
+    fn push_to<B: Allocator + Copy>(
+        &self,
+        text: &mut Vec<u8, B>,
+        names: &Names<'_, B>,
+    ) -> Result<(), AllocError> {
         push_route(text, names, self)
     }
 }

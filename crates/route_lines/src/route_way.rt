@@ -24,7 +24,7 @@ pub struct RouteWay<A: Allocator = Global> {
     /// The interface of the router over which it leads, if there is one, by its address.
     pub out: Option<Addr>,
     /// The addresses of the neighbor's interface, in rising order: several where parallel links
-    /// cannot be told apart, and none where the way leads to no neighbor.
+    /// cannot be distinguished, and none where the way leads to no neighbor.
     pub addresses: Vec<Addr, A>,
 }
 

@@ -5,16 +5,15 @@ ghost use Rattle.lsa_codec.specs.Spelling.{prefix_text};
 ghost use Rattle.network_names.specs.Names.{called};
 ghost use Rattle.study_text.specs.Shown.{shown};
 ghost use Rattle.route_lines.specs.PathTexts.{leading_text, step_by, step_way_text};
-ghost use Rattle.route_lines.specs.RouteTexts.{after_word, out_text, source_text};
+ghost use Rattle.route_lines.specs.RouteTexts.{address_after, out_text, source_text};
 
-use crate::part::{push_after_word, push_number_after, push_word};
 use crate::path_step::{PathStep, StepTarget, StepWay};
 use crate::route_source::RouteSource;
 use crate::route_text::push_source;
 use lsa_codec::{Addr, Prefix, RouterId};
 use network_names::Names;
 use std::alloc::{AllocError, Allocator};
-use study_text::{Shown, push_prefix, push_router};
+use study_text::{Line, push_after, push_number_after, push_prefix, push_router, push_word};
 
 /// Adds the router that a way leads to, the interface, and the cost.
 fn push_to_router<A: Allocator + Copy>(
@@ -30,34 +29,36 @@ fn push_to_router<A: Allocator + Copy>(
 {
     push_word(text, " -> ")?;
     push_router(text, names, router)?;
-    push_after_word(text, " out ", out)?;
+    push_after(text, names, " out ", out.as_ref())?;
     push_number_after(text, " cost ", u64::from(cost))
 }
 
 /// Adds `delivered`, and the interface, if there is one.
 fn push_delivered<A: Allocator + Copy>(
     text: &mut Vec<u8, A>,
+    names: &Names<'_, A>,
     out: Option<Addr>,
 ) -> Result<(), AllocError>
     ensures { OnOk result
         (text.new.items ≡ text.old.items ++ (codes " delivered" ++ out_text out)) }
 {
     push_word(text, " delivered")?;
-    push_after_word(text, " out ", out)
+    push_after(text, names, " out ", out.as_ref())
 }
 
 /// Adds `external`, and the interface and the address, if they are known.
 fn push_external<A: Allocator + Copy>(
     text: &mut Vec<u8, A>,
+    names: &Names<'_, A>,
     out: Option<Addr>,
     address: Option<Addr>,
 ) -> Result<(), AllocError>
     ensures { OnOk result (text.new.items ≡ text.old.items
-        ++ (codes " external" ++ out_text out ++ after_word (codes " to ") address)) }
+        ++ (codes " external" ++ out_text out ++ address_after (codes " to ") address)) }
 {
     push_word(text, " external")?;
-    push_after_word(text, " out ", out)?;
-    push_after_word(text, " to ", address)
+    push_after(text, names, " out ", out.as_ref())?;
+    push_after(text, names, " to ", address.as_ref())
 }
 
 /// Adds where a way leads, out of this interface.
@@ -72,8 +73,8 @@ fn push_leading<A: Allocator + Copy>(
 {
     match target {
         StepTarget::To(router, cost) => push_to_router(text, names, router, out, cost),
-        StepTarget::Delivered => push_delivered(text, out),
-        StepTarget::External(address) => push_external(text, out, address),
+        StepTarget::Delivered => push_delivered(text, names, out),
+        StepTarget::External(address) => push_external(text, names, out, address),
     }
 }
 
@@ -119,17 +120,18 @@ fn push_doing<A: Allocator + Copy>(
     }
 }
 
-impl Shown for PathStep {
+impl Line for PathStep {
     ghost use Rattle.route_lines.specs.PathTexts.{step_text};
 
-    ghost shown_as = { step_text };
+    ghost line_as = { step_text };
 
-    fn push_to<A: Allocator + Copy>(
+    fn push_line<A: Allocator + Copy>(
         &self,
         text: &mut Vec<u8, A>,
         names: &Names<'_, A>,
     ) -> Result<(), AllocError> {
         push_router(text, names, self.router)?;
-        push_doing(text, names, self.way)
+        push_doing(text, names, self.way)?;
+        push_word(text, "\n")
     }
 }

@@ -3,14 +3,13 @@
 ghost use Rattle.std.specs.Prelude.{◌≡◌, ◌++◌, OnOk, codes};
 ghost use Rattle.network_names.specs.Names.{called};
 ghost use Rattle.study_text.specs.Shown.{shown};
-ghost use Rattle.route_lines.specs.RouteTexts.{addresses_text, after_word, target_text, way_text};
+ghost use Rattle.route_lines.specs.RouteTexts.{address_after, addresses_text, target_text, way_text};
 
-use crate::part::{push_after_word, push_word};
 use crate::route_way::{RouteWay, WayTarget};
 use lsa_codec::{Addr, RouterId};
 use network_names::Names;
 use std::alloc::{AllocError, Allocator};
-use study_text::{Shown, push_joined, push_router};
+use study_text::{Shown, push_after, push_joined, push_router, push_word};
 
 /// Adds `via`, a neighbor, and the addresses of its interface.
 fn push_via<A: Allocator + Copy>(
@@ -32,13 +31,14 @@ fn push_via<A: Allocator + Copy>(
 /// Adds `exit`, and the address that the way leads to, if it is known.
 fn push_exit<A: Allocator + Copy>(
     text: &mut Vec<u8, A>,
+    names: &Names<'_, A>,
     address: Option<Addr>,
 ) -> Result<(), AllocError>
     ensures { OnOk result
-        (text.new.items ≡ text.old.items ++ (codes "exit" ++ after_word (codes " ") address)) }
+        (text.new.items ≡ text.old.items ++ (codes "exit" ++ address_after (codes " ") address)) }
 {
     push_word(text, "exit")?;
-    push_after_word(text, " ", address)
+    push_after(text, names, " ", address.as_ref())
 }
 
 /// Adds where a way leads, to a neighbor with these addresses.
@@ -54,7 +54,7 @@ fn push_target<A: Allocator + Copy>(
     match target {
         WayTarget::Via(router) => push_via(text, names, router, addresses),
         WayTarget::Direct => push_word(text, "direct"),
-        WayTarget::Exit(address) => push_exit(text, address),
+        WayTarget::Exit(address) => push_exit(text, names, address),
     }
 }
 
@@ -69,6 +69,6 @@ impl<A: Allocator> Shown for RouteWay<A> {
         names: &Names<'_, B>,
     ) -> Result<(), AllocError> {
         push_target(text, names, &self.addresses, self.target)?;
-        push_after_word(text, " out ", self.out)
+        push_after(text, names, " out ", self.out.as_ref())
     }
 }

@@ -1,5 +1,5 @@
 -- What a router uses for prefixes and addresses, as studies show it.
-use Rattle.std.specs.Prelude.{Bool, true, false, if◌then◌else◌, List, [], map, Option, None, Some}
+use Rattle.std.specs.Prelude.{if◌then◌else◌, List, [], map, Option, None, Some}
 use Rattle.std.specs.List.{cons_option, filter_map}
 use Rattle.std.specs.Option.{option_map}
 use Rattle.lsa_codec.specs.Order.{prefix_cmp}

@@ -1,5 +1,5 @@
 -- What a router does with a packet, by one of its ways.
-use Rattle.std.specs.Prelude.{ℕ, Option, None, Some}
+use Rattle.std.specs.Prelude.{ℕ, None, Some}
 use Rattle.lsa_codec.specs.Prefix.{Net}
 use Rattle.lsa_codec.specs.declared.address.RouterId.{RouterId}
 use Rattle.lsdb.specs.Lists.{Lists}
@@ -11,14 +11,15 @@ use Rattle.route_lines.specs.declared.path_step.PathStep.{PathStep}
 use Rattle.route_lines.specs.declared.path_step.StepTarget.{StepTarget}
 use Rattle.route_lines.specs.declared.path_step.StepTarget.TheVariants.{To, Delivered, External}
 use Rattle.route_lines.specs.declared.route_source.RouteSource.{RouteSource}
-use Rattle.route_report.specs.declared.sought.Sought.TheVariants.{Links, Nets}
+use Rattle.route_report.specs.declared.sought.Side.TheVariants.{Near}
+use Rattle.route_report.specs.declared.sought.Sought.TheVariants.{Ends, Nets}
 use Rattle.route_report.specs.LinksOver.{least_cost, sought}
 use Rattle.route_report.specs.Ways.{gateway_of, interface_of, leg}
 
 -- the least cost of the links that lead over a hop to a neighbor, or to the network
 abbrev pub cost_over : Lists → RouterId → RouterId → Hop → ℕ
 cost_over db router neighbor Connected = 0
-cost_over db router neighbor (Link interface) = least_cost (sought db (Links (leg router interface neighbor)))
+cost_over db router neighbor (Link interface) = least_cost (sought db (Ends (leg router interface neighbor) Near))
 cost_over db router neighbor (Attached interface) = 0
 cost_over db router neighbor (Gateway interface address) = least_cost (sought db (Nets router interface))
 

@@ -1,16 +1,15 @@
 //! The links that ways lead over, and the interfaces at their other ends.
 
-ghost use Rattle.std.specs.Prelude.{◌≡◌, ◌++◌, ℕ, List, filter, IfOk, OnOk};
+ghost use Rattle.std.specs.Prelude.{◌≡◌, filter, IfOk};
 ghost use Rattle.std.specs.List.{flat_map};
 ghost use Rattle.area_graph.specs.Area.{used};
 ghost use Rattle.lsdb.specs.Slots.{lists_of};
 ghost use Rattle.lsdb.specs.declared.section.Section.TheVariants.{Area as InArea};
 ghost use Rattle.lsdb.specs.Lists.{lsas_of};
-ghost use Rattle.interfaces.specs.FarEnds.{far_ends_in};
 ghost use Rattle.interfaces.specs.Routers.{interfaces_in};
-ghost use Rattle.route_report.specs.LinksOver.{far_addresses, has_far_end, is_listed, is_net_over, leads_over, least_cost, links_over, sought, sought_in};
+ghost use Rattle.route_report.specs.LinksOver.{ends_on, far_addresses, is_listed, is_net_over, leads_over, least_cost, links_over, sought, sought_in};
 
-use crate::sought::{Leg, Sought};
+use crate::sought::{Leg, Side, Sought};
 use area_graph::{VertexLsa, used_lsas};
 use interfaces::{
     Interface, addrs_of, costs_back, far_ends_in, interfaces_in, lists_router, network_lsa_in,
@@ -44,57 +43,45 @@ fn links_over<A: Allocator + Copy>(
         .collect(alloc)
 }
 
-/// The far ends of some links of a router in an area.
+/// The interfaces on a side of a link of a router in an area. Where no neighbor links back, there is
+/// none.
+fn ends_on<A: Allocator + Copy>(
+    alloc: A,
+    database: &Database<A>,
+    side: Side,
+    router: RouterId,
+    area: AreaId,
+    own: Interface,
+) -> Result<Vec<Interface, A>, AllocError>
+    ensures { IfOk result
+        (λ ends. ends.items ≡ ends_on (lists_of database.now) side router area own) }
+{
+    let ends = far_ends_in(alloc, database, area, router, own)?;
+    match side {
+        Side::Far => Ok(ends),
+        Side::Near if ends.is_empty() => Ok(Vec::new(alloc)),
+        Side::Near => Ok(Vec::from_array(alloc, [own])?),
+    }
+}
+
+/// The interfaces on a side of each of some links of a router in an area.
 fn ends_of<A: Allocator + Copy>(
     alloc: A,
     database: &Database<A>,
+    side: Side,
     router: RouterId,
     area: AreaId,
     links: &[Interface],
 ) -> Result<Vec<Interface, A>, AllocError>
     ensures { IfOk result (λ ends. ends.items
-        ≡ flat_map (far_ends_in (lists_of database.now) area router) links.now) }
+        ≡ flat_map (ends_on (lists_of database.now) side router area) links.now) }
 {
     let mut ends = Vec::new(alloc);
     for own in links {
-        let mut more = far_ends_in(alloc, database, area, router, *own)?;
+        let mut more = ends_on(alloc, database, side, router, area, *own)?;
         ends.append(&mut more)?;
     }
     Ok(ends)
-}
-
-/// Whether a neighbor links back.
-fn has_far_end<A: Allocator + Copy>(
-    alloc: A,
-    database: &Database<A>,
-    router: RouterId,
-    area: AreaId,
-    own: Interface,
-) -> Result<bool, AllocError>
-    ensures { IfOk result (λ has. has ≡ has_far_end (lists_of database.now) router area own) }
-{
-    let ends = far_ends_in(alloc, database, area, router, own)?;
-    Ok(!ends.is_empty())
-}
-
-/// Those of some links of a router in an area to which the neighbor links back.
-fn edges_of<A: Allocator + Copy>(
-    alloc: A,
-    database: &Database<A>,
-    router: RouterId,
-    area: AreaId,
-    links: &[Interface],
-) -> Result<Vec<Interface, A>, AllocError>
-    ensures { IfOk result (λ edges. edges.items
-        ≡ filter (has_far_end (lists_of database.now) router area) links.now) }
-{
-    let mut edges = Vec::new(alloc);
-    for own in links {
-        if has_far_end(alloc, database, router, area, *own)? {
-            edges.push(*own)?;
-        }
-    }
-    Ok(edges)
 }
 
 /// Whether the network-LSA of a network, among the LSAs in use of an area, lists a router.
@@ -158,13 +145,9 @@ fn sought_in<A: Allocator + Copy>(
     ensures { IfOk result (λ found. found.items ≡ sought_in (lists_of database.now) what area) }
 {
     match what {
-        Sought::FarEnds(leg) => {
+        Sought::Ends(leg, side) => {
             let links = links_over(alloc, database, leg, area)?;
-            ends_of(alloc, database, leg.router, area, &links)
-        }
-        Sought::Links(leg) => {
-            let links = links_over(alloc, database, leg, area)?;
-            edges_of(alloc, database, leg.router, area, &links)
+            ends_of(alloc, database, side, leg.router, area, &links)
         }
         Sought::Nets(router, interface) => nets_over(alloc, database, router, interface, area),
     }
@@ -195,7 +178,7 @@ pub(crate) fn far_addresses<A: Allocator + Copy>(
 ) -> Result<Vec<Addr, A>, AllocError>
     ensures { IfOk result (λ addrs. addrs.items ≡ far_addresses (lists_of database.now) leg) }
 {
-    let ends = sought(alloc, database, Sought::FarEnds(leg))?;
+    let ends = sought(alloc, database, Sought::Ends(leg, Side::Far))?;
     addrs_of(alloc, &ends)
 }
 

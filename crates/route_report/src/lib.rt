@@ -23,7 +23,7 @@ mod passing;
 mod path_condition;
 mod route_condition;
 
-pub use line::{route_line, route_line_at};
+pub use line::route_line;
 pub use path::path_of;
 pub use path_condition::path_holds;
 pub use route_condition::{has_route, hops_of, meets, push_found_route};

@@ -1,14 +1,14 @@
-//! What a router uses for a prefix or an address, as studies show it.
+//! What a router uses for a prefix, as studies show it.
 
 ghost use Rattle.std.specs.Prelude.{◌≡◌, IfOk, option_map};
 ghost use Rattle.lsdb.specs.Slots.{lists_of};
 ghost use Rattle.forwarding.specs.Owners.{AreGraphsOf};
 ghost use Rattle.router_entries.specs.Entries.{is_own_external};
-ghost use Rattle.route_report.specs.Lines.{announced_by, line_at, line_by, line_for, line_of, own_source, source_of};
+ghost use Rattle.route_report.specs.Lines.{announced_by, line_by, line_for, line_of, own_source, source_of};
 
 use crate::way::ways_over;
 use forwarding::{AreaGraphs, Match, RouterRoutes};
-use lsa_codec::{Addr, Prefix, RouterId};
+use lsa_codec::{Prefix, RouterId};
 use lsdb::Database;
 use route_lines::{OwnSource, RouteLine, RouteSource};
 use router_entries::{Entries, Entry, OwnExternal, own_external_for};
@@ -90,7 +90,7 @@ fn line_of<A: Allocator + Copy>(
 }
 
 /// The entry of a router with the ways of its match, if there is a match.
-fn line_by<A: Allocator + Copy>(
+pub(crate) fn line_by<A: Allocator + Copy>(
     alloc: A,
     database: &Database<A>,
     routes: &RouterRoutes<A>,
@@ -126,25 +126,5 @@ pub fn route_line<A: Allocator + Copy>(
         → line ≡ line_for (lists_of database.now) routes.now net) }
 {
     let found = routes.entry_for(alloc, graphs, net)?;
-    line_by(alloc, database, routes, found.as_ref())
-}
-
-/// What a router uses for an address: its entry for the longest prefix that covers the address, if
-/// there is one (RFC 2328, 11.1). The graphs are those of the areas of the database.
-///
-/// # Errors
-///
-/// Memory ran out.
-pub fn route_line_at<A: Allocator + Copy>(
-    alloc: A,
-    database: &Database<A>,
-    graphs: &AreaGraphs<A>,
-    routes: &RouterRoutes<A>,
-    address: Addr,
-) -> Result<Option<RouteLine<A>>, AllocError>
-    ensures { IfOk result (λ line. AreGraphsOf (lists_of database.now) graphs.now
-        → line ≡ line_at (lists_of database.now) routes.now address) }
-{
-    let found = routes.match_of(alloc, graphs, address)?;
     line_by(alloc, database, routes, found.as_ref())
 }

@@ -1,12 +1,12 @@
 //! The answer of `routes`.
 
-ghost use Rattle.std.specs.Prelude.{◌≡◌, ◌++◌, [], IfOk, OnOk, Some};
+ghost use Rattle.std.specs.Prelude.{◌≡◌, [], IfOk, Some};
 ghost use Rattle.std.specs.List.{cons_option, filter_map};
 ghost use Rattle.lsdb.specs.Slots.{lists_of};
 ghost use Rattle.forwarding.specs.Owners.{AreGraphsOf};
 ghost use Rattle.route_report.specs.Lines.{answered, line_for, lines_of, route_of, routes_of};
 
-use crate::line::{route_line, route_line_at};
+use crate::line::{line_by, route_line};
 use forwarding::{AreaGraphs, RouterRoutes};
 use lsa_codec::{Addr, Prefix, RouterId};
 use lsdb::Database;
@@ -15,17 +15,18 @@ use router_entries::Entries;
 use spf::Meter;
 use std::alloc::{AllocError, Allocator};
 
-/// Adds a line, if there is one.
-fn push_some<A: Allocator + Copy>(
-    lines: &mut Vec<RouteLine<A>, A>,
+/// A line as a list, if there is one.
+fn listed<A: Allocator + Copy>(
+    alloc: A,
     line: Option<RouteLine<A>>,
-) -> Result<(), AllocError>
-    ensures { OnOk result (lines.new.items ≡ lines.old.items ++ cons_option line []) }
+) -> Result<Vec<RouteLine<A>, A>, AllocError>
+    ensures { IfOk result (λ lines. lines.items ≡ cons_option line []) }
 {
+    let mut lines = Vec::new(alloc);
     if let Some(line) = line {
         lines.push(line)?;
     }
-    Ok(())
+    Ok(lines)
 }
 
 /// What a router uses for each of some prefixes for which it has entries.
@@ -42,7 +43,8 @@ fn lines_for<A: Allocator + Copy>(
     let mut lines = Vec::new(alloc);
     for net in nets {
         let line = route_line(alloc, database, graphs, routes, *net)?;
-        push_some(&mut lines, line)?;
+        let mut found = listed(alloc, line)?;
+        lines.append(&mut found)?;
     }
     Ok(lines)
 }
@@ -61,7 +63,8 @@ fn all_lines<A: Allocator + Copy>(
     lines_for(alloc, database, graphs, routes, &nets)
 }
 
-/// What a router uses for an address, as a list.
+/// What a router uses for an address, as a list: its entry for the longest prefix that covers the
+/// address, if there is one (RFC 2328, 11.1).
 fn matched<A: Allocator + Copy>(
     alloc: A,
     database: &Database<A>,
@@ -72,10 +75,9 @@ fn matched<A: Allocator + Copy>(
     ensures { IfOk result (λ lines. AreGraphsOf (lists_of database.now) graphs.now
         → lines.items ≡ answered (lists_of database.now) routes.now (Some address)) }
 {
-    let mut lines = Vec::new(alloc);
-    let line = route_line_at(alloc, database, graphs, routes, address)?;
-    push_some(&mut lines, line)?;
-    Ok(lines)
+    let found = routes.match_of(alloc, graphs, address)?;
+    let line = line_by(alloc, database, routes, found.as_ref())?;
+    listed(alloc, line)
 }
 
 /// The answer of `routes`: what a router uses, in order of prefix, or, where an address is given,

@@ -13,13 +13,20 @@ pub struct Leg {
     pub neighbor: RouterId,
 }
 
+/// A side of a link.
+#[derive(Clone, Copy, Debug, PartialEq, Eq)]
+pub enum Side {
+    /// That of the router: the interface of the link, if the neighbor has a link back.
+    Near,
+    /// That of the neighbor: the interfaces of its links back.
+    Far,
+}
+
 /// What is sought in all areas.
 #[derive(Clone, Copy, Debug, PartialEq, Eq)]
 pub enum Sought {
-    /// The far ends of the point-to-point links of a leg.
-    FarEnds(Leg),
-    /// The point-to-point links of a leg to which the neighbor has a link back.
-    Links(Leg),
+    /// The interfaces on a side of the point-to-point links of a leg.
+    Ends(Leg, Side),
     /// The links of an interface of a router to transit networks that list the router.
     Nets(RouterId, Addr),
 }

@@ -5,7 +5,7 @@ ghost use Rattle.lsdb.specs.Slots.{lists_of};
 ghost use Rattle.route_report.specs.StepsOver.{cost_over, hop_of, step_down, step_out, step_over, step_target};
 
 use crate::found::least_cost;
-use crate::sought::{Leg, Sought};
+use crate::sought::{Leg, Side, Sought};
 use crate::way::{gateway_of, interface_of};
 use forwarding::Way;
 use lsa_codec::{Prefix, RouterId};
@@ -31,7 +31,7 @@ fn cost_over<A: Allocator + Copy>(
                 interface,
                 neighbor,
             };
-            least_cost(alloc, database, Sought::Links(leg))
+            least_cost(alloc, database, Sought::Ends(leg, Side::Near))
         }
         Hop::Gateway(interface, _) => least_cost(alloc, database, Sought::Nets(router, interface)),
         Hop::Connected | Hop::Attached(_) => Ok(0),

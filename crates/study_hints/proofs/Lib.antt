@@ -3,3 +3,4 @@ pub mod Nearest
 pub mod Pieces
 pub mod Slash
 pub mod Roles
+pub mod FirstWords

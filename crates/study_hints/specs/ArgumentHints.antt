@@ -13,7 +13,7 @@ use Rattle.study_hints.specs.declared.role.Role.{Role}
 use Rattle.study_hints.specs.declared.role.Role.TheVariants as role
 use Rattle.study_hints.specs.Help.{command_texts}
 use Rattle.study_hints.specs.Near.{near}
-use Rattle.study_hints.specs.Roles.{fits, role_text}
+use Rattle.study_hints.specs.Roles.{fits}
 
 -- the word that is most like it, or else something more general
 abbrev pub or_near : Option Word → List ℕ → List ℕ
@@ -51,20 +51,21 @@ prefix_hint word = or_prefix (without_host_bits word)
 
 -- ---- numbers
 
--- the least number of a role, and the greatest
-abbrev pub least_of : Role → ℕ
-least_of role.MetricType = 1
-least_of _ = 0
+-- the name of a role for numbers as lines of help have it, the least of these numbers, and the greatest
+abbrev pub range_of : Role → List ℕ × ℕ × ℕ
+range_of role.Link = (codes "LINK", 0, 65535)
+range_of role.Cost = (codes "METRIC", 0, 65535)
+range_of role.Metric = (codes "METRIC", 0, 16777215)
+range_of role.MetricType = (codes "TYPE", 1, 2)
+range_of role.Tag = (codes "TAG", 0, 4294967295)
+range_of role.Count = (codes "COUNT", 0, 4294967295)
+range_of _ = (codes "NUMBER", 0, 4294967295)
 
-abbrev pub greatest_of : Role → ℕ
-greatest_of role.Link = 65535
-greatest_of role.Cost = 65535
-greatest_of role.Metric = 16777215
-greatest_of role.MetricType = 2
-greatest_of _ = 4294967295
+abbrev pub range_text : List ℕ × ℕ × ℕ → List ℕ
+range_text (name, least, greatest) = name ++ codes " is " ++ decimal least ++ codes " to " ++ decimal greatest
 
 abbrev pub range_hint : Role → List ℕ
-range_hint role = role_text role ++ codes " is " ++ decimal (least_of role) ++ codes " to " ++ decimal (greatest_of role)
+range_hint role = range_text (range_of role)
 
 -- ---- a word in its role
 

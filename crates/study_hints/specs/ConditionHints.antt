@@ -3,9 +3,11 @@ use Rattle.std.specs.Prelude.{ℕ, List, [], ◌∷◌, ◌++◌, map, flat_map,
 use Rattle.std.specs.Borrow.{Bor}
 use Rattle.std.specs.Option.{is_some}
 use Rattle.text_words.specs.Words.{Word}
+use Rattle.edit_script.specs.Words.{words}
 use Rattle.edit_script.specs.declared.fault.ScriptFault.TheVariants as script
 use Rattle.study_arguments.specs.declared.fault.FaultKind.{FaultKind}
 use Rattle.study_arguments.specs.declared.fault.FaultKind.TheVariants.{Script, BadWord}
+use Rattle.study_arguments.specs.declared.position.Position.{Position}
 use Rattle.study_words.specs.declared.condition_word.ConditionWord.{ConditionWord}
 use Rattle.study_words.specs.declared.condition_word.ConditionWord.TheVariants as condition
 use Rattle.study_words.specs.declared.study_word.StudyWord.TheVariants.{Expect}
@@ -16,6 +18,11 @@ use Rattle.study_hints.specs.declared.role.Role.TheVariants as role
 use Rattle.study_hints.specs.ArgumentHints.{name_hint, or_near, prefix_hint, range_hint}
 use Rattle.study_hints.specs.Grammar.{command_text, expectation_text}
 use Rattle.study_hints.specs.Near.{near}
+
+-- the words from a place on; none where there is no place
+abbrev pub words_from : Option Position → List Word
+words_from None = []
+words_from (Some at) = at.word.now ∷ words at.rest.now
 
 -- ---- the words that may stand at a place
 
@@ -96,8 +103,11 @@ abbrev pub at_condition : List Word → List Word → FaultKind → Word → Lis
 at_condition known [] kind word = command_text Expect
 at_condition known (first ∷ words) kind word = known_condition known (condition_word_of first) words kind word
 
+-- the words after `expect`, or after `not` where it follows
+abbrev pub condition_at : List Word → List Word
+condition_at [] = []
+condition_at (first ∷ words) = if bytes_eq first (codes "not") then words else first ∷ words
+
 -- the words after `expect`
 unfoldable pub expectation_hint : List Word → List Word → FaultKind → Word → List ℕ
-expectation_hint known [] kind word = command_text Expect
-expectation_hint known (first ∷ words) kind word =
-    if bytes_eq first (codes "not") then at_condition known words kind word else at_condition known (first ∷ words) kind word
+expectation_hint known words kind word = at_condition known (condition_at words) kind word

@@ -37,10 +37,11 @@ abbrev pub hint_at : Lookup → List Word → List Word → FaultKind → Word �
 hint_at names known [] kind word = codes "a word follows the branch"
 hint_at names known (first ∷ words) kind word = command_hint names known (study_word_of first) words kind word
 
--- what would have been right in a line of these words, by its first fault; names are listed as they are known
+-- what would have been right in a line, by its words from the command word on and its first fault; names are listed as they
+-- are known
 unfoldable pub hint : Lookup → List Word → List Word → FaultAt → List ℕ
 hint names known words (Script script.BadBranch, word) = codes "branches are @0 to @7"
-hint names known words (kind, word) = hint_at names known (command_at words) kind word
+hint names known words (kind, word) = hint_at names known words kind word
 
 -- a fault: `script CODE NAME WORD`
 abbrev pub kind_text : FaultAt → List ℕ
@@ -48,4 +49,4 @@ kind_text fault = codes "script " ++ code_of fault.0 ++ codes " " ++ name_of fau
 
 -- a fault as it is printed: `script CODE NAME WORD (HINT)`
 abbrev pub fault_text : Lookup → List Word → List Word → FaultAt → List ℕ
-fault_text names known words fault = kind_text fault ++ codes " (" ++ hint names known words fault ++ codes ")"
+fault_text names known words fault = kind_text fault ++ codes " (" ++ hint names known (command_at words) fault ++ codes ")"

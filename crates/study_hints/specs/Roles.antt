@@ -1,27 +1,10 @@
 -- What a word of a line is to be: its role, and whether it fits.
-use Rattle.std.specs.Prelude.{ℕ, Bool, List, codes}
+use Rattle.std.specs.Prelude.{Bool}
 use Rattle.std.specs.Result.{is_ok}
 use Rattle.text_words.specs.Words.{Word}
 use Rattle.study_arguments.specs.Values.{Lookup, addr, area_id, dotted, link, metric24, metric_type, number16, number32, prefix, router_id, study_word}
 use Rattle.study_hints.specs.declared.role.Role.{Role}
 use Rattle.study_hints.specs.declared.role.Role.TheVariants as role
-
--- as lines of help name it
-abbrev pub role_text : Role → List ℕ
-role_text role.Area = codes "AREA"
-role_text role.Router = codes "ROUTER"
-role_text role.Neighbor = codes "NEIGHBOR"
-role_text role.Link = codes "LINK"
-role_text role.Address = codes "ADDRESS"
-role_text role.Prefix = codes "PREFIX"
-role_text role.Cost = codes "METRIC"
-role_text role.Metric = codes "METRIC"
-role_text role.MetricType = codes "TYPE"
-role_text role.Forward = codes "FORWARD"
-role_text role.Tag = codes "TAG"
-role_text role.Count = codes "COUNT"
-role_text role.Number = codes "NUMBER"
-role_text role.Word = codes "WORD"
 
 -- whether a word may stand in this role
 abbrev pub fits : Lookup → Role → Word → Bool

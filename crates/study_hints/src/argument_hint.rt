@@ -5,7 +5,7 @@ ghost use Rattle.std.specs.List.{slice_split};
 ghost use Rattle.edit_script.specs.Arguments.{two_parts};
 ghost use Rattle.edit_script.specs.Words.{words};
 ghost use Rattle.network_names.specs.Names.{stands_for};
-ghost use Rattle.study_hints.specs.ArgumentHints.{argument_hint, first_hint, greatest_of, least_of, name_hint, or_near, prefix_hint, range_hint, without_host_bits};
+ghost use Rattle.study_hints.specs.ArgumentHints.{argument_hint, first_hint, name_hint, or_near, prefix_hint, range_hint, range_of, without_host_bits};
 ghost use Rattle.study_hints.specs.Near.{near};
 
 use crate::help::commands;
@@ -96,25 +96,19 @@ pub(crate) fn push_prefix_hint<A: Allocator + Copy>(
     push_prefix(text, net)
 }
 
-/// The least number of a role.
-fn least_of(role: Role) -> u64
-    ensures { result ≡ least_of role }
+/// The name of a role for numbers as lines of help have it, the least of these numbers, and the
+/// greatest.
+fn range_of(role: Role) -> (&'static str, u64, u64)
+    ensures { (result.0.now, result.1, result.2) ≡ range_of role }
 {
     match role {
-        Role::MetricType => 1,
-        _ => 0,
-    }
-}
-
-/// The greatest number of a role.
-fn greatest_of(role: Role) -> u64
-    ensures { result ≡ greatest_of role }
-{
-    match role {
-        Role::Link | Role::Cost => 65_535,
-        Role::Metric => 16_777_215,
-        Role::MetricType => 2,
-        _ => 4_294_967_295,
+        Role::Link => ("LINK", 0, 65_535),
+        Role::Cost => ("METRIC", 0, 65_535),
+        Role::Metric => ("METRIC", 0, 16_777_215),
+        Role::MetricType => ("TYPE", 1, 2),
+        Role::Tag => ("TAG", 0, 4_294_967_295),
+        Role::Count => ("COUNT", 0, 4_294_967_295),
+        _ => ("NUMBER", 0, 4_294_967_295),
     }
 }
 
@@ -125,11 +119,12 @@ pub(crate) fn push_range<A: Allocator + Copy>(
 ) -> Result<(), AllocError>
     ensures { OnOk result (text.new.items ≡ text.old.items ++ range_hint role) }
 {
-    text.extend_from_slice(role.text().as_bytes())?;
+    let (name, least, greatest) = range_of(role);
+    text.extend_from_slice(name.as_bytes())?;
     text.extend_from_slice(b" is ")?;
-    push_number(text, least_of(role))?;
+    push_number(text, least)?;
     text.extend_from_slice(b" to ")?;
-    push_number(text, greatest_of(role))
+    push_number(text, greatest)
 }
 
 /// Adds what would have been right in place of a word that does not fit its role.

@@ -3,7 +3,7 @@
 ghost use Rattle.std.specs.Prelude.{◌≡◌, ◌++◌, OnOk, drop, flat_map, map};
 ghost use Rattle.edit_script.specs.Words.{words};
 ghost use Rattle.study_arguments.specs.Fault.{fault_at};
-ghost use Rattle.study_hints.specs.ConditionHints.{after_space, allowed, at_condition, at_cost, at_kind, at_via, condition_hint, condition_texts, expectation_hint, number_role, one_of, texts};
+ghost use Rattle.study_hints.specs.ConditionHints.{after_space, allowed, at_cost, at_kind, at_via, condition_at, condition_hint, condition_texts, expectation_hint, number_role, one_of, texts, words_from};
 ghost use Rattle.study_hints.specs.ArgumentHints.{or_near};
 ghost use Rattle.study_hints.specs.Near.{near};
 
@@ -13,7 +13,7 @@ use crate::near::{Candidate, nearest};
 use crate::role::Role;
 use edit_script::ScriptFault;
 use std::alloc::{AllocError, Allocator};
-use study_arguments::{Fault, FaultKind, first_word};
+use study_arguments::{Fault, FaultKind, Position, first_word};
 use study_words::{ConditionWord, RouteKind, StudyWord, Word};
 
 // ---- the words that may stand at a place
@@ -162,24 +162,16 @@ fn push_condition_like<A: Allocator + Copy>(
     text.extend_from_slice(found.bytes())
 }
 
-/// Adds the hint for a fault from the word of a condition on.
-fn push_at_condition<A: Allocator + Copy>(
-    text: &mut Vec<u8, A>,
-    known: &[&[u8]],
-    line: &[u8],
-    fault: &Fault<'_>,
-) -> Result<(), AllocError>
-    ensures { OnOk result (text.new.items ≡ text.old.items
-        ++ at_condition (map (λ name. name.now) known.now) (words line.now)
-        (fault_at fault.now).0 (fault_at fault.now).1) }
+/// The place of the word of a condition, before which `not` may stand.
+#[tactic(auto, using(crate::proofs::FirstWords::words_from_first))]
+fn condition_at(line: &[u8]) -> Option<Position<'_>>
+    ensures { words_from result ≡ condition_at (words line.now) }
 {
-    let Some(at) = first_word(line) else {
-        return text.extend_from_slice(command_text(StudyWord::Expect).as_bytes());
-    };
-    match ConditionWord::of(at.word) {
-        Some(word) => push_condition_hint(text, known, word, at.rest, fault),
-        None => push_condition_like(text, fault.word),
+    let at = first_word(line)?;
+    if at.word == b"not".as_slice() {
+        return first_word(at.rest);
     }
+    Some(at)
 }
 
 /// Adds the hint for a fault after `expect`.
@@ -194,8 +186,11 @@ pub(crate) fn push_expectation_hint<A: Allocator + Copy>(
         ++ expectation_hint (map (λ name. name.now) known.now) (words line.now)
         (fault_at fault.now).0 (fault_at fault.now).1) }
 {
-    match first_word(line) {
-        Some(at) if at.word == b"not".as_slice() => push_at_condition(text, known, at.rest, fault),
-        _ => push_at_condition(text, known, line, fault),
+    let Some(at) = condition_at(line) else {
+        return text.extend_from_slice(command_text(StudyWord::Expect).as_bytes());
+    };
+    match ConditionWord::of(at.word) {
+        Some(word) => push_condition_hint(text, known, word, at.rest, fault),
+        None => push_condition_like(text, fault.word),
     }
 }

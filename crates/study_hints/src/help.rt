@@ -1,6 +1,6 @@
 //! The lines of `help`.
 
-ghost use Rattle.std.specs.Prelude.{◌≡◌, ◌++◌, OnOk, codes, flat_map, length, map};
+ghost use Rattle.std.specs.Prelude.{◌≡◌, ◌++◌, OnOk, flat_map, length, map};
 ghost use Rattle.study_words.specs.declared.study_word.StudyWord.TheVariants.{Plan, See};
 ghost use Rattle.study_hints.specs.Help.{command_line, command_meaning, commands, condition_lines, conditions_after, help_lines, with_end};
 ghost use Rattle.study_hints.specs.Grammar.{expectation_text};

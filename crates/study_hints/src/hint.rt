@@ -4,7 +4,8 @@ ghost use Rattle.std.specs.Prelude.{◌≡◌, ◌++◌, OnOk, map};
 ghost use Rattle.edit_script.specs.Words.{words};
 ghost use Rattle.network_names.specs.Names.{stands_for};
 ghost use Rattle.study_arguments.specs.Fault.{fault_at};
-ghost use Rattle.study_hints.specs.Hints.{arguments_hint, command_at, command_hint, fault_text, hint, hint_at, kind_text};
+ghost use Rattle.study_hints.specs.ConditionHints.{words_from};
+ghost use Rattle.study_hints.specs.Hints.{arguments_hint, command_at, command_hint, fault_text, hint, kind_text};
 
 use crate::argument_hint::{push_first_hint, push_near};
 use crate::condition_hint::push_expectation_hint;
@@ -14,17 +15,19 @@ use crate::help::commands;
 use edit_script::ScriptFault;
 use network_names::Names;
 use std::alloc::{AllocError, Allocator};
-use study_arguments::{Fault, FaultKind, first_word};
+use study_arguments::{Fault, FaultKind, Position, first_word};
 use study_words::StudyWord;
 
-/// The text from the command word of a line on.
-fn command_at(line: &[u8]) -> &[u8]
-    ensures { words result.now ≡ command_at (words line.now) }
+/// The place of the command word of a line: it may follow the name of a branch.
+#[tactic(auto, using(crate::proofs::FirstWords::words_from_first))]
+fn command_at(line: &[u8]) -> Option<Position<'_>>
+    ensures { words_from result ≡ command_at (words line.now) }
 {
-    match first_word(line) {
-        Some(at) if at.word[0] == b'@' => at.rest,
-        _ => line,
+    let at = first_word(line)?;
+    if at.word[0] == b'@' {
+        return first_word(at.rest);
     }
+    Some(at)
 }
 
 /// Adds the hint for a command with a fixed number of arguments.
@@ -68,49 +71,28 @@ fn push_command_hint<A: Allocator + Copy>(
     }
 }
 
-/// Adds the hint for a line from its command word on.
-fn push_hint_at<A: Allocator + Copy>(
-    text: &mut Vec<u8, A>,
-    names: &Names<'_, A>,
-    known: &[&[u8]],
-    line: &[u8],
-    fault: &Fault<'_>,
-) -> Result<(), AllocError>
-    ensures { OnOk result (text.new.items ≡ text.old.items
-        ++ hint_at (stands_for names.now) (map (λ name. name.now) known.now) (words line.now)
-        (fault_at fault.now).0 (fault_at fault.now).1) }
-{
-    match first_word(line) {
-        None => text.extend_from_slice(b"a word follows the branch"),
-        Some(at) => {
-            push_command_hint(text, names, known, StudyWord::of(at.word), at.rest, fault)
-        }
-    }
-}
-
-/// Adds what would have been right in a line, by its first fault: `did you mean drop-link`. Names
-/// are offered from `known`, of equal ones the first.
-///
-/// # Errors
-///
-/// Memory ran out.
+/// Adds what would have been right in a line, by the place of its command word and its first fault:
+/// `did you mean drop-link`.
 #[tactic(auto, unfolding(crate::specs::Hints::hint))]
-pub fn push_hint<A: Allocator + Copy>(
+fn push_hint<A: Allocator + Copy>(
     text: &mut Vec<u8, A>,
     names: &Names<'_, A>,
     known: &[&[u8]],
-    line: &[u8],
+    command: Option<Position<'_>>,
     fault: &Fault<'_>,
 ) -> Result<(), AllocError>
     ensures { OnOk result (text.new.items ≡ text.old.items
-        ++ hint (stands_for names.now) (map (λ name. name.now) known.now) (words line.now)
-        (fault_at fault.now)) }
+        ++ hint (stands_for names.now) (map (λ name. name.now) known.now)
+        (words_from command.entry) (fault_at fault.now)) }
 {
-    match fault.kind {
-        FaultKind::Script(ScriptFault::BadBranch) => {
+    match (fault.kind, command) {
+        (FaultKind::Script(ScriptFault::BadBranch), _) => {
             text.extend_from_slice(b"branches are @0 to @7")
         }
-        _ => push_hint_at(text, names, known, command_at(line), fault),
+        (_, None) => text.extend_from_slice(b"a word follows the branch"),
+        (_, Some(at)) => {
+            push_command_hint(text, names, known, StudyWord::of(at.word), at.rest, fault)
+        }
     }
 }
 
@@ -150,6 +132,6 @@ pub fn push_fault<A: Allocator + Copy>(
 {
     push_kind(text, fault)?;
     text.extend_from_slice(b" (")?;
-    push_hint(text, names, known, line, fault)?;
+    push_hint(text, names, known, command_at(line), fault)?;
     text.extend_from_slice(b")")
 }

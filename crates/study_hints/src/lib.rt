@@ -22,4 +22,4 @@ mod hint;
 
 pub use escape::push_escaped;
 pub use help::{count_help, push_help};
-pub use hint::{push_fault, push_hint};
+pub use hint::push_fault;

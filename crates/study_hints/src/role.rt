@@ -2,7 +2,7 @@
 
 ghost use Rattle.std.specs.Prelude.{◌≡◌};
 ghost use Rattle.network_names.specs.Names.{stands_for};
-ghost use Rattle.study_hints.specs.Roles.{fits, role_text};
+ghost use Rattle.study_hints.specs.Roles.{fits};
 
 use edit_script::MetricType;
 use lsa_codec::{Addr, AreaId, Metric, Prefix, RouterId};
@@ -45,27 +45,6 @@ pub(crate) enum Role {
 }
 
 impl Role {
-    /// The role as lines of help name it.
-    pub(crate) fn text(self) -> &'static str
-        ensures { result.now ≡ role_text self }
-    {
-        match self {
-            Role::Area => "AREA",
-            Role::Router => "ROUTER",
-            Role::Neighbor => "NEIGHBOR",
-            Role::Link => "LINK",
-            Role::Address => "ADDRESS",
-            Role::Prefix => "PREFIX",
-            Role::Cost | Role::Metric => "METRIC",
-            Role::MetricType => "TYPE",
-            Role::Forward => "FORWARD",
-            Role::Tag => "TAG",
-            Role::Count => "COUNT",
-            Role::Number => "NUMBER",
-            Role::Word => "WORD",
-        }
-    }
-
     /// Whether a word may stand in this role.
     pub(crate) fn fits<A: Allocator + Copy>(self, names: &Names<'_, A>, word: &[u8]) -> bool
         ensures { result ≡ fits (stands_for names.now) self word.now }

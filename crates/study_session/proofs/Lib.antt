@@ -1,2 +1,3 @@
 pub mod PlanText
 pub mod Logged
+pub mod Microloops

@@ -2,17 +2,17 @@
 use Rattle.std.specs.Prelude.{ℕ, List, [], ◌∷◌, ◌++◌, length, Option, None, Some, codes}
 use Rattle.lsa_codec.specs.declared.address.RouterId.{RouterId}
 use Rattle.lsdb.specs.Lists.{Lists}
-use Rattle.study_words.specs.declared.see_word.SeeWord.{SeeWord}
 use Rattle.study_words.specs.declared.see_word.SeeWord.TheVariants as words
 use Rattle.study_text.specs.Shown.{Called}
-use Rattle.route_lines.specs.RouteTexts.{lines_of as lines_as}
+use Rattle.study_text.specs.Lists.{lines_of as lines_as}
 use Rattle.change_lines.specs.ChangeTexts.{ChangeLineValue, ChangesValue, change_text, counts_text}
-use Rattle.change_lines.specs.PairTexts.{PairLineValue, pair_line}
+use Rattle.change_lines.specs.PairTexts.{pair_line}
 use Rattle.comparison.specs.Compared.{Compared}
 use Rattle.comparison.specs.Named.{all_changes, changes_for}
 use Rattle.change_report.specs.Lines.{gone_lines, lines_of_changes, lost_lines}
 use Rattle.study_session.specs.Answers.{AnswerValue, accepted_answer}
 use Rattle.study_session.specs.Texts.{head_of, number_after, router_after}
+use Rattle.study_session.specs.Listings.{listed}
 use Rattle.study_session.specs.Known.{is_known, unless_unknown}
 
 -- two databases beside each other
@@ -35,11 +35,8 @@ module _ (called : Called) (branch : ℕ) where
       unless_unknown branch (is_known baseline db router) (changes_of baseline db (Some router) (changes_for (beside baseline db) (router ∷ [])))
 
   -- routers with prefixes that they have no entry for any more
-  abbrev pub pairs_reply : SeeWord → List PairLineValue → List ℕ
-  pairs_reply word lines = head_of branch word ++ number_after (length lines) ++ codes "\n" ++ lines_as (pair_line called) lines
-
   abbrev pub lost_answer : Lists → Lists → AnswerValue
-  lost_answer baseline db = accepted_answer (pairs_reply words.Lost (lost_lines (beside baseline db)))
+  lost_answer baseline db = listed branch words.Lost (pair_line called) (lost_lines (beside baseline db))
 
   abbrev pub gone_answer : Lists → Lists → AnswerValue
-  gone_answer baseline db = accepted_answer (pairs_reply words.Gone (gone_lines (beside baseline db)))
+  gone_answer baseline db = listed branch words.Gone (pair_line called) (gone_lines (beside baseline db))

@@ -1,5 +1,6 @@
 -- Conditions about what differs from the baseline.
-use Rattle.std.specs.Prelude.{ℕ, Bool, List, [], ◌∷◌, Option, None, Some}
+use Rattle.std.specs.Prelude.{ℕ, Bool, true, List, [], ◌∷◌, Option, None, Some}
+use Rattle.std.specs.Option.{option_map_or}
 use Rattle.lsa_codec.specs.declared.address.RouterId.{RouterId}
 use Rattle.lsdb.specs.Lists.{Lists}
 use Rattle.study_script.specs.Expected.{PairsAllowed}
@@ -19,11 +20,19 @@ pairs_verdict called word allowed pairs = found (are_allowed allowed pairs) (pai
 abbrev pub changes_verdict : Called → Bool → ChangesValue → VerdictValue
 changes_verdict called holds changes = found holds (changes_found called changes.names)
 
+-- what differs for a router, or for all
+unfoldable pub changes_beside : Lists → Lists → Option RouterId → ChangesValue
+changes_beside baseline db None = all_changes (beside baseline db)
+changes_beside baseline db (Some router) = changes_for (beside baseline db) (router ∷ [])
+
+-- a router that is named is attached
+abbrev pub is_known_if_named : Lists → Lists → Option RouterId → Bool
+is_known_if_named baseline db router = option_map_or (is_known baseline db) router true
+
 abbrev pub same_verdict : Called → Lists → Lists → Option RouterId → VerdictValue
-same_verdict called baseline db None = changes_verdict called (is_none (all_changes (beside baseline db)).names) (all_changes (beside baseline db))
-same_verdict called baseline db (Some router) =
-    unless_no_router (is_known baseline db router)
-    (changes_verdict called (is_none (changes_for (beside baseline db) (router ∷ [])).names) (changes_for (beside baseline db) (router ∷ [])))
+same_verdict called baseline db router =
+    unless_no_router (is_known_if_named baseline db router)
+    (changes_verdict called (is_none (changes_beside baseline db router).names) (changes_beside baseline db router))
 
 abbrev pub few_verdict : Called → Lists → Lists → ℕ → VerdictValue
-few_verdict called baseline db most = changes_verdict called (are_few most (all_changes (beside baseline db))) (all_changes (beside baseline db))
+few_verdict called baseline db most = changes_verdict called (are_few most (changes_beside baseline db None)) (changes_beside baseline db None)

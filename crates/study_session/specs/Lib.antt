@@ -1,5 +1,6 @@
 pub mod Answers
 pub mod Texts
+pub mod Listings
 pub mod Known
 pub mod PlanAnswers
 pub mod NamedCommands

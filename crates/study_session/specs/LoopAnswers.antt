@@ -6,9 +6,10 @@ use Rattle.study_text.specs.Shown.{Called}
 use Rattle.loop_report.specs.Blackholes.{AreNewBlackholes, BlackholeValue}
 use Rattle.loop_report.specs.Loops.{AreJointLoops, AreLoopsNow, LoopValue}
 use Rattle.loop_report.specs.Parts.{AreAtAtoms}
-use Rattle.loop_report.specs.Texts.{blackhole_lines, loop_lines}
+use Rattle.loop_report.specs.Texts.{blackhole_lines, loop_line, loop_lines}
 use Rattle.study_session.specs.Answers.{AnswerValue, accepted_answer, refused_answer}
 use Rattle.study_session.specs.Texts.{head_of, number_after}
+use Rattle.study_session.specs.Listings.{counted}
 use Rattle.study_session.specs.Known.{too_few_done}
 
 -- what the words say in a branch
@@ -28,7 +29,7 @@ module _ (called : Called) (branch : ℕ) where
   -- what may loop while routers change over the last edits
   abbrev pub microloops_reply : ℕ → List LoopValue → List ℕ
   microloops_reply count loops =
-      head_of branch words.Microloops ++ number_after count ++ number_after (length loops) ++ codes "\n" ++ loop_lines called loops
+      head_of branch words.Microloops ++ number_after count ++ counted (loop_line called) loops
 
   -- by the database before them; where fewer edits are done, there is none
   abbrev pub IsMicroloopsAnswer : Lists → ℕ → Option Lists → AnswerValue → Type 0

@@ -6,13 +6,14 @@ use Rattle.lsdb.specs.Lists.{Lists}
 use Rattle.study_words.specs.declared.see_word.SeeWord.TheVariants as words
 use Rattle.study_text.specs.Shown.{Called}
 use Rattle.route_lines.specs.RouteLines.{RouteLineValue}
-use Rattle.route_lines.specs.RouteTexts.{routes_text}
+use Rattle.route_lines.specs.RouteTexts.{route_line}
 use Rattle.route_lines.specs.PathLines.{PathValue}
 use Rattle.route_lines.specs.PathTexts.{ends_text, path_text}
 use Rattle.route_report.specs.Lines.{routes_of}
 use Rattle.route_report.specs.Paths.{IsPath}
 use Rattle.study_session.specs.Answers.{AnswerValue, accepted_answer}
 use Rattle.study_session.specs.Texts.{address_after, head_of, number_after, router_after}
+use Rattle.study_session.specs.Listings.{counted}
 use Rattle.study_session.specs.Known.{IfKnown, is_attached, unless_unknown}
 
 -- what the words say in a branch
@@ -20,8 +21,7 @@ module _ (called : Called) (branch : ℕ) where
   -- what a router uses, after the router and the address that the line names
   abbrev pub routes_reply : RouterId → Option Addr → List RouteLineValue → List ℕ
   routes_reply router address lines =
-      head_of branch words.Routes ++ router_after called (Some router) ++ address_after address ++ number_after (length lines) ++ codes "\n"
-      ++ routes_text called lines
+      head_of branch words.Routes ++ router_after called (Some router) ++ address_after address ++ counted (route_line called) lines
 
   abbrev pub routes_answer : Lists → RouterId → Option Addr → AnswerValue
   routes_answer db router address =

@@ -5,14 +5,17 @@ ghost use Rattle.branches.specs.Replies.{mark_of, reported_text};
 ghost use Rattle.study_session.specs.Answers.{accepted_answer, failed_answer, held_answer, reason, refused_answer};
 ghost use Rattle.study_session.specs.Lines.{fault_answer};
 ghost use Rattle.network_names.specs.Names.{names_of, stands_for};
+ghost use Rattle.edit_script.specs.Words.{words};
 ghost use Rattle.study_arguments.specs.Fault.{fault_at};
+ghost use Rattle.study_hints.specs.Hints.{fault_text};
 
-use crate::text::{push_mark, push_word};
+use crate::text::push_mark;
 use network_names::Names;
 use std::alloc::{AllocError, Allocator, Global};
 use std::marker::Model;
 use study_arguments::Fault;
 use study_hints::push_fault;
+use study_text::push_word;
 
 /// What became of a line.
 #[derive(Clone, Copy, Debug, PartialEq, Eq)]
@@ -130,15 +133,12 @@ impl<A: Allocator + Copy> Answer<A> {
         ensures { IfOk result (λ answer. answer ≡ fault_answer (stands_for names.now)
             (names_of names.now) line.now (fault_at fault.entry)) }
     {
-        let known = names.all(alloc)?;
         let mut text = Vec::new(alloc);
         push_reported(&mut text, "script ", fault.kind.code(), fault.kind.name())?;
-        let mut error = Vec::new(alloc);
-        push_fault(&mut error, names, &known, line, &fault)?;
         Ok(Answer {
             text,
             outcome: Outcome::Refused,
-            error,
+            error: fault_text(alloc, names, line, &fault)?,
             is_expectation: false,
         })
     }
@@ -158,6 +158,22 @@ fn reason<A: Allocator + Copy>(
     push_word(&mut text, code)?;
     push_word(&mut text, " ")?;
     push_word(&mut text, name)?;
+    Ok(text)
+}
+
+/// What is wrong with a line that has a fault, with a hint.
+fn fault_text<A: Allocator + Copy>(
+    alloc: A,
+    names: &Names<'_, A>,
+    line: &[u8],
+    fault: &Fault<'_>,
+) -> Result<Vec<u8, A>, AllocError>
+    ensures { IfOk result (λ text. text.items ≡ fault_text (stands_for names.now)
+        (names_of names.now) (words line.now) (fault_at fault.now)) }
+{
+    let known = names.all(alloc)?;
+    let mut text = Vec::new(alloc);
+    push_fault(&mut text, names, &known, line, fault)?;
     Ok(text)
 }
 

@@ -1,15 +1,17 @@
 //! Conditions about what differs from the baseline.
 
-ghost use Rattle.std.specs.Prelude.{◌≡◌, IfOk, codes};
+ghost use Rattle.std.specs.Prelude.{◌≡◌, IfOk};
 ghost use Rattle.network_names.specs.Names.{called};
 ghost use Rattle.lsdb.specs.Slots.{lists_of};
-ghost use Rattle.comparison.specs.Named.{gone as gone_pairs, lost as lost_pairs};
 ghost use Rattle.study_script.specs.Expected.{pairs_allowed};
-ghost use Rattle.study_session.specs.ChangeVerdicts.{changes_verdict, few_verdict, pairs_verdict, same_verdict};
+ghost use Rattle.study_session.specs.ChangeVerdicts.{changes_beside, changes_verdict, few_verdict, is_known_if_named, pairs_verdict, same_verdict};
 ghost use Rattle.study_session.specs.ChangeAnswers.{beside};
+ghost use Rattle.study_session.specs.Verdicts.{is_none};
+ghost use Rattle.study_session.specs.steps.Missing.{missing_pairs, missing_text};
 ghost use Rattle.study_session.specs.steps.Verdicts.{verdict_of};
 
 use crate::known::is_known;
+use crate::missing::Missing;
 use crate::verdict::Verdict;
 use change_lines::{Changes, Pair, push_changes_found};
 use change_report::{are_allowed, are_few, push_found};
@@ -22,7 +24,7 @@ use std::alloc::{AllocError, Allocator};
 use study_script::Allowed;
 
 /// What is found of pairs that are lost or gone.
-fn pairs<A: Allocator + Copy>(
+fn found_pairs<A: Allocator + Copy>(
     alloc: A,
     names: &Names<'_, A>,
     word: &str,
@@ -38,36 +40,22 @@ fn pairs<A: Allocator + Copy>(
     Ok(Verdict::Found { holds, text })
 }
 
-/// `lost`: what is found of it.
-pub(crate) fn lost<A: Allocator + Copy>(
+/// `lost` or `gone`: what is found of it.
+pub(crate) fn pairs<A: Allocator + Copy>(
     alloc: A,
     names: &Names<'_, A>,
     baseline: &Database<A>,
     database: &Database<A>,
+    which: Missing,
     allowed: &Allowed<A>,
 ) -> Result<Verdict<A>, AllocError>
     ensures { IfOk result (λ verdict. verdict_of verdict
-        ≡ pairs_verdict (called names.now) (codes "lost") (pairs_allowed allowed.now)
-        (lost_pairs (beside (lists_of baseline.now) (lists_of database.now)))) }
+        ≡ pairs_verdict (called names.now) (missing_text which) (pairs_allowed allowed.now)
+        (missing_pairs which (beside (lists_of baseline.now) (lists_of database.now)))) }
 {
     let both = Comparison::of(alloc, baseline, database, &mut Meter::new())?;
-    pairs(alloc, names, "lost", allowed, &both.lost(alloc)?)
-}
-
-/// `gone`: what is found of it.
-pub(crate) fn gone<A: Allocator + Copy>(
-    alloc: A,
-    names: &Names<'_, A>,
-    baseline: &Database<A>,
-    database: &Database<A>,
-    allowed: &Allowed<A>,
-) -> Result<Verdict<A>, AllocError>
-    ensures { IfOk result (λ verdict. verdict_of verdict
-        ≡ pairs_verdict (called names.now) (codes "gone") (pairs_allowed allowed.now)
-        (gone_pairs (beside (lists_of baseline.now) (lists_of database.now)))) }
-{
-    let both = Comparison::of(alloc, baseline, database, &mut Meter::new())?;
-    pairs(alloc, names, "gone", allowed, &both.gone(alloc)?)
+    let found = which.pairs(alloc, &both)?;
+    found_pairs(alloc, names, which.text(), allowed, &found)
 }
 
 /// What is found of changes.
@@ -85,6 +73,47 @@ fn changes<A: Allocator + Copy>(
     Ok(Verdict::Found { holds, text })
 }
 
+/// Whether a router, if one is named, is attached in a database or in the baseline.
+fn is_known_if_named<A: Allocator + Copy>(
+    alloc: A,
+    baseline: &Database<A>,
+    database: &Database<A>,
+    router: Option<RouterId>,
+) -> Result<bool, AllocError>
+    ensures { IfOk result (λ known. known
+        ≡ is_known_if_named (lists_of baseline.now) (lists_of database.now) router) }
+{
+    match router {
+        Some(router) => is_known(alloc, baseline, database, router),
+        None => Ok(true),
+    }
+}
+
+/// What differs, for a router or for all.
+#[tactic(auto, unfolding(crate::specs::ChangeVerdicts::changes_beside))]
+fn changes_beside<A: Allocator + Copy>(
+    alloc: A,
+    baseline: &Database<A>,
+    database: &Database<A>,
+    router: Option<RouterId>,
+) -> Result<Changes<A>, AllocError>
+    ensures { IfOk result (λ found. found
+        ≡ changes_beside (lists_of baseline.now) (lists_of database.now) router) }
+{
+    let both = Comparison::of(alloc, baseline, database, &mut Meter::new())?;
+    match router {
+        Some(router) => both.changes_of(alloc, router),
+        None => both.changes(alloc),
+    }
+}
+
+/// Whether nothing differs.
+fn are_none<A: Allocator + Copy>(changes: &Changes<A>) -> bool
+    ensures { result ≡ is_none changes.now.names }
+{
+    changes.names.is_empty()
+}
+
 /// `same`: what is found of it.
 pub(crate) fn same<A: Allocator + Copy>(
     alloc: A,
@@ -96,17 +125,11 @@ pub(crate) fn same<A: Allocator + Copy>(
     ensures { IfOk result (λ verdict. verdict_of verdict ≡ same_verdict (called names.now)
         (lists_of baseline.now) (lists_of database.now) router) }
 {
-    if let Some(one) = router {
-        if !is_known(alloc, baseline, database, one)? {
-            return Ok(Verdict::NoRouter);
-        }
-        let both = Comparison::of(alloc, baseline, database, &mut Meter::new())?;
-        let found = both.changes_of(alloc, one)?;
-        return changes(alloc, names, found.names.is_empty(), &found);
+    if !is_known_if_named(alloc, baseline, database, router)? {
+        return Ok(Verdict::NoRouter);
     }
-    let both = Comparison::of(alloc, baseline, database, &mut Meter::new())?;
-    let found = both.changes(alloc)?;
-    changes(alloc, names, found.names.is_empty(), &found)
+    let found = changes_beside(alloc, baseline, database, router)?;
+    changes(alloc, names, are_none(&found), &found)
 }
 
 /// `changes`: what is found of it.
@@ -120,7 +143,6 @@ pub(crate) fn few<A: Allocator + Copy>(
     ensures { IfOk result (λ verdict. verdict_of verdict ≡ few_verdict (called names.now)
         (lists_of baseline.now) (lists_of database.now) most) }
 {
-    let both = Comparison::of(alloc, baseline, database, &mut Meter::new())?;
-    let found = both.changes(alloc)?;
+    let found = changes_beside(alloc, baseline, database, None)?;
     changes(alloc, names, are_few(most, &found), &found)
 }

@@ -1,22 +1,25 @@
 //! Answers about what differs from the baseline.
 
-ghost use Rattle.std.specs.Prelude.{◌≡◌, ◌∷◌, [], IfOk, codes};
+ghost use Rattle.std.specs.Prelude.{◌≡◌, IfOk};
 ghost use Rattle.network_names.specs.Names.{called};
 ghost use Rattle.lsdb.specs.Slots.{lists_of};
-ghost use Rattle.study_session.specs.ChangeAnswers.{beside, changes_answer, changes_of, changes_reply, gone_answer, lost_answer, pairs_reply};
+ghost use Rattle.study_session.specs.ChangeAnswers.{changes_answer, changes_of, changes_reply};
+ghost use Rattle.study_session.specs.steps.Missing.{missing_answer};
 
 use crate::answer::Answer;
 use crate::known::{is_known, no_router};
-use crate::text::{head, push_number_after, push_router_after, push_word};
-use change_lines::{ChangeLine, Changes, PairLine, push_counts};
-use change_report::{gone_lines, lines_of_changes, lost_lines};
+use crate::listing::listed;
+use crate::missing::Missing;
+use crate::text::{head, push_number_after, push_router_after};
+use change_lines::{ChangeLine, Changes, push_counts};
+use change_report::lines_of_changes;
 use comparison::Comparison;
 use lsa_codec::RouterId;
 use lsdb::Database;
 use network_names::Names;
-use route_lines::push_lines;
 use spf::Meter;
 use std::alloc::{AllocError, Allocator};
+use study_text::{push_lines, push_word};
 use study_words::SeeWord;
 
 /// The text of `changes`.
@@ -82,54 +85,19 @@ pub(crate) fn changes_answer<A: Allocator + Copy>(
     changes_of(alloc, names, branch, &both, None, &changes)
 }
 
-/// The text of `lost` or `gone`.
-fn pairs_reply<A: Allocator + Copy>(
-    alloc: A,
-    names: &Names<'_, A>,
-    branch: u8,
-    word: SeeWord,
-    lines: &[PairLine<A>],
-) -> Result<Vec<u8, A>, AllocError>
-    ensures { IfOk result
-        (λ text. text.items ≡ pairs_reply (called names.now) branch word lines.now) }
-{
-    let mut text = head(alloc, branch, word)?;
-    push_number_after(&mut text, lines.len() as u64)?;
-    push_word(&mut text, "\n")?;
-    push_lines(&mut text, names, lines)?;
-    Ok(text)
-}
-
-/// The answer to `lost`.
-pub(crate) fn lost_answer<A: Allocator + Copy>(
+/// The answer to `lost` or `gone`.
+pub(crate) fn missing_answer<A: Allocator + Copy>(
     alloc: A,
     names: &Names<'_, A>,
     branch: u8,
     baseline: &Database<A>,
     database: &Database<A>,
+    missing: Missing,
 ) -> Result<Answer<A>, AllocError>
-    ensures { IfOk result (λ answer. answer ≡ lost_answer (called names.now) branch
+    ensures { IfOk result (λ answer. answer ≡ missing_answer (called names.now) branch missing
         (lists_of baseline.now) (lists_of database.now)) }
 {
     let both = Comparison::of(alloc, baseline, database, &mut Meter::new())?;
-    let lines = lost_lines(alloc, &both)?;
-    let text = pairs_reply(alloc, names, branch, SeeWord::Lost, &lines)?;
-    Ok(Answer::accepted(alloc, text))
-}
-
-/// The answer to `gone`.
-pub(crate) fn gone_answer<A: Allocator + Copy>(
-    alloc: A,
-    names: &Names<'_, A>,
-    branch: u8,
-    baseline: &Database<A>,
-    database: &Database<A>,
-) -> Result<Answer<A>, AllocError>
-    ensures { IfOk result (λ answer. answer ≡ gone_answer (called names.now) branch
-        (lists_of baseline.now) (lists_of database.now)) }
-{
-    let both = Comparison::of(alloc, baseline, database, &mut Meter::new())?;
-    let lines = gone_lines(alloc, &both)?;
-    let text = pairs_reply(alloc, names, branch, SeeWord::Gone, &lines)?;
-    Ok(Answer::accepted(alloc, text))
+    let lines = missing.lines(alloc, &both)?;
+    listed(alloc, names, branch, missing.word(), &lines)
 }

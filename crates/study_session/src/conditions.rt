@@ -4,38 +4,22 @@ ghost use Rattle.std.specs.Prelude.{◌≡◌, IfOk, option_map};
 ghost use Rattle.network_names.specs.Names.{called};
 ghost use Rattle.lsdb.specs.Slots.{lists_of};
 ghost use Rattle.route_report.specs.Expected.{found_text};
-ghost use Rattle.study_session.specs.RouteVerdicts.{IsPathVerdict, hops_verdict, no_route_verdict, route_in, route_verdict};
+ghost use Rattle.study_session.specs.RouteVerdicts.{IsPathFound, IsPathVerdict, hops_verdict, no_route_verdict, route_verdict};
 ghost use Rattle.study_session.specs.Verdicts.{found};
 ghost use Rattle.study_session.specs.steps.Verdicts.{verdict_of};
 
 use crate::known::{are_known, is_attached, is_known_passing};
-use crate::text::push_word;
 use crate::verdict::Verdict;
-use forwarding::{AreaGraphs, RouterRoutes};
 use lsa_codec::{Addr, Prefix, RouterId};
 use lsdb::Database;
 use network_names::Names;
-use route_lines::{RouteLine, push_through};
-use route_report::{has_route, hops_of, meets, path_holds, push_found_route, route_line};
+use route_lines::RouteLine;
+use route_report::{has_route, hops_of, meets, path_holds, push_found_route, route_of};
 use spf::Meter;
 use std::alloc::{AllocError, Allocator};
 use study_script::{Bound, Passing};
-use study_text::push_number;
+use study_text::{Shown, push_number, push_word};
 use study_words::RouteKind;
-
-/// What a router uses for exactly a prefix.
-fn route_in<A: Allocator + Copy>(
-    alloc: A,
-    database: &Database<A>,
-    router: RouterId,
-    net: Prefix,
-) -> Result<Option<RouteLine<A>>, AllocError>
-    ensures { IfOk result (λ line. line ≡ route_in (lists_of database.now) router net) }
-{
-    let graphs = AreaGraphs::of(alloc, database)?;
-    let routes = RouterRoutes::of(alloc, database, router, &mut Meter::new())?;
-    route_line(alloc, database, &graphs, &routes, net)
-}
 
 /// What is found where a route, or none, was found.
 fn found<A: Allocator + Copy>(
@@ -71,7 +55,7 @@ pub(crate) fn route<A: Allocator + Copy>(
     if !(is_attached(alloc, database, router)? && are_known(alloc, baseline, database, via)?) {
         return Ok(Verdict::NoRouter);
     }
-    let line = route_in(alloc, database, router, net)?;
+    let line = route_of(alloc, database, router, net, &mut Meter::new())?;
     let holds = has_route(kind, via, cost, line.as_ref());
     found(alloc, names, holds, line.as_ref())
 }
@@ -90,7 +74,7 @@ pub(crate) fn no_route<A: Allocator + Copy>(
     if !is_attached(alloc, database, router)? {
         return Ok(Verdict::NoRouter);
     }
-    let line = route_in(alloc, database, router, net)?;
+    let line = route_of(alloc, database, router, net, &mut Meter::new())?;
     found(alloc, names, line.is_none(), line.as_ref())
 }
 
@@ -108,12 +92,30 @@ pub(crate) fn hops<A: Allocator + Copy>(
     if !is_attached(alloc, database, router)? {
         return Ok(Verdict::NoRouter);
     }
-    let line = route_in(alloc, database, router, net)?;
+    let line = route_of(alloc, database, router, net, &mut Meter::new())?;
     let count = hops_of(line.as_ref()) as u64;
     let mut text = Vec::new(alloc);
     push_word(&mut text, "hops ")?;
     push_number(&mut text, count)?;
     let holds = meets(bound, count);
+    Ok(Verdict::Found { holds, text })
+}
+
+/// What is found of walks that begin at a router.
+fn path_found<A: Allocator + Copy>(
+    alloc: A,
+    names: &Names<'_, A>,
+    database: &Database<A>,
+    place: (RouterId, Addr),
+    passing: Passing,
+) -> Result<Verdict<A>, AllocError>
+    ensures { IfOk result (λ verdict. IsPathFound (called names.now) (lists_of database.now)
+        place.0 place.1 passing (verdict_of verdict)) }
+{
+    let (router, address) = place;
+    let (holds, path) = path_holds(alloc, database, router, address, passing, &mut Meter::new())?;
+    let mut text = Vec::new(alloc);
+    path.push_to(&mut text, names)?;
     Ok(Verdict::Found { holds, text })
 }
 
@@ -129,14 +131,10 @@ pub(crate) fn path<A: Allocator + Copy>(
     ensures { IfOk result (λ verdict. IsPathVerdict (called names.now) (lists_of baseline.now)
         (lists_of database.now) place.0 place.1 passing (verdict_of verdict)) }
 {
-    let (router, address) = place;
-    if !(is_attached(alloc, database, router)?
-        && is_known_passing(alloc, baseline, database, passing)?)
-    {
+    let is_known = is_attached(alloc, database, place.0)?
+        && is_known_passing(alloc, baseline, database, passing)?;
+    if !is_known {
         return Ok(Verdict::NoRouter);
     }
-    let (holds, path) = path_holds(alloc, database, router, address, passing, &mut Meter::new())?;
-    let mut text = Vec::new(alloc);
-    push_through(&mut text, names, &path)?;
-    Ok(Verdict::Found { holds, text })
+    path_found(alloc, names, database, place, passing)
 }

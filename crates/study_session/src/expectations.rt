@@ -9,9 +9,11 @@ ghost use Rattle.study_session.specs.Expectations.{IsExpectationAnswer, IsVerdic
 ghost use Rattle.study_session.specs.steps.Verdicts.{verdict_of};
 
 use crate::answer::Answer;
-use crate::change_conditions::{few, gone, lost, same};
+use crate::change_conditions::{few, pairs, same};
 use crate::conditions::{hops, no_route, path, route};
 use crate::loop_conditions::{no_blackholes, no_loops, no_microloops};
+use crate::loops::microloops_of;
+use crate::missing::Missing;
 use crate::verdict::Verdict;
 use branches::Branches;
 use lsdb::Database;
@@ -44,8 +46,7 @@ fn verdict<A: Allocator + Copy>(
             via,
             cost,
         } => {
-            let via = via.as_ref().map(|those| those.as_slice());
-            let place = (*router, *prefix);
+            let (place, via) = ((*router, *prefix), via.as_deref());
             route(alloc, names, baseline, now, place, *kind, via, *cost)
         }
         Condition::NoRoute { router, prefix } => no_route(alloc, names, now, *router, *prefix),
@@ -59,14 +60,15 @@ fn verdict<A: Allocator + Copy>(
             address,
             passing,
         } => path(alloc, names, baseline, now, (*router, *address), *passing),
-        Condition::Lost(allowed) => lost(alloc, names, baseline, now, allowed),
-        Condition::Gone(allowed) => gone(alloc, names, baseline, now, allowed),
+        Condition::Lost(allowed) => pairs(alloc, names, baseline, now, Missing::Lost, allowed),
+        Condition::Gone(allowed) => pairs(alloc, names, baseline, now, Missing::Gone, allowed),
         Condition::NoLoops => no_loops(alloc, names, baseline, now),
         Condition::NoBlackholes => no_blackholes(alloc, names, baseline, now),
         Condition::Same(router) => same(alloc, names, baseline, now, *router),
         Condition::AtMostChanges(most) => few(alloc, names, baseline, now, *most),
         Condition::NoMicroloops(count) => {
-            no_microloops(alloc, branches, names, branch, count.unwrap_or(1))
+            let loops = microloops_of(alloc, branches, branch, count.unwrap_or(1))?;
+            no_microloops(alloc, names, loops)
         }
     }
 }

@@ -5,9 +5,10 @@ ghost use Rattle.study_session.specs.OwnAnswers.{help_answer};
 ghost use Rattle.study_session.specs.Texts.{word_after};
 
 use crate::answer::Answer;
-use crate::text::{head, push_number_after, push_word};
+use crate::text::{head, push_number_after};
 use std::alloc::{AllocError, Allocator};
 use study_hints::{count_help, push_help};
+use study_text::push_word;
 use study_words::{SeeWord, StudyWord};
 
 /// Adds the word that a line names, if it names one.

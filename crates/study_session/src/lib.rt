@@ -9,6 +9,9 @@
 mod answer;
 mod text;
 
+// Pairs that questions and expectations are about.
+mod missing;
+
 // Commands.
 mod link_edit;
 mod named;
@@ -19,6 +22,7 @@ mod changes;
 mod help;
 mod known;
 mod links;
+mod listing;
 mod log;
 mod loops;
 mod questions;

@@ -4,13 +4,12 @@ ghost use Rattle.std.specs.Prelude.{◌≡◌, ◌++◌, IfOk, OnOk, option_map}
 ghost use Rattle.network_names.specs.Names.{called};
 ghost use Rattle.study_session.specs.NamedCommands.{change_text, edited_text, link_edit};
 
-use crate::text::push_word;
 use edit_script::{Command, Edit};
 use link_report::{LinkLine, push_link, push_link_name};
 use lsa_codec::{AreaId, RouterId};
 use network_names::Names;
 use std::alloc::{AllocError, Allocator};
-use study_text::push_number;
+use study_text::{push_number, push_word};
 
 /// How a link is edited.
 #[derive(Clone, Copy, Debug)]

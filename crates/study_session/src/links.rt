@@ -1,59 +1,21 @@
-//! Answers about routers, links and networks.
+//! The answer about links.
 
 ghost use Rattle.std.specs.Prelude.{◌≡◌, IfOk};
 ghost use Rattle.network_names.specs.Names.{called};
 ghost use Rattle.lsdb.specs.Slots.{lists_of};
-ghost use Rattle.study_session.specs.LinkAnswers.{links_answer, links_text, networks_answer, routers_answer};
+ghost use Rattle.study_session.specs.LinkAnswers.{links_answer, links_text};
 
 use crate::answer::Answer;
 use crate::known::{is_attached, no_router};
-use crate::text::{head, push_number_after, push_router_after, push_word};
-use link_report::{
-    LinkLine, link_lines, network_lines, push_link_lines, push_network_lines, push_router_lines,
-    router_lines,
-};
+use crate::listing::push_counted;
+use crate::text::{head, push_router_after};
+use link_report::{LinkLine, link_lines};
 use lsa_codec::RouterId;
 use lsdb::Database;
 use network_names::Names;
 use routing_table::routers;
 use std::alloc::{AllocError, Allocator};
 use study_words::SeeWord;
-
-/// The answer to `routers`.
-pub(crate) fn routers_answer<A: Allocator + Copy>(
-    alloc: A,
-    names: &Names<'_, A>,
-    branch: u8,
-    database: &Database<A>,
-) -> Result<Answer<A>, AllocError>
-    ensures { IfOk result (λ answer. answer
-        ≡ routers_answer (called names.now) branch (lists_of database.now)) }
-{
-    let lines = router_lines(alloc, database)?;
-    let mut text = head(alloc, branch, SeeWord::Routers)?;
-    push_number_after(&mut text, lines.len() as u64)?;
-    push_word(&mut text, "\n")?;
-    push_router_lines(&mut text, names, &lines)?;
-    Ok(Answer::accepted(alloc, text))
-}
-
-/// The answer to `networks`.
-pub(crate) fn networks_answer<A: Allocator + Copy>(
-    alloc: A,
-    names: &Names<'_, A>,
-    branch: u8,
-    database: &Database<A>,
-) -> Result<Answer<A>, AllocError>
-    ensures { IfOk result (λ answer. answer
-        ≡ networks_answer (called names.now) branch (lists_of database.now)) }
-{
-    let lines = network_lines(alloc, database)?;
-    let mut text = head(alloc, branch, SeeWord::Networks)?;
-    push_number_after(&mut text, lines.len() as u64)?;
-    push_word(&mut text, "\n")?;
-    push_network_lines(&mut text, names, &lines)?;
-    Ok(Answer::accepted(alloc, text))
-}
 
 /// The text of `links`.
 fn links_text<A: Allocator + Copy>(
@@ -68,9 +30,7 @@ fn links_text<A: Allocator + Copy>(
 {
     let mut text = head(alloc, branch, SeeWord::Links)?;
     push_router_after(&mut text, names, router)?;
-    push_number_after(&mut text, lines.len() as u64)?;
-    push_word(&mut text, "\n")?;
-    push_link_lines(&mut text, names, lines)?;
+    push_counted(&mut text, names, lines)?;
     Ok(text)
 }
 

@@ -6,11 +6,12 @@ ghost use Rattle.saved_sessions.specs.Lines.{lines_of};
 ghost use Rattle.study_session.specs.OwnAnswers.{log_answer};
 
 use crate::answer::Answer;
-use crate::text::{head, push_number_after, push_word};
+use crate::text::{head, push_number_after};
 use edit_history::Record;
 use recalculate::Planner;
 use saved_sessions::put_line;
 use std::alloc::{AllocError, Allocator};
+use study_text::push_word;
 use study_words::SeeWord;
 
 /// Adds the lines of the edits of records.

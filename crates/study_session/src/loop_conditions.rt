@@ -1,17 +1,15 @@
 //! Conditions about loops.
 
-ghost use Rattle.std.specs.Prelude.{◌≡◌, ◌<◌, IfOk, Some, length, map};
+ghost use Rattle.std.specs.Prelude.{◌≡◌, IfOk, map, option_map};
 ghost use Rattle.network_names.specs.Names.{called};
 ghost use Rattle.lsdb.specs.Slots.{lists_of};
-ghost use Rattle.edit_history.specs.Session.{state};
-ghost use Rattle.branches.specs.Branches.{before_last, sessions_of};
-ghost use Rattle.study_session.specs.LoopVerdicts.{IsBlackholesVerdict, IsLoopsVerdict, IsMicroloopsVerdict};
+ghost use Rattle.study_session.specs.LoopVerdicts.{IsBlackholesVerdict, IsLoopsVerdict};
 ghost use Rattle.study_session.specs.Verdicts.{counted_text, found, is_none};
+ghost use Rattle.study_session.specs.steps.Microloops.{no_microloops_by};
 ghost use Rattle.study_session.specs.steps.Verdicts.{verdict_of};
 
 use crate::verdict::Verdict;
-use branches::Branches;
-use loop_report::{LoopReport, joint_loops, push_found};
+use loop_report::{LoopReport, PrefixLoop, push_found};
 use lsdb::Database;
 use network_names::Names;
 use spf::Meter;
@@ -64,37 +62,17 @@ pub(crate) fn no_blackholes<A: Allocator + Copy>(
     none(alloc, names, "blackholes", report.blackholes())
 }
 
-/// What is found of microloops between two databases.
-fn none_between<A: Allocator + Copy>(
-    alloc: A,
-    names: &Names<'_, A>,
-    before: &Database<A>,
-    database: &Database<A>,
-) -> Result<Verdict<A>, AllocError>
-    ensures { IfOk result (λ verdict. IsMicroloopsVerdict (called names.now)
-        (lists_of database.now) (Some (lists_of before.now)) (verdict_of verdict)) }
-{
-    let loops = joint_loops(alloc, before, database, &mut Meter::new())?;
-    none(alloc, names, "microloops", &loops)
-}
-
-/// `microloops none`: what is found of it. All sessions stay.
+/// `microloops none`, by what may loop: what is found of it.
 pub(crate) fn no_microloops<A: Allocator + Copy>(
     alloc: A,
-    branches: &mut Branches<A>,
     names: &Names<'_, A>,
-    branch: u8,
-    count: u32,
+    loops: Option<Vec<PrefixLoop<A>, A>>,
 ) -> Result<Verdict<A>, AllocError>
-    requires { branch < 8 }
-    ensures verdict { IfOk result (λ verdict. IsMicroloopsVerdict (called names.now)
-        (state (sessions_of branches.old branch))
-        (before_last count (sessions_of branches.old branch)) (verdict_of verdict)) }
-    ensures kept { sessions_of branches.new ≡ sessions_of branches.old }
+    ensures { IfOk result (λ verdict. verdict_of verdict
+        ≡ no_microloops_by (called names.now) (option_map (λ found. found.items) loops)) }
 {
-    let Some(before) = branches.before_last(branch, count)? else {
-        return Ok(Verdict::TooFewDone);
-    };
-    branches.prepare(branch)?;
-    none_between(alloc, names, &before, branches.planner(branch).database())
+    match loops {
+        Some(loops) => none(alloc, names, "microloops", &loops),
+        None => Ok(Verdict::TooFewDone),
+    }
 }

@@ -1,20 +1,23 @@
 //! Answers about loops.
 
-ghost use Rattle.std.specs.Prelude.{◌≡◌, ◌<◌, IfOk, Some};
+ghost use Rattle.std.specs.Prelude.{◌≡◌, ◌<◌, IfOk, option_map};
 ghost use Rattle.network_names.specs.Names.{called};
 ghost use Rattle.lsdb.specs.Slots.{lists_of};
 ghost use Rattle.edit_history.specs.Session.{state};
 ghost use Rattle.branches.specs.Branches.{before_last, sessions_of};
-ghost use Rattle.study_session.specs.LoopAnswers.{IsLoopsAnswer, IsMicroloopsAnswer, loops_reply, microloops_reply};
+ghost use Rattle.study_session.specs.LoopAnswers.{IsLoopsAnswer, loops_reply, microloops_reply};
+ghost use Rattle.study_session.specs.steps.Microloops.{AreMicroloops, microloops_by};
 
 use crate::answer::Answer;
-use crate::text::{head, push_number_after, push_word};
+use crate::listing::push_counted;
+use crate::text::{head, push_number_after};
 use branches::Branches;
-use loop_report::{LoopReport, PrefixLoop, joint_loops, push_blackhole_lines, push_loop_lines};
+use loop_report::{LoopReport, PrefixLoop, joint_loops};
 use lsdb::Database;
 use network_names::Names;
 use spf::Meter;
 use std::alloc::{AllocError, Allocator};
+use study_text::{push_lines, push_word};
 use study_words::SeeWord;
 
 /// The text of `loops`.
@@ -35,8 +38,8 @@ fn loops_reply<A: Allocator + Copy>(
     push_word(&mut text, " blackholes")?;
     push_number_after(&mut text, holes.len() as u64)?;
     push_word(&mut text, "\n")?;
-    push_loop_lines(&mut text, names, loops)?;
-    push_blackhole_lines(&mut text, names, holes)?;
+    push_lines(&mut text, names, loops)?;
+    push_lines(&mut text, names, holes)?;
     Ok(text)
 }
 
@@ -69,47 +72,50 @@ fn microloops_reply<A: Allocator + Copy>(
 {
     let mut text = head(alloc, branch, SeeWord::Microloops)?;
     push_number_after(&mut text, u64::from(count))?;
-    push_number_after(&mut text, loops.len() as u64)?;
-    push_word(&mut text, "\n")?;
-    push_loop_lines(&mut text, names, loops)?;
+    push_counted(&mut text, names, loops)?;
     Ok(text)
 }
 
-/// The answer to `microloops` between two databases.
-fn microloops_between<A: Allocator + Copy>(
-    alloc: A,
-    names: &Names<'_, A>,
-    branch: u8,
-    count: u32,
-    before: &Database<A>,
-    database: &Database<A>,
-) -> Result<Answer<A>, AllocError>
-    ensures { IfOk result (IsMicroloopsAnswer (called names.now) branch (lists_of database.now)
-        count (Some (lists_of before.now))) }
-{
-    let loops = joint_loops(alloc, before, database, &mut Meter::new())?;
-    let text = microloops_reply(alloc, names, branch, count, &loops)?;
-    Ok(Answer::accepted(alloc, text))
-}
-
-/// The answer to `microloops`. All sessions stay.
-pub(crate) fn microloops_answer<A: Allocator + Copy>(
+/// What may loop while routers change over the last edits of a branch; `None` where fewer are done.
+/// All sessions stay.
+pub(crate) fn microloops_of<A: Allocator + Copy>(
     alloc: A,
     branches: &mut Branches<A>,
-    names: &Names<'_, A>,
     branch: u8,
     count: u32,
-) -> Result<Answer<A>, AllocError>
+) -> Result<Option<Vec<PrefixLoop<A>, A>>, AllocError>
     requires { branch < 8 }
-    ensures answer { IfOk result (IsMicroloopsAnswer (called names.now) branch
-        (state (sessions_of branches.old branch)) count
-        (before_last count (sessions_of branches.old branch))) }
+    ensures loops { IfOk result (λ loops. AreMicroloops
+        (state (sessions_of branches.old branch))
+        (before_last count (sessions_of branches.old branch))
+        (option_map (λ found. found.items) loops)) }
     ensures kept { sessions_of branches.new ≡ sessions_of branches.old }
 {
     let Some(before) = branches.before_last(branch, count)? else {
-        return Answer::refused(alloc, branch, "U1", "NothingToUndo");
+        return Ok(None);
     };
     branches.prepare(branch)?;
-    let database = branches.planner(branch).database();
-    microloops_between(alloc, names, branch, count, &before, database)
+    let now = branches.planner(branch).database();
+    let loops = joint_loops(alloc, &before, now, &mut Meter::new())?;
+    Ok(Some(loops))
+}
+
+/// The answer to `microloops`, by what may loop; there is nothing where fewer edits are done.
+pub(crate) fn microloops_answer<A: Allocator + Copy>(
+    alloc: A,
+    names: &Names<'_, A>,
+    branch: u8,
+    count: u32,
+    loops: Option<Vec<PrefixLoop<A>, A>>,
+) -> Result<Answer<A>, AllocError>
+    ensures { IfOk result (λ answer. answer ≡ microloops_by (called names.now) branch count
+        (option_map (λ found. found.items) loops)) }
+{
+    match loops {
+        Some(loops) => {
+            let text = microloops_reply(alloc, names, branch, count, &loops)?;
+            Ok(Answer::accepted(alloc, text))
+        }
+        None => Answer::refused(alloc, branch, "U1", "NothingToUndo"),
+    }
 }

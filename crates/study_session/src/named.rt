@@ -1,6 +1,6 @@
 //! Commands of `ospf-plan` in whose lines names stand.
 
-ghost use Rattle.std.specs.Prelude.{◌≡◌, ◌<◌, IfOk, OnOk, Some};
+ghost use Rattle.std.specs.Prelude.{◌≡◌, ◌<◌, IfOk, IfSome, OnOk, option_map};
 ghost use Rattle.edit_history.specs.Session.{state};
 ghost use Rattle.link_report.specs.Links.{link_at};
 ghost use Rattle.network_names.specs.Names.{called};
@@ -73,65 +73,28 @@ fn named_number<A: Allocator + Copy>(
     }
 }
 
-/// The number of the link that is named in a branch. All sessions stay.
-fn number_in<A: Allocator + Copy>(
+/// The number of the link that is named, 0 where there is none, and what is said of its edit;
+/// `None` where several links are named.
+fn found<A: Allocator + Copy>(
     alloc: A,
-    branches: &mut Branches<A>,
-    branch: u8,
+    planner: &Planner<A>,
+    names: &Names<'_, A>,
     place: (AreaId, RouterId, LinkName),
-) -> Result<Option<u16>, AllocError>
-    requires { branch < 8 }
-    ensures number { IfOk result (λ number. number
-        ≡ named_number (sessions_of branches.old branch) place.0 place.1 place.2) }
-    ensures kept { sessions_of branches.new ≡ sessions_of branches.old }
+    edit: LinkEdit,
+) -> Result<Option<(u16, Vec<u8, A>)>, AllocError>
+    ensures number { IfOk result (λ found. option_map (λ f. f.0) found
+        ≡ named_number planner.now.session place.0 place.1 place.2) }
+    ensures change { IfOk result (λ found. IfSome found (λ f. f.1.items
+        ≡ change_text edit (called names.now)
+        (link_at (state planner.now.session) place.0 place.1 f.0))) }
 {
     let (area, router, name) = place;
-    branches.prepare(branch)?;
-    named_number(alloc, branches.planner(branch), area, router, name)
-}
-
-/// What is said of the edit of a link in a branch. All sessions stay.
-fn change_in<A: Allocator + Copy>(
-    alloc: A,
-    branches: &mut Branches<A>,
-    names: &Names<'_, A>,
-    branch: u8,
-    place: (AreaId, RouterId, u16),
-    edit: LinkEdit,
-) -> Result<Vec<u8, A>, AllocError>
-    requires { branch < 8 }
-    ensures text { IfOk result (λ text. text.items ≡ change_text edit (called names.now)
-        (link_at (state (sessions_of branches.old branch)) place.0 place.1 place.2)) }
-    ensures kept { sessions_of branches.new ≡ sessions_of branches.old }
-{
-    let (area, router, number) = place;
-    branches.prepare(branch)?;
-    let now = branches.planner(branch).database();
-    let line = link_line_at(alloc, now, area, router, number)?;
-    change_text(alloc, names, edit, line.as_ref())
-}
-
-/// Carries out an edit of the link with a number, and says what it changed.
-fn edit_numbered<A: Allocator + Copy>(
-    alloc: A,
-    branches: &mut Branches<A>,
-    names: &Names<'_, A>,
-    branch: u8,
-    place: (AreaId, RouterId, u16),
-    edit: LinkEdit,
-) -> Result<Answer<A>, AllocError>
-    requires { branch < 8 }
-    ensures answer { IfOk result (λ answer. answer
-        ≡ link_answer (called names.now) (sessions_of branches.old branch) branch place.0 place.1
-        edit (Some place.2)) }
-    ensures sessions { OnOk result (sessions_of branches.new
-        ≡ link_stepped branch place.0 place.1 edit (Some place.2)
-        (sessions_of branches.old)) }
-{
-    let (area, router, number) = place;
-    let change = change_in(alloc, branches, names, branch, place, edit)?;
-    let command = edit.command(area, router, number);
-    changing(alloc, branches, branch, &command, &change)
+    let Some(number) = named_number(alloc, planner, area, router, name)? else {
+        return Ok(None);
+    };
+    let line = link_line_at(alloc, planner.database(), area, router, number)?;
+    let change = change_text(alloc, names, edit, line.as_ref())?;
+    Ok(Some((number, change)))
 }
 
 /// Carries out an edit of a link that is named, and says what it changed; refused where several
@@ -153,10 +116,12 @@ fn edit_link<A: Allocator + Copy>(
         (named_number (sessions_of branches.old branch) place.0 place.1 place.2)
         (sessions_of branches.old)) }
 {
-    let (area, router, name) = place;
-    match number_in(alloc, branches, branch, (area, router, name))? {
-        Some(number) => {
-            edit_numbered(alloc, branches, names, branch, (area, router, number), edit)
+    let (area, router, _) = place;
+    branches.prepare(branch)?;
+    match found(alloc, branches.planner(branch), names, place, edit)? {
+        Some((number, change)) => {
+            let command = edit.command(area, router, number);
+            changing(alloc, branches, branch, &command, &change)
         }
         None => Answer::refused(alloc, branch, "E14", "ManyLinks"),
     }

@@ -6,10 +6,11 @@ ghost use Rattle.branches.specs.Replies.{reply_to, said_by};
 ghost use Rattle.study_session.specs.PlanAnswers.{changed_answer, plan_answer};
 
 use crate::answer::Answer;
-use crate::text::{push_mark, push_word};
+use crate::text::push_mark;
 use branches::{Branches, Reply, reply_text};
 use edit_script::Command;
 use std::alloc::{AllocError, Allocator};
+use study_text::push_word;
 
 /// The answer to a command of `ospf-plan`, by its reply.
 fn plan_answer<A: Allocator + Copy>(

@@ -7,17 +7,21 @@ ghost use Rattle.branches.specs.Branches.{sessions_of};
 ghost use Rattle.study_session.specs.Questions.{IsQuestionAnswer};
 
 use crate::answer::Answer;
-use crate::changes::{changes_answer, gone_answer, lost_answer};
+use crate::changes::{changes_answer, missing_answer};
 use crate::help::help_answer;
-use crate::links::{links_answer, networks_answer, routers_answer};
+use crate::links::links_answer;
+use crate::listing::listed;
 use crate::log::log;
-use crate::loops::{loops_answer, microloops_answer};
+use crate::loops::{loops_answer, microloops_answer, microloops_of};
+use crate::missing::Missing;
 use crate::routes::{path_answer, routes_answer};
 use branches::Branches;
+use link_report::{network_lines, router_lines};
 use lsdb::Database;
 use network_names::Names;
 use std::alloc::{AllocError, Allocator};
 use study_script::Question;
+use study_words::SeeWord;
 
 /// The answer to a question in a branch. All sessions stay.
 pub(crate) fn question<A: Allocator + Copy>(
@@ -37,9 +41,25 @@ pub(crate) fn question<A: Allocator + Copy>(
     let planner = branches.planner(branch);
     let now = planner.database();
     match *question {
-        Question::Routers => routers_answer(alloc, names, branch, now),
+        Question::Routers => {
+            listed(
+                alloc,
+                names,
+                branch,
+                SeeWord::Routers,
+                &router_lines(alloc, now)?,
+            )
+        }
         Question::Links(router) => links_answer(alloc, names, branch, now, router),
-        Question::Networks => networks_answer(alloc, names, branch, now),
+        Question::Networks => {
+            listed(
+                alloc,
+                names,
+                branch,
+                SeeWord::Networks,
+                &network_lines(alloc, now)?,
+            )
+        }
         Question::Routes { router, address } => {
             routes_answer(alloc, names, branch, now, (router, address))
         }
@@ -47,11 +67,13 @@ pub(crate) fn question<A: Allocator + Copy>(
             path_answer(alloc, names, branch, now, (router, address))
         }
         Question::Changes(router) => { changes_answer(alloc, names, branch, baseline, now, router) }
-        Question::Lost => lost_answer(alloc, names, branch, baseline, now),
-        Question::Gone => gone_answer(alloc, names, branch, baseline, now),
+        Question::Lost => missing_answer(alloc, names, branch, baseline, now, Missing::Lost),
+        Question::Gone => missing_answer(alloc, names, branch, baseline, now, Missing::Gone),
         Question::Loops => loops_answer(alloc, names, branch, baseline, now),
         Question::Microloops(count) => {
-            microloops_answer(alloc, branches, names, branch, count.unwrap_or(1))
+            let count = count.unwrap_or(1);
+            let loops = microloops_of(alloc, branches, branch, count)?;
+            microloops_answer(alloc, names, branch, count, loops)
         }
         Question::Log => log(alloc, branch, planner),
         Question::Help(word) => help_answer(alloc, branch, word),

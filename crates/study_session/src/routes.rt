@@ -8,14 +8,16 @@ ghost use Rattle.study_session.specs.Texts.{address_after};
 
 use crate::answer::Answer;
 use crate::known::{is_attached, no_router};
-use crate::text::{head, push_address_after, push_number_after, push_router_after, push_word};
+use crate::listing::push_counted;
+use crate::text::{head, push_address_after, push_number_after, push_router_after};
 use lsa_codec::{Addr, RouterId};
 use lsdb::Database;
 use network_names::Names;
-use route_lines::{Path, RouteLine, push_ends, push_path, push_routes};
+use route_lines::{Path, RouteLine, push_ends, push_path};
 use route_report::{path_of, routes_of};
 use spf::Meter;
 use std::alloc::{AllocError, Allocator};
+use study_text::push_word;
 use study_words::SeeWord;
 
 /// The text of `routes`.
@@ -33,9 +35,7 @@ fn routes_reply<A: Allocator + Copy>(
     let mut text = head(alloc, branch, SeeWord::Routes)?;
     push_router_after(&mut text, names, Some(router))?;
     push_address_after(&mut text, address)?;
-    push_number_after(&mut text, lines.len() as u64)?;
-    push_word(&mut text, "\n")?;
-    push_routes(&mut text, names, lines)?;
+    push_counted(&mut text, names, lines)?;
     Ok(text)
 }
 

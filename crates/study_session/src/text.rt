@@ -8,18 +8,8 @@ ghost use Rattle.study_session.specs.Texts.{address_after, head_of, number_after
 use lsa_codec::{Addr, RouterId};
 use network_names::Names;
 use std::alloc::{AllocError, Allocator};
-use study_text::{push_address, push_number, push_router};
+use study_text::{push_address, push_number, push_router, push_word};
 use study_words::{SeeWord, Word};
-
-/// Adds a word.
-pub(crate) fn push_word<A: Allocator + Copy>(
-    text: &mut Vec<u8, A>,
-    word: &str,
-) -> Result<(), AllocError>
-    ensures { OnOk result (text.new.items ≡ text.old.items ++ word.now) }
-{
-    text.extend_from_slice(word.as_bytes())
-}
 
 /// Adds the mark of a branch: `@0 `.
 pub(crate) fn push_mark<A: Allocator + Copy>(

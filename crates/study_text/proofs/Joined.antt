@@ -2,7 +2,7 @@
 use Rattle.std.proofs.Common.{◌≡◌, ℕ, ◌==◌, ◌+◌, ◌<◌, ◌≤◌, false, List, [], ◌∷◌, ◌++◌, codes, length, map, take, get_or, Result, Ok, Err, sym, ap, refl, ◌∙◌}
 use Rattle.std.specs.Prelude.{flat_map, OnOk}
 use Rattle.std.proofs.lemmas.List.{append-nil, append_assoc, take_more, take_all, take-map, length-map, flat_map_more}
-use Rattle.study_text.specs.Lists.{and_more, first_three, joined, listed}
+use Rattle.study_text.specs.Lists.{and_more, first_three, joined, joined_or}
 
 -- what holds of a call that went well
 pub on_ok : {T E P Q : Type 0} (result : Result T E) → (P → Q) → OnOk result P → OnOk result Q
@@ -43,32 +43,31 @@ module _ {X : Type 0} (text : X → List ℕ) (mark : List ℕ) where
       ∙ ap (λ l. old ++ l) (first_and_more first more) ∙ ap (λ l. old ++ joined mark (map text l)) (sym are))
       all
 
-module _ {X : Type 0} (text : X → List ℕ) where
-  listed_are : (xs : List X) → (length xs == 0) ≡ false → joined (codes ",") (map text xs) ≡ listed (map text xs)
-  listed_are [] h = cc
-  listed_are (x ∷ xs) h = refl
+  either_are : (none word : List ℕ) (xs : List X) → (length xs == 0) ≡ false
+      → word ++ joined mark (map text xs) ≡ joined_or none word mark (map text xs)
+  either_are none word [] h = cc
+  either_are none word (x ∷ xs) h = refl
 
-  -- a list that is not empty
-  pub all_listed : {T E : Type 0} (result : Result T E) (old now : List ℕ) (xs : List X) → (length xs == 0) ≡ false
-      → OnOk result (now ≡ old ++ joined (codes ",") (map text xs)) → OnOk result (now ≡ old ++ listed (map text xs))
-  all_listed result old now xs some all = on_ok result (λ pushed. pushed ∙ ap (λ l. old ++ l) (listed_are xs some)) all
-
-  three_are : (xs : List X) → (length xs == 0) ≡ false
-      → codes ": " ++ joined (codes ", ") (take 3 (map text xs)) ++ and_more (length (map text xs)) ≡ first_three (map text xs)
-  three_are [] h = cc
-  three_are (x ∷ xs) h = refl
-
-  -- the first three, and how many more there are
-  pub three_shown : {T E : Type 0} (result : Result T E) (old begun part now : List ℕ) (xs first : List X) → (length xs == 0) ≡ false
-      → first ≡ take 3 xs → begun ≡ old ++ codes ": " → part ≡ begun ++ joined (codes ", ") (map text first)
-      → OnOk result (now ≡ part ++ and_more (length xs)) → OnOk result (now ≡ old ++ first_three (map text xs))
-  three_shown result old begun part now xs first some are begins shown all =
-      let three = joined (codes ", ") (map text first) in
+  -- items after a word, where there are some
+  pub all_after : {T E : Type 0} (result : Result T E) (none word old begun now : List ℕ) (xs : List X) → (length xs == 0) ≡ false
+      → begun ≡ old ++ word → OnOk result (now ≡ begun ++ joined mark (map text xs))
+      → OnOk result (now ≡ old ++ joined_or none word mark (map text xs))
+  all_after result none word old begun now xs some begins all =
       on_ok result
-      (λ pushed. pushed ∙ ap (λ l. l ++ and_more (length xs)) (shown ∙ ap (λ l. l ++ three) begins ∙ append_assoc old (codes ": ") three)
-      ∙ append_assoc old (codes ": " ++ three) (and_more (length xs))
-      ∙ ap (λ (l : List X). old ++ (codes ": " ++ joined (codes ", ") (map text l) ++ and_more (length xs))) are
-      ∙ ap (λ l. old ++ (codes ": " ++ joined (codes ", ") l ++ and_more (length xs))) (sym (take-map text 3 xs))
-      ∙ ap (λ n. old ++ (codes ": " ++ joined (codes ", ") (take 3 (map text xs)) ++ and_more n)) (sym (length-map xs text))
-      ∙ ap (λ l. old ++ l) (three_are xs some))
+      (λ pushed. pushed ∙ ap (λ l. l ++ joined mark (map text xs)) begins ∙ append_assoc old word (joined mark (map text xs))
+      ∙ ap (λ l. old ++ l) (either_are none word xs some))
+      all
+
+module _ {X : Type 0} (text : X → List ℕ) where
+  -- the first three, and how many more there are
+  pub three_shown : {T E : Type 0} (result : Result T E) (old part now : List ℕ) (xs first : List X) → first ≡ take 3 xs
+      → part ≡ old ++ joined_or [] (codes ": ") (codes ", ") (map text first) → OnOk result (now ≡ part ++ and_more (length xs))
+      → OnOk result (now ≡ old ++ first_three (map text xs))
+  three_shown result old part now xs first are shown all =
+      let three = λ (l : List (List ℕ)). joined_or [] (codes ": ") (codes ", ") l in
+      on_ok result
+      (λ pushed. pushed ∙ ap (λ l. l ++ and_more (length xs)) shown ∙ append_assoc old (three (map text first)) (and_more (length xs))
+      ∙ ap (λ (l : List X). old ++ (three (map text l) ++ and_more (length xs))) are
+      ∙ ap (λ l. old ++ (three l ++ and_more (length xs))) (sym (take-map text 3 xs))
+      ∙ ap (λ n. old ++ (three (take 3 (map text xs)) ++ and_more n)) (sym (length-map xs text)))
       all

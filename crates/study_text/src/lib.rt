@@ -1,16 +1,23 @@
-//! The texts of studies, as bytes: numbers, addresses, prefixes, routers by their names, and lists
-//! of these.
+//! The texts of studies, as bytes: numbers, addresses, prefixes, routers by their names, lists of
+//! these, and lines.
 //!
 //! Texts are put together in a `Vec<u8, A>`, since names are bytes. Each function adds one part to
 //! the text; where memory runs out, a piece of the part may have been added.
 #![tactic(auto)]
 
+// Parts of lines.
 mod list;
 mod number;
 mod router;
 mod shown;
+mod word;
 
-pub use list::{push_first_three, push_joined, push_list};
+// Whole lines.
+mod line;
+
+pub use line::{Line, push_lines};
+pub use list::{push_first_three, push_joined, push_joined_or, push_list};
 pub use number::{push_address, push_number, push_prefix};
 pub use router::push_router;
 pub use shown::Shown;
+pub use word::{push_after, push_number_after, push_word};

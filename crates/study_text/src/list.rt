@@ -2,10 +2,10 @@
 
 ghost use Rattle.std.specs.Prelude.{◌≡◌, ◌++◌, OnOk, flat_map, map, take};
 ghost use Rattle.network_names.specs.Names.{called};
-ghost use Rattle.study_text.specs.Lists.{and_more, first_three, joined, listed};
+ghost use Rattle.study_text.specs.Lists.{and_more, first_three, joined, joined_or, listed};
 
-use crate::number::push_number;
 use crate::shown::Shown;
+use crate::word::{push_number_after, push_word};
 use network_names::Names;
 use std::alloc::{AllocError, Allocator};
 
@@ -20,7 +20,7 @@ fn push_more<T: Shown, A: Allocator + Copy>(
         ++ flat_map (λ item. mark.now ++ T.shown_as (called names.now) item) items.now) }
 {
     for item in items {
-        text.extend_from_slice(mark.as_bytes())?;
+        push_word(text, mark)?;
         item.push_to(text, names)?;
     }
     Ok(())
@@ -47,6 +47,29 @@ pub fn push_joined<T: Shown, A: Allocator + Copy>(
     push_more(text, names, mark, more)
 }
 
+/// Adds items after a word, with a mark between each two, or else what stands where there is none.
+///
+/// # Errors
+///
+/// Memory ran out.
+pub fn push_joined_or<T: Shown, A: Allocator + Copy>(
+    text: &mut Vec<u8, A>,
+    names: &Names<'_, A>,
+    none: &str,
+    word: &str,
+    mark: &str,
+    items: &[T],
+) -> Result<(), AllocError>
+    ensures { OnOk result (text.new.items ≡ text.old.items
+        ++ joined_or none.now word.now mark.now (map (T.shown_as (called names.now)) items.now)) }
+{
+    if items.is_empty() {
+        return push_word(text, none);
+    }
+    push_word(text, word)?;
+    push_joined(text, names, mark, items)
+}
+
 /// Adds items joined by commas, or a dash where there is none.
 ///
 /// # Errors
@@ -60,10 +83,7 @@ pub fn push_list<T: Shown, A: Allocator + Copy>(
     ensures { OnOk result (text.new.items
         ≡ text.old.items ++ listed (map (T.shown_as (called names.now)) items.now)) }
 {
-    if items.is_empty() {
-        return text.extend_from_slice(b"-");
-    }
-    push_joined(text, names, ",", items)
+    push_joined_or(text, names, "-", "", ",", items)
 }
 
 /// The number of items that are shown of a long list.
@@ -83,9 +103,8 @@ fn push_rest<A: Allocator + Copy>(text: &mut Vec<u8, A>, count: usize) -> Result
     if count <= SHOWN {
         return Ok(());
     }
-    text.extend_from_slice(b" and ")?;
-    push_number(text, (count - SHOWN) as u64)?;
-    text.extend_from_slice(b" more")
+    push_number_after(text, " and ", (count - SHOWN) as u64)?;
+    push_word(text, " more")
 }
 
 /// Adds a colon, the first three items, and how many more there are; nothing where there is none.
@@ -101,10 +120,6 @@ pub fn push_first_three<T: Shown, A: Allocator + Copy>(
     ensures { OnOk result (text.new.items
         ≡ text.old.items ++ first_three (map (T.shown_as (called names.now)) items.now)) }
 {
-    if items.is_empty() {
-        return Ok(());
-    }
-    text.extend_from_slice(b": ")?;
-    push_joined(text, names, ", ", first_items(items))?;
+    push_joined_or(text, names, "", ": ", ", ", first_items(items))?;
     push_rest(text, items.len())
 }

@@ -1,14 +1,40 @@
--- The inputs of a study that has begun are accepted.
-use Rattle.std.proofs.Common.{◌≡◌, sym, subst, refl, ℕ, List, Option, None, Some, Result, Ok}
+-- A study that has begun, and its inputs, which are accepted.
+use Rattle.std.proofs.Common.{◌≡◌, ◌∙◌, ap, sym, subst, refl, ℕ, List, Option, None, Some, Result, Ok}
 use Rattle.std.specs.Prelude.{IsOk, IfSome}
 use Rattle.lsdb.specs.Lists.{Lists}
+use Rattle.lsdb.specs.Slots.{Slots, lists_of}
 use Rattle.edit_history.specs.Session.{Session}
-use Rattle.network_names.specs.File.{names_in}
+use Rattle.branches.specs.Branches.{Sessions, resumed}
+use Rattle.network_names.specs.File.{Taken, names_in}
+use Rattle.network_names.specs.declared.names.Names.{Names as NamesOfFile}
 use Rattle.saved_sessions.specs.Opening.{opened}
-use Rattle.study_session.specs.Answers.{Study}
+use Rattle.study_session.specs.Answers.{Study, study_by}
 use Rattle.whole_run.specs.Inputs.{IsAccepted}
 use Rattle.whole_study.specs.Begin.{AreAccepted, Begins, IsBaseline, names_of}
+use Rattle.whole_study.specs.Calls.{MayEndRun}
 use Rattle.whole_study.specs.Given.{Given}
+use Rattle.whole_study.specs.steps.Texts.{IsNamesEnd}
+use Rattle.whole_study.specs.declared.fault.RunFault.{RunFault}
+use Rattle.whole_study.specs.declared.fault.RunFault.TheVariants.{Dump, Baseline, Names, Read, Write, TooLarge, OutOfMemory}
+
+-- the study of what was opened
+pub begins_of : {A : Type 0} (given : Given) (session : Session) (database : Slots) (file : List ℕ) (names : NamesOfFile A) (sessions : Sessions)
+    (s : Study) → opened given.dump ≡ Ok session → IsBaseline session given.baseline (lists_of database) → file ≡ names_of given
+    → Taken (names_in file) names → sessions ≡ resumed session → s ≡ study_by sessions database names → Begins given s
+begins_of given session database file names sessions s dump baseline is_file taken resume is =
+    subst (Begins given) (sym is)
+    (record {
+      session = session;
+      dump = dump;
+      sessions = resume;
+      baseline = baseline;
+      named = taken.all;
+      names = ap names_in (sym is_file) ∙ taken.given_is;
+      lookup = taken.are.addresses;
+      called = taken.are.routers;
+    })
+
+-- ---- inputs that are accepted
 
 pub ok_of : {T E : Type 0} (r : Result T E) (x : T) → r ≡ Ok x → IsOk r
 ok_of r x e = subst IsOk (sym e) refl
@@ -23,3 +49,14 @@ accepted_of given s begins = record {
   baseline = baseline_accepted begins.session given.baseline s.baseline begins.baseline;
   names = ok_of (names_in (names_of given)) begins.named begins.names;
 }
+
+-- the names file is refused, where the dump and the baseline are accepted
+pub names_refused : {A : Type 0} (given : Given) (file : List ℕ) (fault : RunFault A) → file ≡ names_of given → IsAccepted given.dump
+    → IfSome given.baseline IsAccepted → IsNamesEnd file fault → MayEndRun given fault
+names_refused given file (Dump fault) is dump baseline end = absurd end
+names_refused given file (Baseline fault) is dump baseline end = absurd end
+names_refused given file (Names refusal) is dump baseline end = (dump, (baseline, ap names_in (sym is) ∙ end))
+names_refused given file Read is dump baseline end = absurd end
+names_refused given file Write is dump baseline end = absurd end
+names_refused given file TooLarge is dump baseline end = absurd end
+names_refused given file OutOfMemory is dump baseline end = tt

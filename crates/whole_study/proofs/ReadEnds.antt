@@ -1,62 +1,9 @@
 -- How the reading of an input may end a run.
-use Rattle.std.proofs.Common.{◌≡◌, ◌∙◌, ◌↔◌, sym, ap, subst, refl, ℕ, ◌<◌, Bool, true, false, List, length, Option, None, Some, Result, Ok, Err, inl, inr}
-use Rattle.std.specs.Prelude.{◌||◌, is_some}
-use Rattle.host_io.specs.declared.watch.Watched.{Watched}
-use Rattle.host_io.specs.WholeText.{IsLonger}
-use Rattle.lsdb.specs.declared.fault.DumpFault.{DumpFault}
-use Rattle.whole_run.specs.Inputs.{IsRefusedDump}
-use Rattle.whole_run.specs.Streams.{contents_of}
-use Rattle.whole_study.specs.Begin.{names_of}
-use Rattle.whole_study.specs.Calls.{IsTooMuch, MayEndRun, most}
-use Rattle.whole_study.specs.Given.{Given}
-use Rattle.whole_study.specs.Streams.{HasBytes}
-use Rattle.whole_study.specs.steps.Texts.{IsLongBaseline, IsReadEnd, MayEndReading, Never}
+use Rattle.std.proofs.Common.{◌≡◌, ◌∙◌, ◌↔◌, sym, ap, refl, Bool, true, false, Result, Ok, Err}
+use Rattle.std.specs.Prelude.{◌||◌}
+use Rattle.whole_study.specs.steps.Texts.{IsReadEnd, Never}
 use Rattle.whole_study.specs.declared.fault.RunFault.{RunFault}
 use Rattle.whole_study.specs.declared.fault.RunFault.TheVariants.{Dump, Baseline, Names, Read, Write, TooLarge, OutOfMemory}
-
--- the dump
-pub dump_end : {A : Type 0} (known : Option (List ℕ)) (given : Given) (fault : RunFault A) → known ≡ Some given.dump
-    → IsReadEnd (IsRefusedDump known) Never ⊥ fault → MayEndRun given fault
-dump_end known given (Dump fault) e end = subst (λ (k : Option (List ℕ)). IsRefusedDump k fault) e end
-dump_end known given (Baseline fault) e end = absurd end
-dump_end known given (Names refusal) e end = absurd end
-dump_end known given Read e end = tt
-dump_end known given Write e end = absurd end
-dump_end known given TooLarge e end = absurd end
-dump_end known given OutOfMemory e end = tt
-
--- the baseline
-pub baseline_end : {R A : Type 0} (remaining : R → Option (List ℕ)) (reader : Option (Watched R)) (given : Given) (fault : RunFault A)
-    → HasBytes remaining reader given.baseline → IsReadEnd Never (IsLongBaseline remaining reader) ⊥ fault → MayEndRun given fault
-baseline_end remaining reader given (Dump fault) has end = absurd end
-baseline_end remaining reader given (Baseline fault) has (some, (refused, large)) =
-    (sym has.given ∙ some, (subst (λ (k : Option (List ℕ)). IsRefusedDump k fault) has.same refused, inr large))
-baseline_end remaining reader given (Names refusal) has end = absurd end
-baseline_end remaining reader given Read has end = tt
-baseline_end remaining reader given Write has end = absurd end
-baseline_end remaining reader given TooLarge has end = absurd end
-baseline_end remaining reader given OutOfMemory has end = tt
-
--- a text
-pub text_end : {A : Type 0} (long : Type 0) (given : Given) (fault : RunFault A) → (long → IsTooMuch given) → IsReadEnd Never Never long fault
-    → MayEndRun given fault
-text_end long given (Dump fault) much end = absurd end
-text_end long given (Baseline fault) much end = absurd end
-text_end long given (Names refusal) much end = absurd end
-text_end long given Read much end = tt
-text_end long given Write much end = absurd end
-text_end long given TooLarge much end = much end
-text_end long given OutOfMemory much end = tt
-
-long_names : (given : Given) (names : Option (List ℕ)) → given.names ≡ names → is_some names ≡ true → IsLonger names most → most < length (names_of given)
-long_names given None e some long = absurd cc
-long_names given (Some bytes) e some long = rw e long
-
--- the names file
-pub names_much : {R : Type 0} (remaining : R → Option (List ℕ)) (reader : Option (Watched R)) (given : Given) → HasBytes remaining reader given.names
-    → is_some reader ≡ true → IsLonger (contents_of remaining reader) most → IsTooMuch given
-names_much remaining reader given has some long =
-    inr (inl (long_names given given.names refl (sym has.given ∙ some) (subst (λ (k : Option (List ℕ)). IsLonger k most) has.same long)))
 
 -- of a text, where it is too long for another reason
 pub long_for : {A : Type 0} (P Q : Type 0) (fault : RunFault A) → (P → Q) → IsReadEnd Never Never P fault → IsReadEnd Never Never Q fault
@@ -67,16 +14,6 @@ long_for P Q Read by end = tt
 long_for P Q Write by end = absurd end
 long_for P Q TooLarge by end = by end
 long_for P Q OutOfMemory by end = tt
-
--- no writer has failed
-pub reading_end : {A : Type 0} (P Q : DumpFault → Type 0) (long : Type 0) (fault : RunFault A) → IsReadEnd P Q long fault → MayEndReading fault
-reading_end P Q long (Dump fault) end = tt
-reading_end P Q long (Baseline fault) end = tt
-reading_end P Q long (Names refusal) end = end
-reading_end P Q long Read end = tt
-reading_end P Q long Write end = end
-reading_end P Q long TooLarge end = tt
-reading_end P Q long OutOfMemory end = tt
 
 -- ---- readers that have failed
 

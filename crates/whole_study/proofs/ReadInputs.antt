@@ -1,5 +1,5 @@
 -- The inputs that were read are those that are given.
-use Rattle.std.proofs.Common.{◌≡◌, ◌≢◌, ◌∙◌, sym, ap, subst, refl, ℕ, suc, zero, ◌+◌, ◌<◌, ◌≤◌, Bool, true, false, List, [], ◌∷◌, ◌++◌, length, get_or, set, take, drop, map, add-zero, Option, None, Some, inl, inr, arith}
+use Rattle.std.proofs.Common.{◌≡◌, ◌∙◌, sym, ap, subst, refl, ℕ, suc, zero, ◌+◌, ◌<◌, Bool, true, false, List, [], ◌∷◌, ◌++◌, length, get_or, set, take, drop, map, add-zero, Option, None, Some, arith}
 use Rattle.std.specs.Prelude.{◌||◌, All, IfSome, is_some}
 use Rattle.std.proofs.lemmas.List.{drop-drop, drop-set-lt, get_or-drop, take_more}
 use Rattle.std.proofs.lemmas.Bool.{lt-ltb}
@@ -9,8 +9,8 @@ use Rattle.host_io.specs.declared.watch.Watched.{Watched}
 use Rattle.host_io.specs.WholeText.{IsAll, IsLonger}
 use Rattle.whole_run.specs.Streams.{contents_of}
 use Rattle.whole_study.specs.Given.{Given, NamedText}
-use Rattle.whole_study.specs.Streams.{HasBytes, HasText, HaveBytes}
-use Rattle.whole_study.specs.Calls.{HasLonger, most}
+use Rattle.whole_study.specs.Streams.{HasBytes, HasText}
+use Rattle.whole_study.specs.Calls.{most}
 use Rattle.whole_study.specs.steps.Texts.{IsLongIn, IsReadOf, IsTextOf, named_text}
 use Rattle.whole_study.specs.declared.inputs.StudyFile.{StudyFile}
 use Rattle.whole_study.specs.declared.inputs.StudyText.{StudyText}

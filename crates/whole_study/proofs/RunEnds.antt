@@ -2,7 +2,7 @@
 use Rattle.std.proofs.Common.{◌≡◌, ◌∙◌, sym, ap, subst, refl, ℕ, ◌+◌, ◌<◌, ◌≤◌, eqb, zero-add, Bool, true, false, cond, List, [], ◌∷◌, ◌++◌, append-nil, length, map, Option, None, Some, Result, Ok, Err, inl, inr, arith}
 use Rattle.std.specs.Prelude.{◌⊎◌, ◌&&◌, ◌||◌, All, IfErr, IfOk, IfSome, OnOk, Vec, count_by, nat_lt, unwrap_or, vec_len}
 use Rattle.std.proofs.lemmas.Result.{IfErr-weaker, IfOk-weaker}
-use Rattle.std.specs.List.{list_all, list_any}
+use Rattle.std.specs.List.{list_all}
 use Rattle.std.specs.Io.KnownBytes.{Appends}
 use Rattle.std.proofs.KnownBytes.{Appends-trans}
 use Rattle.std.proofs.lemmas.Bool.{ltb-true, ne_eqb}
@@ -14,11 +14,11 @@ use Rattle.study_session.specs.declared.answer.Outcome.{Outcome}
 use Rattle.study_session.specs.declared.answer.Outcome.TheVariants.{Accepted, Refused, Failed}
 use Rattle.study_session.specs.Answers.{Study}
 use Rattle.whole_study.specs.Begin.{AreAccepted, Begins}
-use Rattle.whole_study.specs.Calls.{Ends, FitsInputs, HasLonger, IsBeforeReplies, IsTooMuch, MayEndRun, WritesPrefix, most, of_all, of_first}
-use Rattle.whole_study.specs.Given.{Given, NamedText}
+use Rattle.whole_study.specs.Calls.{Ends, FitsInputs, HasLonger, IsBeforeReplies, IsTooMuch, MayEndRun, WritesPrefix, most, of_all}
+use Rattle.whole_study.specs.Given.{Given}
 use Rattle.whole_study.specs.Lines.{Line, all_lines}
-use Rattle.whole_study.specs.Run.{Answered, AreAnswered, Gives, IsStop, StopsAtLast, dump_left, dump_of, errors_of, goes_on, has_passed, is_accepted, replies_of, study_after, summary_of, summary_text, was_accepted, was_failed, was_refused, whole_replies}
-use Rattle.whole_study.specs.steps.Carrying.{CarriesOut, IsStopBy, WritesPart, Written}
+use Rattle.whole_study.specs.Run.{Answered, AreAnswered, Gives, IsStop, StopsAtLast, dump_left, dump_of, errors_of, has_passed, is_accepted, replies_of, study_after, summary_of, summary_text, was_accepted, was_failed, was_refused, whole_replies}
+use Rattle.whole_study.specs.steps.Carrying.{CarriesOut, IsStopBy, Written}
 use Rattle.whole_study.specs.steps.Endings.{MayEndWriting}
 use Rattle.whole_study.specs.steps.Texts.{HasFewBytes, bytes_in, given_in, named_text}
 use Rattle.whole_study.specs.declared.fault.RunFault.{RunFault}
@@ -139,15 +139,6 @@ module _ (keep_going : Bool) (s : Study) (lines : List Line) (old : Written) (be
     errors = subst (λ (x : Option (List ℕ)). AppendsPrefix old.errors x (errors_of one.given)) (sym same)
         (prefix_whole old.errors new.errors (errors_of one.given) one.errors);
   }
-
--- a part of the replies is written
-pub prefix_of_part : (keep_going : Bool) (s : Study) (lines : List Line) (old new : Written) → WritesPart keep_going s lines old new
-    → WritesPrefix keep_going s lines old.replies new.replies old.errors new.errors
-prefix_of_part keep_going s lines old new part = record {
-  given = part.given;
-  replies = of_first part.gives part.replies;
-  errors = part.errors;
-}
 
 -- ---- not too much
 

@@ -72,7 +72,8 @@ fn carry_out_study<A: Allocator + Copy, W: Write, E: Write>(
     requires room { HasRoom (length study.now.text.items + 1) summary.old }
     ensures carried { IfOk result (λ goes_on. CarriesOut keep_going (study_of session.old)
         (study_lines (named_text study.now)) (written W.contents E.contents output.old)
-        summary.old goes_on (study_of session.new) (written W.contents E.contents output.new) summary.new) }
+        summary.old goes_on (study_of session.new)
+        (written W.contents E.contents output.new) summary.new) }
     ensures grows { OnOk result
         (Grows (length study.now.text.items + 1) summary.old summary.new) }
     ensures part { WritesPart keep_going (study_of session.old) (study_lines (named_text study.now))
@@ -113,7 +114,8 @@ pub(crate) fn carry_out<A: Allocator + Copy, W: Write, E: Write>(
     requires new { summary.old ≡ summary_of [] }
     ensures carried { IfOk result (λ goes_on. CarriesOut keep_going (study_of session.old)
         (lines_in studies.now) (written W.contents E.contents output.old)
-        summary.old goes_on (study_of session.new) (written W.contents E.contents output.new) summary.new) }
+        summary.old goes_on (study_of session.new)
+        (written W.contents E.contents output.new) summary.new) }
     ensures part { WritesPart keep_going (study_of session.old) (lines_in studies.now)
         (written W.contents E.contents output.old) (written W.contents E.contents output.new) }
     ensures failed { (result ≡ Err RunFault.Write) ↔ (has_writer_failed output.new ≡ true) }

@@ -1,15 +1,14 @@
 //! The inputs of a run, read whole.
 
-ghost use Rattle.std.specs.Prelude.{◌≡◌, ◌||◌, ◌↔◌, ◌≤◌, All, IfErr, IfOk, IfSome, OnOk, Some, false, is_some, length, true, vec_len};
+ghost use Rattle.std.specs.Prelude.{◌≡◌, ◌≢◌, ◌||◌, ◌↔◌, ◌≤◌, ℕ, All, IfErr, IfOk, IfSome, List, OnOk, Option, Some, false, is_some, length, true};
 ghost use Rattle.std.specs.List.{AllZip};
 ghost use Rattle.host_io.specs.Watched.{inner_of, has_failed};
 ghost use Rattle.host_io.specs.WholeText.{IsAll, IsLonger};
-ghost use Rattle.whole_run.specs.Inputs.{IsRefusedDump};
 ghost use Rattle.whole_run.specs.Streams.{contents_of, has_any_failed};
 ghost use Rattle.whole_study.specs.Calls.{IsTooMuch, MayEndRun, most};
 ghost use Rattle.whole_study.specs.Given.{Given};
 ghost use Rattle.whole_study.specs.Streams.{HaveBytes, has_file_failed, has_study_failed};
-ghost use Rattle.whole_study.specs.steps.Texts.{HasFewBytes, IsLongBaseline, IsLongIn, IsReadEnd, IsReadOf, IsTextOf, MayEndReading, Never, bytes_in, given_in};
+ghost use Rattle.whole_study.specs.steps.Texts.{HasFewBytes, IsEndOf, IsLongAs, IsLongIn, IsReadEnd, IsReadOf, IsShortAs, IsTextOf, MayEndReading, Never, bytes_in, given_in};
 
 use crate::fault::RunFault;
 use host_io::{ReadFault, Watched, read_whole};
@@ -60,7 +59,8 @@ pub(crate) struct Texts<'a, A: Allocator = Global> {
     pub(crate) studies: Vec<StudyText<'a, A>, A>,
 }
 
-/// The greatest length of a names file and of a study, in bytes, and the greatest number of studies.
+/// The greatest length of a names file and of a study, in bytes, and the greatest number of
+/// studies.
 const MOST: usize = 1_048_576;
 
 /// The fault of a dump that is longer than the limit.
@@ -69,85 +69,88 @@ const TOO_LARGE: DumpFault = DumpFault {
     kind: DumpFaultKind::TooLarge,
 };
 
-/// Reads the dump.
-fn read_loaded<A: Allocator + Copy, R: Read>(
+/// How an input is read, and what is reported where it is too large.
+#[derive(Clone, Copy, Debug)]
+enum Input {
+    /// The dump, or the saved session.
+    Dump,
+    /// The baseline.
+    Baseline,
+    /// The names file or a study.
+    Text,
+}
+
+/// The fault of an input that is longer than its limit.
+fn too_large<A: Allocator>(input: Input) -> RunFault<A>
+    ensures end { (known : Option (List ℕ)) → IsLongAs input known → IsEndOf input known result }
+    ensures early { MayEndReading result }
+    ensures read { result ≢ RunFault.Read }
+{
+    match input {
+        Input::Dump => RunFault::Dump(TOO_LARGE),
+        Input::Baseline => RunFault::Baseline(TOO_LARGE),
+        Input::Text => RunFault::TooLarge,
+    }
+}
+
+/// Reads the bytes of an input.
+fn read_bytes<A: Allocator + Copy, R: Read>(
     alloc: A,
+    input: Input,
+    reader: &mut Watched<R>,
+) -> Result<Vec<u8, A>, ReadFault>
+    requires { has_failed reader.old ≡ false }
+    ensures whole { IfOk result (λ bytes. IsAll (R.remaining (inner_of reader.old)) bytes.items) }
+    ensures within { IfOk result (IsShortAs input) }
+    ensures too_large { result ≡ Err ReadFault.TooLarge
+        → IsLongAs input (R.remaining (inner_of reader.old)) }
+    ensures failed { (result ≡ Err ReadFault.Failed) ↔ (has_failed reader.new ≡ true) }
+{
+    match input {
+        Input::Dump | Input::Baseline => read_dump(alloc, reader),
+        Input::Text => read_whole(alloc, reader, MOST),
+    }
+}
+
+/// Reads an input.
+fn read_input<A: Allocator + Copy, R: Read>(
+    alloc: A,
+    input: Input,
     reader: &mut Watched<R>,
 ) -> Result<Vec<u8, A>, RunFault<A>>
     requires { has_failed reader.old ≡ false }
     ensures whole { IfOk result (λ bytes. IsAll (R.remaining (inner_of reader.old)) bytes.items) }
-    ensures end { IfErr result
-        (IsReadEnd (IsRefusedDump (R.remaining (inner_of reader.old))) Never ⊥) }
+    ensures within { IfOk result (IsShortAs input) }
+    ensures end { IfErr result (IsEndOf input (R.remaining (inner_of reader.old))) }
+    ensures early { IfErr result MayEndReading }
     ensures failed { (result ≡ Err RunFault.Read) ↔ (has_failed reader.new ≡ true) }
 {
-    match read_dump(alloc, reader) {
+    match read_bytes(alloc, input, reader) {
         Ok(bytes) => Ok(bytes),
         Err(ReadFault::Failed) => Err(RunFault::Read),
-        Err(ReadFault::TooLarge) => Err(RunFault::Dump(TOO_LARGE)),
+        Err(ReadFault::TooLarge) => Err(too_large(input)),
         Err(ReadFault::OutOfMemory) => Err(RunFault::OutOfMemory),
     }
 }
 
-/// Reads the baseline, where one is given.
-fn read_baseline<A: Allocator + Copy, R: Read>(
+/// Reads an input, where one is given.
+fn read_given<A: Allocator + Copy, R: Read>(
     alloc: A,
+    input: Input,
     reader: &mut Option<Watched<R>>,
 ) -> Result<Option<Vec<u8, A>>, RunFault<A>>
     requires { has_any_failed reader.old ≡ false }
     ensures whole { IfOk result (λ bytes.
         IsReadOf R.remaining reader.old (bytes_in bytes)) }
-    ensures end { IfErr result
-        (IsReadEnd Never (IsLongBaseline R.remaining reader.old) ⊥) }
-    ensures failed { (result ≡ Err RunFault.Read) ↔ (has_any_failed reader.new ≡ true) }
-{
-    let Some(reader) = reader else {
-        return Ok(None);
-    };
-    match read_dump(alloc, reader) {
-        Ok(bytes) => Ok(Some(bytes)),
-        Err(ReadFault::Failed) => Err(RunFault::Read),
-        Err(ReadFault::TooLarge) => Err(RunFault::Baseline(TOO_LARGE)),
-        Err(ReadFault::OutOfMemory) => Err(RunFault::OutOfMemory),
-    }
-}
-
-/// Reads a names file or a study.
-fn read_text<A: Allocator + Copy, R: Read>(
-    alloc: A,
-    reader: &mut Watched<R>,
-) -> Result<Vec<u8, A>, RunFault<A>>
-    requires { has_failed reader.old ≡ false }
-    ensures whole { IfOk result (λ bytes. IsAll (R.remaining (inner_of reader.old)) bytes.items) }
-    ensures within { IfOk result (λ bytes. vec_len bytes ≤ most) }
-    ensures end { IfErr result
-        (IsReadEnd Never Never (IsLonger (R.remaining (inner_of reader.old)) most)) }
-    ensures failed { (result ≡ Err RunFault.Read) ↔ (has_failed reader.new ≡ true) }
-{
-    match read_whole(alloc, reader, MOST) {
-        Ok(bytes) => Ok(bytes),
-        Err(ReadFault::Failed) => Err(RunFault::Read),
-        Err(ReadFault::TooLarge) => Err(RunFault::TooLarge),
-        Err(ReadFault::OutOfMemory) => Err(RunFault::OutOfMemory),
-    }
-}
-
-/// Reads the names file, where one is given.
-fn read_names_file<A: Allocator + Copy, R: Read>(
-    alloc: A,
-    reader: &mut Option<Watched<R>>,
-) -> Result<Option<Vec<u8, A>>, RunFault<A>>
-    requires { has_any_failed reader.old ≡ false }
-    ensures whole { IfOk result (λ bytes.
-        IsReadOf R.remaining reader.old (bytes_in bytes)) }
-    ensures within { IfOk result (λ bytes. IfSome bytes (λ b. vec_len b ≤ most)) }
-    ensures end { IfErr result
-        (IsReadEnd Never Never ((is_some reader.old ≡ true)
-        × IsLonger (contents_of R.remaining reader.old) most)) }
+    ensures within { IfOk result (λ bytes. IfSome bytes (IsShortAs input)) }
+    ensures end { IfErr result (λ fault. (is_some reader.old ≡ true)
+        × IsEndOf input (contents_of R.remaining reader.old) fault) }
+    ensures early { IfErr result MayEndReading }
     ensures failed { (result ≡ Err RunFault.Read) ↔ (has_any_failed reader.new ≡ true) }
 {
     match reader {
         None => Ok(None),
-        Some(reader) => Ok(Some(read_text(alloc, reader)?)),
+        Some(reader) => Ok(Some(read_input(alloc, input, reader)?)),
     }
 }
 
@@ -161,9 +164,10 @@ fn read_study<'a, A: Allocator + Copy, S: Read>(
     ensures within { IfOk result HasFewBytes }
     ensures end { IfErr result
         (IsReadEnd Never Never (IsLonger (S.remaining (inner_of file.old.reader)) most)) }
+    ensures early { IfErr result MayEndReading }
     ensures failed { (result ≡ Err RunFault.Read) ↔ (has_failed file.new.reader ≡ true) }
 {
-    let text = read_text(alloc, &mut file.reader)?;
+    let text = read_input(alloc, Input::Text, &mut file.reader)?;
     Ok(StudyText {
         name: file.name,
         text,
@@ -179,6 +183,7 @@ fn read_studies<'a, A: Allocator + Copy, S: Read>(
     ensures whole { IfOk result (λ texts. AllZip (IsTextOf S.remaining) files.old texts.items) }
     ensures within { IfOk result (λ texts. All HasFewBytes texts.items) }
     ensures end { IfErr result (IsReadEnd Never Never (IsLongIn S.remaining files.old)) }
+    ensures early { IfErr result MayEndReading }
     ensures failed { (result ≡ Err RunFault.Read) ↔ (has_study_failed files.new ≡ true) }
 {
     let mut texts = Vec::new(alloc);
@@ -211,10 +216,14 @@ pub(crate) fn read_all<'a, A: Allocator + Copy, R: Read, S: Read>(
     if studies.len() > MOST {
         return Err(RunFault::TooLarge);
     }
+    let dump = read_input(alloc, Input::Dump, &mut files.dump)?;
+    let baseline = read_given(alloc, Input::Baseline, &mut files.baseline)?;
+    let names = read_given(alloc, Input::Text, &mut files.names)?;
+    let studies = read_studies(alloc, studies)?;
     Ok(Texts {
-        dump: read_loaded(alloc, &mut files.dump)?,
-        baseline: read_baseline(alloc, &mut files.baseline)?,
-        names: read_names_file(alloc, &mut files.names)?,
-        studies: read_studies(alloc, studies)?,
+        dump,
+        baseline,
+        names,
+        studies,
     })
 }

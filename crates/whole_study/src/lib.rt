@@ -1,8 +1,8 @@
 //! The whole run of studies, over readers and writers.
 //!
-//! [`run`] reads the dump, the baseline, the names and the studies, carries the lines of the studies
-//! out in one session, and writes the reply to each line, a line for each that is not accepted, and
-//! the summary. The theorem of the whole stands on it.
+//! [`run`] reads the dump, the baseline, the names and the studies, carries out the lines of the
+//! studies in one session, and writes the reply to each line, a line for each that is not accepted,
+//! and the summary. The theorem of the whole stands on it.
 #![tactic(auto)]
 
 // What a run is given.

@@ -2,8 +2,8 @@
 //! what they answer, and the tests are proved soon.
 
 use link_report::{
-    link_line_at, link_lines, link_numbers, network_lines, push_link, push_link_lines,
-    push_link_name, push_network_lines, push_router_lines, router_lines, router_lsa_of_any_age,
+    link_line_at, link_lines, link_numbers, network_lines, push_link, push_link_name, router_lines,
+    router_lsa_of_any_age,
 };
 use lsa_codec::{AreaId, RouterId};
 use lsdb::Database;
@@ -12,6 +12,7 @@ use routing_table::routers;
 use std::alloc::Global;
 use std::test::*;
 use study_arguments::LinkName;
+use study_text::push_lines;
 use test_support::dump_of_text;
 
 /// The names of six routers.
@@ -41,7 +42,7 @@ fn text_of(bytes: Vec<u8>) -> Result<String, Fail> {
 pub(super) fn routers_text(alloc: Global, text: &str) -> Result<String, Fail> {
     let mut reply = Vec::new(alloc);
     let lines = router_lines(alloc, &database(alloc, text)?)?;
-    push_router_lines(&mut reply, &names(alloc)?, &lines)?;
+    push_lines(&mut reply, &names(alloc)?, &lines)?;
     text_of(reply)
 }
 
@@ -50,7 +51,7 @@ pub(super) fn links_text(alloc: Global, text: &str) -> Result<String, Fail> {
     let mut reply = Vec::new(alloc);
     let database = database(alloc, text)?;
     let lines = link_lines(alloc, &database, &routers(alloc, &database)?)?;
-    push_link_lines(&mut reply, &names(alloc)?, &lines)?;
+    push_lines(&mut reply, &names(alloc)?, &lines)?;
     text_of(reply)
 }
 
@@ -58,7 +59,7 @@ pub(super) fn links_text(alloc: Global, text: &str) -> Result<String, Fail> {
 pub(super) fn networks_text(alloc: Global, text: &str) -> Result<String, Fail> {
     let mut reply = Vec::new(alloc);
     let lines = network_lines(alloc, &database(alloc, text)?)?;
-    push_network_lines(&mut reply, &names(alloc)?, &lines)?;
+    push_lines(&mut reply, &names(alloc)?, &lines)?;
     text_of(reply)
 }
 

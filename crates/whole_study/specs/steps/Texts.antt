@@ -1,13 +1,13 @@
 -- The inputs of a run as they are read, and how the reading may end.
-use Rattle.std.specs.Prelude.{◌≡◌, ℕ, ◌≤◌, false, true, List, length, map, Option, option_map, Some, Err, IfSome, Vec, is_some}
+use Rattle.std.specs.Prelude.{◌≡◌, ℕ, ◌≤◌, List, length, map, Option, option_map, Some, Err, IfSome, Vec, is_some, vec_len}
 use Rattle.std.specs.List.{AllZip}
 use Rattle.host_io.specs.Watched.{inner_of}
 use Rattle.host_io.specs.declared.watch.Watched.{Watched}
-use Rattle.host_io.specs.WholeText.{IsAll}
+use Rattle.host_io.specs.WholeText.{IsAll, IsLonger}
 use Rattle.lsdb.specs.declared.fault.DumpFault.{DumpFault}
 use Rattle.lsdb.specs.declared.fault.DumpFaultKind.TheVariants as kind
 use Rattle.network_names.specs.File.{names_in}
-use Rattle.whole_run.specs.Inputs.{IsRefusedDump}
+use Rattle.whole_run.specs.Inputs.{IsRefusedDump, IsTooLong}
 use Rattle.whole_run.specs.Streams.{contents_of}
 use Rattle.whole_study.specs.Calls.{HasLonger, most}
 use Rattle.whole_study.specs.Given.{Given, NamedText}
@@ -15,6 +15,8 @@ use Rattle.whole_study.specs.Lines.{Line, all_lines}
 use Rattle.whole_study.specs.Streams.{HasText}
 use Rattle.whole_study.specs.declared.fault.RunFault.{RunFault}
 use Rattle.whole_study.specs.declared.fault.RunFault.TheVariants.{Dump, Baseline, Names, Read, Write, TooLarge, OutOfMemory}
+use Rattle.whole_study.specs.declared.inputs.Input.{Input}
+use Rattle.whole_study.specs.declared.inputs.Input.TheVariants as input
 use Rattle.whole_study.specs.declared.inputs.StudyFile.{StudyFile}
 use Rattle.whole_study.specs.declared.inputs.StudyText.{StudyText}
 use Rattle.whole_study.specs.declared.inputs.Texts.{Texts}
@@ -73,10 +75,27 @@ IsReadEnd dump baseline long OutOfMemory = Unit {0}
 abbrev pub Never : DumpFault → Type 0
 Never fault = ⊥
 
--- a baseline is given that is too long
-abbrev pub IsLongBaseline : {R : Type 0} → (R → Option (List ℕ)) → Option (Watched R) → DumpFault → Type 0
-IsLongBaseline remaining reader fault =
-    (is_some reader ≡ true) × (IsRefusedDump (contents_of remaining reader) fault × (fault.kind ≡ kind.TooLarge))
+-- an input is longer than it may be, where its bytes are known
+abbrev pub IsLongAs : Input → Option (List ℕ) → Type 0
+IsLongAs input.Dump known = IfSome known IsTooLong
+IsLongAs input.Baseline known = IfSome known IsTooLong
+IsLongAs input.Text known = IsLonger known most
+
+-- a text has at most the number of bytes that it may have
+abbrev pub IsShortAs : {A : Type 0} → Input → Vec ℕ A → Type 0
+IsShortAs input.Dump bytes = Unit {0}
+IsShortAs input.Baseline bytes = Unit {0}
+IsShortAs input.Text bytes = vec_len bytes ≤ most
+
+-- a baseline is reported here only where it is too large: it is not opened yet
+abbrev pub IsLargeDump : Option (List ℕ) → DumpFault → Type 0
+IsLargeDump known fault = IsRefusedDump known fault × (fault.kind ≡ kind.TooLarge)
+
+-- how the reading of an input may end
+abbrev pub IsEndOf : {A : Type 0} → Input → Option (List ℕ) → RunFault A → Type 0
+IsEndOf input.Dump known fault = IsReadEnd (IsRefusedDump known) Never ⊥ fault
+IsEndOf input.Baseline known fault = IsReadEnd Never (IsLargeDump known) ⊥ fault
+IsEndOf input.Text known fault = IsReadEnd Never Never (IsLonger known most) fault
 
 -- one of the studies is too long, where their texts are known
 abbrev pub IsLongIn : {S : Type 0} → (S → Option (List ℕ)) → List (StudyFile S) → Type 0

@@ -1,4 +1,3 @@
-use Rattle.std.proofs.Common.{refl}
 use Rattle.std.proofs.lemmas.Result.{IfOk-weaker}
 use Rattle.lsdb.specs.Lists.{Lists}
 use Rattle.loop_report.specs.Loops.{AreJointLoops}

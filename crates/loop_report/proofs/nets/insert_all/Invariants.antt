@@ -1,5 +1,5 @@
 use Rattle.std.proofs.Common.{take}
-use Rattle.loop_report.specs.steps.Gathering.{Gathers}
+use Rattle.lost_routes.specs.Gathering.{Gathers}
 use Rattle.loop_report.proofs.nets.insert_all.Given as goal
 
 -- the prefixes so far were added

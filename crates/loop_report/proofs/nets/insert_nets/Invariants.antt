@@ -1,6 +1,6 @@
 use Rattle.std.proofs.Common.{take}
 use Rattle.loop_report.specs.Atoms.{nets_of_all}
-use Rattle.loop_report.specs.steps.Gathering.{Gathers}
+use Rattle.lost_routes.specs.Gathering.{Gathers}
 use Rattle.loop_report.proofs.nets.insert_nets.Given as goal
 
 -- the prefixes of the routers so far were added

@@ -3,7 +3,7 @@ use Rattle.std.specs.List.{filter_map, flat_map}
 use Rattle.std.proofs.lemmas.Iterator.Consumers.{YieldsList-end, YieldsList-from_first}
 use Rattle.area_routes.proofs.AddsLemmas.{filter_map_adds, flat_map_adds}
 use Rattle.lost_routes.specs.Announced.{live_networks, summary_prefix}
-use Rattle.lost_routes.proofs.Gathered.{gathers_push_now, gathers_same, gathers_some, gathers_start}
+use Rattle.lost_routes.proofs.GatheredLemmas.{gathers_push_now, gathers_same, gathers_some, gathers_start}
 use Rattle.lost_routes.proofs.announced.add_area.Goals as goal
 
 pub loop-lsa-init : goal.loop-lsa-init

@@ -1,7 +1,7 @@
 use Rattle.std.proofs.Common.{map}
 use Rattle.std.specs.List.{filter_map, flat_map}
 use Rattle.lost_routes.specs.Announced.{live_networks, summary_prefix}
-use Rattle.lost_routes.specs.steps.Gathering.{Gathers}
+use Rattle.lost_routes.specs.Gathering.{Gathers}
 use Rattle.lost_routes.proofs.announced.add_area.Given as goal
 
 -- the prefixes of the LSAs so far were added

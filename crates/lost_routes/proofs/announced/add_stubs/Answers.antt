@@ -1,6 +1,6 @@
 use Rattle.lsa_codec.specs.Links.{stub_net}
 use Rattle.area_routes.proofs.AddsLemmas.{filter_map_adds}
-use Rattle.lost_routes.proofs.Gathered.{gathers_push, gathers_some, gathers_start}
+use Rattle.lost_routes.proofs.GatheredLemmas.{gathers_push, gathers_some, gathers_start}
 use Rattle.lost_routes.proofs.announced.add_stubs.Goals as goal
 
 pub loop-link-init : goal.loop-link-init

@@ -1,6 +1,6 @@
 use Rattle.std.specs.List.{filter_map}
 use Rattle.lsa_codec.specs.Links.{stub_net}
-use Rattle.lost_routes.specs.steps.Gathering.{Gathers}
+use Rattle.lost_routes.specs.Gathering.{Gathers}
 use Rattle.lost_routes.proofs.announced.add_stubs.Given as goal
 
 -- the prefixes of the links so far were added

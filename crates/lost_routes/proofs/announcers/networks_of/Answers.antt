@@ -2,7 +2,7 @@ use Rattle.std.proofs.Common.{◌∙◌}
 use Rattle.std.proofs.lemmas.Iterator.{items_from_collect}
 use Rattle.std.proofs.lemmas.Iterator.Consumers.{YieldsList-from_rest}
 use Rattle.std.proofs.lemmas.Result.{IfOk-weaker}
-use Rattle.lost_routes.proofs.Gathered.{gathers_all}
+use Rattle.lost_routes.proofs.GatheredLemmas.{gathers_all}
 use Rattle.lost_routes.proofs.announcers.networks_of.Goals as goal
 
 pub returns : goal.returns

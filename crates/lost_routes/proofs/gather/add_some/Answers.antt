@@ -1,6 +1,6 @@
 use Rattle.std.proofs.Common.{[], sym, ap}
 use Rattle.std.specs.List.{cons_option}
-use Rattle.lost_routes.proofs.Gathered.{gathers_one, gathers_same}
+use Rattle.lost_routes.proofs.GatheredLemmas.{gathers_one, gathers_same}
 use Rattle.lost_routes.proofs.gather.add_some.Goals as goal
 
 pub returns-in_ok-insert : goal.returns-in_ok-insert

@@ -1,7 +1,7 @@
 use Rattle.std.proofs.Common.{◌≡◌, ◌∙◌, true, sym, ap}
 use Rattle.std.specs.Prelude.{not}
 use Rattle.lost_routes.specs.Lost.{lacks}
-use Rattle.lost_routes.proofs.Gathered.{gathers_one}
+use Rattle.lost_routes.proofs.GatheredLemmas.{gathers_one}
 use Rattle.lost_routes.proofs.Missing.{gathers_kept}
 use Rattle.lost_routes.proofs.lost.add_if_missing.Goals as goal
 

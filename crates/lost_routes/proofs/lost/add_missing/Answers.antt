@@ -1,5 +1,5 @@
 use Rattle.lost_routes.specs.Lost.{lacks}
-use Rattle.lost_routes.proofs.Gathered.{gathers_at, gathers_start, gathers_taken}
+use Rattle.lost_routes.proofs.GatheredLemmas.{gathers_at, gathers_start, gathers_taken}
 use Rattle.lost_routes.proofs.Missing.{filter_adds}
 use Rattle.lost_routes.proofs.lost.add_missing.Goals as goal
 

@@ -1,7 +1,7 @@
 use Rattle.std.proofs.Common.{take}
 use Rattle.std.specs.List.{filter}
 use Rattle.lost_routes.specs.Lost.{lacks}
-use Rattle.lost_routes.specs.steps.Gathering.{Gathers}
+use Rattle.lost_routes.specs.Gathering.{Gathers}
 use Rattle.lost_routes.proofs.lost.add_missing.Given as goal
 
 -- those of the prefixes so far were added

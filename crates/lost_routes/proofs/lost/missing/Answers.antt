@@ -7,7 +7,7 @@ use Rattle.lsa_codec.specs.Order.{prefix_cmp}
 use Rattle.lsa_codec.specs.Prefix.{Net}
 use Rattle.area_graph.specs.Rising.{rising}
 use Rattle.lost_routes.specs.Lost.{lacks}
-use Rattle.lost_routes.proofs.Gathered.{gathers_all}
+use Rattle.lost_routes.proofs.GatheredLemmas.{gathers_all}
 use Rattle.lost_routes.proofs.lost.missing.Goals as goal
 
 pub returns : goal.returns

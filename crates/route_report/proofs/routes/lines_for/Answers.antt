@@ -13,8 +13,9 @@ pub loop-net-preserved : goal.loop-net-preserved
 loop-net-preserved g c = λ are.
     let lines = c.loop-net.lines.items in
     one_more (filter_map_adds (line_for (lists_of c.args.database.now) c.args.routes.now)) c.args.nets.now c.loop-net.net-index c.net-item.result
-    lines c.push_some.new.lines.items c.loop-net-test.true c.net-item.is (c.loop-net.invariant are)
-    (c.in_ok-push_some.ensures ∙ ap (λ (o : Option RouteLineValue). lines ++ cons_option o []) (c.in_ok-line.ensures are))
+    lines c.append.new.self.items c.loop-net-test.true c.net-item.is (c.loop-net.invariant are)
+    (c.in_ok-append.ensures.items
+    ∙ ap (λ (l : List RouteLineValue). lines ++ l) (c.in_ok-found.ensures ∙ ap (λ (o : Option RouteLineValue). cons_option o []) (c.in_ok-line.ensures are)))
 
 pub returns : goal.returns
 returns g c = λ are.

@@ -1,7 +1,7 @@
 use Rattle.std.proofs.Common.{◌+◌, ap, arith, drop, rules}
 use Rattle.whole_study.specs.steps.Texts.{lines_in}
 use Rattle.whole_study.specs.declared.summary.Summary.{Summary}
-use Rattle.whole_study.proofs.CarriedLines.{counts_none, course_more, course_none, course_part, course_stop, few_at, next_study}
+use Rattle.whole_study.proofs.CarryingSteps.{counts_none, course_more, course_none, course_part, course_stop, few_at, next_study}
 use Rattle.whole_study.proofs.carrying.carry_out.Goals as goal
 
 pub studies-init : goal.studies-init

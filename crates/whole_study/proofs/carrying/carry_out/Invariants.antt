@@ -4,7 +4,7 @@ use Rattle.whole_study.specs.Streams.{has_writer_failed}
 use Rattle.whole_study.specs.steps.Carrying.{written}
 use Rattle.whole_study.specs.steps.Counting.{AreCounts}
 use Rattle.whole_study.specs.steps.Texts.{lines_in}
-use Rattle.whole_study.proofs.CarriedLines.{Course}
+use Rattle.whole_study.proofs.CarryingSteps.{Course}
 use Rattle.whole_study.proofs.carrying.carry_out.Given as goal
 
 abbrev pub invariant-studies : goal.invariant-studies

@@ -1,7 +1,8 @@
 use Rattle.std.proofs.Common.{[], ◌∷◌}
 use Rattle.study_session.specs.Answers.{study_of}
 use Rattle.whole_study.specs.steps.Carrying.{line_at}
-use Rattle.whole_study.proofs.CarriedLines.{no_answer, one_answer, one_part, part_none}
+use Rattle.whole_study.proofs.CarriedLines.{no_answer, part_none}
+use Rattle.whole_study.proofs.CarryingSteps.{one_answer, one_part}
 use Rattle.whole_study.proofs.carrying.carry_out_line.Goals as goal
 
 pub returns-in_err-answer-clause-part : goal.returns-in_err-answer-clause-part

@@ -6,7 +6,7 @@ use Rattle.whole_study.specs.Streams.{has_writer_failed}
 use Rattle.whole_study.specs.steps.Carrying.{written}
 use Rattle.whole_study.specs.steps.Counting.{AreCounts}
 use Rattle.whole_study.specs.steps.Texts.{named_text}
-use Rattle.whole_study.proofs.CarriedLines.{Course}
+use Rattle.whole_study.proofs.CarryingSteps.{Course}
 use Rattle.whole_study.proofs.carrying.carry_out_study.Given as goal
 
 abbrev pub invariant-lines : goal.invariant-lines

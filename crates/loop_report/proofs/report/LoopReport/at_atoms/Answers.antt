@@ -1,4 +1,4 @@
-use Rattle.std.proofs.Common.{List, refl, subst}
+use Rattle.std.proofs.Common.{List, subst}
 use Rattle.std.proofs.lemmas.List.{take_all}
 use Rattle.lsa_codec.specs.Prefix.{Net}
 use Rattle.loop_report.specs.Blackholes.{AreNewBlackholes}

@@ -9,7 +9,7 @@ use Rattle.lsdb.specs.Slots.{lists_of}
 use Rattle.area_graph.specs.Rising.{rising}
 use Rattle.lost_routes.specs.Announced.{announced_by, announced_in, external_prefix, live_networks, summary_prefix}
 use Rattle.lost_routes.proofs.AreaNets.{area_more, areas_done}
-use Rattle.lost_routes.proofs.Gathered.{gathers_all, gathers_none}
+use Rattle.lost_routes.proofs.GatheredLemmas.{gathers_all, gathers_none}
 use Rattle.lost_routes.proofs.announced.Announced.of.Goals as goal
 
 pub loop-i-init : goal.loop-i-init

@@ -3,7 +3,7 @@ use Rattle.std.specs.List.{filter_map, flat_map}
 use Rattle.lsdb.specs.Lists.{areas_of}
 use Rattle.lsdb.specs.Slots.{lists_of}
 use Rattle.lost_routes.specs.Announced.{live_networks, summary_prefix}
-use Rattle.lost_routes.specs.steps.Gathering.{Gathers}
+use Rattle.lost_routes.specs.Gathering.{Gathers}
 use Rattle.lost_routes.proofs.AreaNets.{among}
 use Rattle.lost_routes.proofs.announced.Announced.of.Given as goal
 

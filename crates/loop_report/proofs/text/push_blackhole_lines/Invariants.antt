@@ -1,8 +1,0 @@
-use Rattle.std.proofs.Common.{◌≡◌, ◌++◌, take}
-use Rattle.network_names.specs.Names.{called}
-use Rattle.loop_report.specs.Texts.{blackhole_lines}
-use Rattle.loop_report.proofs.text.push_blackhole_lines.Given as goal
-
--- the lines so far were added
-abbrev pub invariant-loop-found : goal.invariant-loop-found
-invariant-loop-found g l = l.text.items ≡ l.initial.text.items ++ blackhole_lines (called l.names) (take l.found-index l.blackholes)
