@@ -1,3 +1,4 @@
 pub mod PlanText
 pub mod Logged
 pub mod Microloops
+pub mod LinkEdits
