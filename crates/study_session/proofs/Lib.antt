@@ -2,3 +2,4 @@ pub mod PlanText
 pub mod Logged
 pub mod Microloops
 pub mod LinkEdits
+pub mod Carried
