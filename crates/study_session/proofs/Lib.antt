@@ -3,3 +3,4 @@ pub mod Logged
 pub mod Microloops
 pub mod LinkEdits
 pub mod Carried
+pub mod Asked
