@@ -2,4 +2,5 @@ pub mod PlanText
 pub mod Logged
 pub mod Microloops
 pub mod LinkEdits
+pub mod Carried
 pub mod Asked

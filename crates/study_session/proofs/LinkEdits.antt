@@ -1,5 +1,5 @@
 -- An edit of a link that is named is answered, and leaves the sessions, as its number and what it changes say.
-use Rattle.std.proofs.Common.{◌≡◌, ℕ, List, Option, None, Some, Result, Ok, Err, OnOk, ap, subst, tt, ◌∙◌}
+use Rattle.std.proofs.Common.{◌≡◌, ℕ, List, Option, None, Some, Result, Ok, Err, OnOk, ap, subst, ◌∙◌}
 use Rattle.lsa_codec.specs.declared.address.AreaId.{AreaId}
 use Rattle.lsa_codec.specs.declared.address.RouterId.{RouterId}
 use Rattle.edit_script.specs.declared.command.Command.{Command}
