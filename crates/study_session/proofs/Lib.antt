@@ -4,3 +4,4 @@ pub mod Microloops
 pub mod LinkEdits
 pub mod Carried
 pub mod Asked
+pub mod FoundIn
