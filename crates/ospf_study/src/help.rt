@@ -25,7 +25,7 @@ of them, and `help` lists all of them with their arguments:
   loops, microloops                 where packets would go round, also while routers change over
   expect CONDITION                  says what must hold
 A line may be preceded by its branch, @0 to @7. A line that begins with # is a comment. Names of a
-names file stand for addresses of routers.
+names file stand for their addresses.
 
 Standard output has the reply to each line, and as the last line the summary. Standard error has a
 line FILE:LINE: for each line that is refused, and for each expectation that does not hold. The run
