@@ -1,5 +1,5 @@
 -- What may loop while routers change over: from the loops to the answer, and to what is found of the condition.
-use Rattle.std.proofs.Common.{◌≡◌, ℕ, List, Option, None, Some, codes, refl, sym, ap, subst, ◌∙◌}
+use Rattle.std.proofs.Common.{◌≡◌, ℕ, List, Option, None, Some, refl, sym, ap, subst, ◌∙◌}
 use Rattle.lsdb.specs.Lists.{Lists}
 use Rattle.study_text.specs.Shown.{Called}
 use Rattle.loop_report.specs.Loops.{AreJointLoops, LoopValue}
