@@ -23,7 +23,8 @@ use Rattle.study_session.proofs.expectations.verdict.Goals as goal
 
 pub returns-in-Route-clause-verdict : goal.returns-in-Route-clause-verdict
 returns-in-Route-clause-verdict g c = found_by (called c.args.names.now) (lists_of c.args.baseline.now) c.args.branch
-    c.route.result (λ called baseline db verdict. verdict ≡ route_verdict called baseline db c.in-Route.router c.in-Route.prefix c.in-Route.kind (option_map (λ those. those.items) c.in-Route.via) c.in-Route.cost)
+    c.route.result (λ called baseline db verdict. verdict ≡ route_verdict called baseline db c.in-Route.router c.in-Route.prefix c.in-Route.kind
+    (option_map (λ those. those.items) c.in-Route.via) c.in-Route.cost)
     c.in-Route.is c.database-now.ensures.state c.planner.ensures c.in_ok-prepare.ensures.kept (λ verdict is. is)
     (subst (λ (via : Option (List RouterId)). IfOk c.route.result (λ verdict. verdict_of verdict
     ≡ route_verdict (called c.args.names.now) (lists_of c.args.baseline.now) (lists_of c.database-now.result.now) c.in-Route.router c.in-Route.prefix
@@ -47,7 +48,8 @@ returns-in-Path-clause-verdict g c = found_by (called c.args.names.now) (lists_o
 
 pub returns-in-Lost-clause-verdict : goal.returns-in-Lost-clause-verdict
 returns-in-Lost-clause-verdict g c = found_by (called c.args.names.now) (lists_of c.args.baseline.now) c.args.branch
-    c.pairs.result (λ called baseline db verdict. verdict ≡ pairs_verdict called (missing_text missing.Lost) (pairs_allowed c.in-Lost.allowed) (missing_pairs missing.Lost (beside baseline db)))
+    c.pairs.result (λ called baseline db verdict.
+    verdict ≡ pairs_verdict called (missing_text missing.Lost) (pairs_allowed c.in-Lost.allowed) (missing_pairs missing.Lost (beside baseline db)))
     c.in-Lost.is c.database-now.ensures.state c.planner.ensures c.in_ok-prepare.ensures.kept (λ verdict is. is) c.pairs.ensures
 
 pub returns-in-NoLoops-clause-verdict : goal.returns-in-NoLoops-clause-verdict
@@ -57,7 +59,8 @@ returns-in-NoLoops-clause-verdict g c = found_by (called c.args.names.now) (list
 
 pub returns-in-Gone-clause-verdict : goal.returns-in-Gone-clause-verdict
 returns-in-Gone-clause-verdict g c = found_by (called c.args.names.now) (lists_of c.args.baseline.now) c.args.branch
-    c.pairs-in-Gone.result (λ called baseline db verdict. verdict ≡ pairs_verdict called (missing_text missing.Gone) (pairs_allowed c.in-Gone.allowed) (missing_pairs missing.Gone (beside baseline db)))
+    c.pairs-in-Gone.result (λ called baseline db verdict.
+    verdict ≡ pairs_verdict called (missing_text missing.Gone) (pairs_allowed c.in-Gone.allowed) (missing_pairs missing.Gone (beside baseline db)))
     c.in-Gone.is c.database-now.ensures.state c.planner.ensures c.in_ok-prepare.ensures.kept (λ verdict is. is) c.pairs-in-Gone.ensures
 
 pub returns-in-Same-clause-verdict : goal.returns-in-Same-clause-verdict

@@ -29,7 +29,8 @@ pub returns-in_ok-router_lines-in-Routers-clause-answer : goal.returns-in_ok-rou
 returns-in_ok-router_lines-in-Routers-clause-answer g c = by_database (called c.args.names.now) (lists_of c.args.baseline.now) c.args.branch
     c.listed.result (λ called branch db answer. answer ≡ routers_answer called branch db)
     c.in-Routers.is c.database-now.ensures.state c.planner-planner.ensures c.in_ok-prepare.ensures.kept (λ answer is. is)
-    (subst (λ (lines : List RouterValue). IfOk c.listed.result (λ answer. answer ≡ listed c.args.branch words.Routers (router_line (called c.args.names.now)) lines))
+    (subst (λ (lines : List RouterValue). IfOk c.listed.result (λ answer. answer
+    ≡ listed c.args.branch words.Routers (router_line (called c.args.names.now)) lines))
     (c.deref.ensures.value ∙ c.in_ok-router_lines-in-Routers.ensures) c.listed.ensures)
 
 pub returns-in_ok-loops-in-Microloops-clause-answer : goal.returns-in_ok-loops-in-Microloops-clause-answer
@@ -95,5 +96,6 @@ pub returns-in_ok-network_lines-in-Networks-clause-answer : goal.returns-in_ok-n
 returns-in_ok-network_lines-in-Networks-clause-answer g c = by_database (called c.args.names.now) (lists_of c.args.baseline.now) c.args.branch
     c.listed-in-Networks.result (λ called branch db answer. answer ≡ networks_answer called branch db)
     c.in-Networks.is c.database-now.ensures.state c.planner-planner.ensures c.in_ok-prepare.ensures.kept (λ answer is. is)
-    (subst (λ (lines : List NetworkValue). IfOk c.listed-in-Networks.result (λ answer. answer ≡ listed c.args.branch words.Networks (network_line (called c.args.names.now)) lines))
+    (subst (λ (lines : List NetworkValue). IfOk c.listed-in-Networks.result (λ answer. answer
+    ≡ listed c.args.branch words.Networks (network_line (called c.args.names.now)) lines))
     (c.deref-in-Networks.ensures.value ∙ c.in_ok-network_lines-in-Networks.ensures) c.listed-in-Networks.ensures)
