@@ -63,12 +63,14 @@ ids_are db [] = refl
 ids_are db (id ∷ ids) = ap (λ l. id ∷ l) (ids_are db ids)
 
 -- what holds of the routes of a router that are found holds of those in both databases
-pub of_both : (both : Compared) (router : RouterId) (were are : ForwardingValue) (was is : Option RouterValue) (P : Option RouterValue → Option RouterValue → Type 0)
+pub of_both : (both : Compared) (router : RouterId) (were are : ForwardingValue) (was is : Option RouterValue)
+    (P : Option RouterValue → Option RouterValue → Type 0)
     → IsForwardingOf both.baseline were → IsForwardingOf both.present are → was ≡ routes_at were.routers router → is ≡ routes_at are.routers router
     → P was is → P (routes_at (routers_of both.baseline) router) (routes_at (routers_of both.present) router)
 of_both both router were are was is P of_baseline of_present found_was found_is holds =
     subst (λ (o : Option RouterValue). P (routes_at (routers_of both.baseline) router) o) (found are is of_present.routers found_is)
     (subst (λ (o : Option RouterValue). P o is) (found were was of_baseline.routers found_was) holds)
   where
-    found : {all : List RouterValue} (f : ForwardingValue) (routes : Option RouterValue) → f.routers ≡ all → routes ≡ routes_at f.routers router → routes ≡ routes_at all router
+    found : {all : List RouterValue} (f : ForwardingValue) (routes : Option RouterValue) → f.routers ≡ all
+        → routes ≡ routes_at f.routers router → routes ≡ routes_at all router
     found f routes same is = is ∙ ap (λ (rs : List RouterValue). routes_at rs router) same

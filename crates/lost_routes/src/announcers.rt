@@ -1,7 +1,7 @@
 //! Who announces prefixes.
 
 ghost use Rattle.std.specs.Prelude.{◌≡◌, ◌++◌, [], map, IfOk, OnOk};
-ghost use Rattle.std.specs.List.{cons_option, filter, flat_map};
+ghost use Rattle.std.specs.List.{filter, flat_map};
 ghost use Rattle.lsa_codec.specs.Order.{prefix_cmp};
 ghost use Rattle.lsdb.specs.Slots.{lists_of};
 ghost use Rattle.area_graph.specs.Rising.{rising};
@@ -54,19 +54,6 @@ fn unless_network<A: Allocator + Copy>(
     }
 }
 
-/// Adds a prefix to a list, if there is one.
-fn push_some<A: Allocator + Copy>(
-    nets: &mut Vec<Prefix, A>,
-    net: Option<Prefix>,
-) -> Result<(), AllocError>
-    ensures { OnOk result (nets.new.items ≡ nets.old.items ++ cons_option net []) }
-{
-    if let Some(net) = net {
-        nets.push(net)?;
-    }
-    Ok(())
-}
-
 /// The prefixes that an LSA of an area announces.
 fn area_nets<A: Allocator + Copy>(
     alloc: A,
@@ -76,7 +63,9 @@ fn area_nets<A: Allocator + Copy>(
     ensures { IfOk result (λ nets. nets.items ≡ area_nets baseline.now lsa.now) }
 {
     let mut nets = networks_of(alloc, lsa)?;
-    push_some(&mut nets, unless_network(baseline, summary_prefix(lsa)))?;
+    if let Some(net) = unless_network(baseline, summary_prefix(lsa)) {
+        nets.push(net)?;
+    }
     Ok(nets)
 }
 

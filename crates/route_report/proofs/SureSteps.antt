@@ -106,7 +106,7 @@ module _ (graph : List StepValue) where
       by (Some s) h = ending s (ends_by s) refl h
 
   module _ (target : RouterId) where
-    -- all walks of so many steps from a router pass the target
+    -- all walks of this number of steps and more from a router pass the target
     abbrev PassWithin : RouterId → ℕ → Type 0
     PassWithin v n = (us : List RouterId) (last : RouterId) → IsWalk (next_in graph) v us last → n ≤ length us → Contains (v ∷ us) target
 
@@ -222,7 +222,7 @@ module _ (graph : List StepValue) where
 
   module _ (target start : RouterId) (routers sure : List RouterId) (reached : AreReached (next_in graph) start routers)
       (settled : All (IsSettled graph sure) routers) (has : Contains sure target) where
-    -- a walk that does not pass the target, to a router that ends walks, or of so many steps
+    -- a walk that does not pass the target, to a router that ends walks, or of this number of steps and more
     abbrev Misses : RouterId → ℕ → Type 0
     Misses v n =
         (us : List RouterId) × (last : RouterId) × IsWalk (next_in graph) v us last × (Contains (v ∷ us) target → ⊥)

@@ -43,8 +43,7 @@ fn links_over<A: Allocator + Copy>(
         .collect(alloc)
 }
 
-/// The interfaces on a side of a link of a router in an area. Where no neighbor links back, there is
-/// none.
+/// The interfaces on a side of a link of a router in an area: none, where no neighbor links back.
 fn ends_on<A: Allocator + Copy>(
     alloc: A,
     database: &Database<A>,

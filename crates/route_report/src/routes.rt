@@ -104,8 +104,8 @@ pub fn routes_of<A: Allocator + Copy>(
     }
 }
 
-/// What a router uses for exactly this prefix, if it has an entry for it. The meter counts the trees
-/// of the router's table.
+/// What a router uses for exactly this prefix, if it has an entry for it. The meter counts the
+/// trees of the router's table.
 ///
 /// # Errors
 ///

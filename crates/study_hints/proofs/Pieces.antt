@@ -45,8 +45,9 @@ added (Ok t) begun bytes piece now is pushed = pushed ∙ ap (λ l. begun ++ l) 
 added (Err e) begun bytes piece now is pushed = tt
 
 -- what was found, after some words
-pub offered : {X T E : Type 0} (text : Option X → List ℕ) (front piece : List ℕ) (found : Option X) (x : X) → found ≡ Some x → text (Some x) ≡ front ++ piece
-    → (result : Result T E) (old begun now : List ℕ) → begun ≡ old ++ front → OnOk result (now ≡ begun ++ piece) → OnOk result (now ≡ old ++ text found)
+pub offered : {X T E : Type 0} (text : Option X → List ℕ) (front piece : List ℕ) (found : Option X) (x : X) → found ≡ Some x
+    → text (Some x) ≡ front ++ piece → (result : Result T E) (old begun now : List ℕ) → begun ≡ old ++ front → OnOk result (now ≡ begun ++ piece)
+    → OnOk result (now ≡ old ++ text found)
 offered text front piece found x is are result old begun now begins all =
     on_ok result
     (λ pushed. pushed ∙ ap (λ l. l ++ piece) begins ∙ append_assoc old front piece ∙ ap (λ l. old ++ l) (sym are) ∙ ap (λ o. old ++ text o) (sym is))

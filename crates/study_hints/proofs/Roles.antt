@@ -20,7 +20,8 @@ module _ (names : Lookup) (known : List Word) where
   no_word (role ∷ roles) = refl
 
   one_role : (role : Role) (roles : List Role) (word : Word) (words : List Word)
-      → first_hint names known (role ∷ roles) (word ∷ words) ≡ cond (fits names role word) (first_hint names known roles words) (argument_hint known role word)
+      → first_hint names known (role ∷ roles) (word ∷ words) ≡ cond (fits names role word) (first_hint names known roles words)
+      (argument_hint known role word)
   unfolding first_hint
   one_role role roles word words = refl
 
@@ -45,10 +46,12 @@ module _ (names : Lookup) (known : List Word) where
           ∙ one_role (get_or roles i d) (drop (i + 1) roles) word rest
 
       pub fits_here : fits names (get_or roles i d) word ≡ true → first_hint names known (drop (i + 1) roles) rest ≡ hint
-      fits_here fit = sym (by_fit ∙ ap (λ b. cond b (first_hint names known (drop (i + 1) roles) rest) (argument_hint known (get_or roles i d) word)) fit) ∙ so_far
+      fits_here fit = sym (by_fit ∙ ap (λ b. cond b (first_hint names known (drop (i + 1) roles) rest) (argument_hint known (get_or roles i d) word)) fit)
+          ∙ so_far
 
       pub wrong_here : fits names (get_or roles i d) word ≡ false → argument_hint known (get_or roles i d) word ≡ hint
-      wrong_here wrong = sym (by_fit ∙ ap (λ b. cond b (first_hint names known (drop (i + 1) roles) rest) (argument_hint known (get_or roles i d) word)) wrong) ∙ so_far
+      wrong_here wrong = sym (by_fit ∙ ap (λ b. cond b (first_hint names known (drop (i + 1) roles) rest) (argument_hint known (get_or roles i d) word)) wrong)
+          ∙ so_far
 
 -- a piece after a text that is still the first one
 pub piece_is : {T E : Type 0} (result : Result T E) (old text piece hint now : List ℕ) → text ≡ old → piece ≡ hint → OnOk result (now ≡ text ++ piece)

@@ -1,5 +1,5 @@
 -- What may loop while routers change over: from the loops to the answer, and to what is found of the condition.
-use Rattle.std.proofs.Common.{◌≡◌, ℕ, List, Option, None, Some, codes, refl, sym, ap, subst, ◌∙◌}
+use Rattle.std.proofs.Common.{◌≡◌, ℕ, List, Option, None, Some, ap, subst, ◌∙◌}
 use Rattle.lsdb.specs.Lists.{Lists}
 use Rattle.study_text.specs.Shown.{Called}
 use Rattle.loop_report.specs.Loops.{AreJointLoops, LoopValue}
@@ -10,11 +10,7 @@ use Rattle.study_session.specs.LoopVerdicts.{IsMicroloopsVerdict}
 use Rattle.study_session.specs.Verdicts.{VerdictValue}
 use Rattle.study_session.specs.steps.Microloops.{AreMicroloops, microloops_by, no_microloops_by}
 
--- there is no database before the edits
-pub are_none : (db : Lists) (before : Option Lists) → before ≡ None → AreMicroloops db before None
-are_none db before none = subst (λ b. AreMicroloops db b None) (sym none) refl
-
--- there is one
+-- there is a database before the edits
 pub are_some : (db was : Lists) (before : Option Lists) (loops : List LoopValue) → Some was ≡ before → AreAtAtoms AreJointLoops was db loops
     → AreMicroloops db before (Some loops)
 are_some db was before loops some are = subst (λ b. AreMicroloops db b (Some loops)) some are

@@ -16,15 +16,15 @@ use Rattle.study_session.specs.Known.{too_few_done}
 module _ (called : Called) (branch : ℕ) where
   -- loops, and new blackholes
   abbrev pub loops_reply : List LoopValue → List BlackholeValue → List ℕ
-  loops_reply loops holes =
-      head_of branch words.Loops ++ number_after (length loops + length holes) ++ codes " loops" ++ number_after (length loops)
-      ++ codes " blackholes" ++ number_after (length holes) ++ codes "\n" ++ loop_lines called loops ++ blackhole_lines called holes
+  loops_reply loops blackholes =
+      head_of branch words.Loops ++ number_after (length loops + length blackholes) ++ codes " loops" ++ number_after (length loops)
+      ++ codes " blackholes" ++ number_after (length blackholes) ++ codes "\n" ++ loop_lines called loops ++ blackhole_lines called blackholes
 
   abbrev pub IsLoopsAnswer : Lists → Lists → AnswerValue → Type 0
   IsLoopsAnswer db baseline answer =
-      (loops : List LoopValue) × (holes : List BlackholeValue)
-      × AreAtAtoms AreLoopsNow baseline db loops × AreAtAtoms AreNewBlackholes baseline db holes
-      × (answer ≡ accepted_answer (loops_reply loops holes))
+      (loops : List LoopValue) × (blackholes : List BlackholeValue)
+      × AreAtAtoms AreLoopsNow baseline db loops × AreAtAtoms AreNewBlackholes baseline db blackholes
+      × (answer ≡ accepted_answer (loops_reply loops blackholes))
 
   -- what may loop while routers change over the last edits
   abbrev pub microloops_reply : ℕ → List LoopValue → List ℕ

@@ -18,8 +18,8 @@ module _ (called : Called) (baseline db : Lists) where
 
   abbrev pub IsBlackholesVerdict : VerdictValue → Type 0
   IsBlackholesVerdict verdict =
-      (holes : List BlackholeValue) × AreAtAtoms AreNewBlackholes baseline db holes
-      × (verdict ≡ found (is_none holes) (counted_text (codes "blackholes") (map (blackhole_text called) holes)))
+      (blackholes : List BlackholeValue) × AreAtAtoms AreNewBlackholes baseline db blackholes
+      × (verdict ≡ found (is_none blackholes) (counted_text (codes "blackholes") (map (blackhole_text called) blackholes)))
 
 -- by the database before the last edits; where fewer edits are done, there is none
 abbrev pub IsMicroloopsVerdict : Called → Lists → Option Lists → VerdictValue → Type 0

@@ -1,6 +1,6 @@
 //! Answers to expectations.
 
-ghost use Rattle.std.specs.Prelude.{◌≡◌, ◌<◌, IfOk};
+ghost use Rattle.std.specs.Prelude.{◌≡◌, ◌<◌, IfOk, option_map};
 ghost use Rattle.network_names.specs.Names.{called};
 ghost use Rattle.lsdb.specs.Slots.{lists_of};
 ghost use Rattle.branches.specs.Branches.{sessions_of};
@@ -16,10 +16,22 @@ use crate::loops::microloops_of;
 use crate::missing::Missing;
 use crate::verdict::Verdict;
 use branches::Branches;
+use lsa_codec::RouterId;
 use lsdb::Database;
 use network_names::Names;
 use std::alloc::{AllocError, Allocator};
 use study_script::{Condition, Expectation};
+
+/// Neighbors, if some are given.
+fn neighbors<A: Allocator>(given: &Option<Vec<RouterId, A>>) -> Option<&[RouterId]>
+    ensures { option_map (λ those. those.now) result
+        ≡ option_map (λ those. those.items) given.now }
+{
+    match given {
+        Some(those) => Some(those.as_slice()),
+        None => None,
+    }
+}
 
 /// What is found of a condition in a branch. All sessions stay.
 fn verdict<A: Allocator + Copy>(
@@ -46,7 +58,8 @@ fn verdict<A: Allocator + Copy>(
             via,
             cost,
         } => {
-            let (place, via) = ((*router, *prefix), via.as_deref());
+            let place = (*router, *prefix);
+            let via = neighbors(via);
             route(alloc, names, baseline, now, place, *kind, via, *cost)
         }
         Condition::NoRoute { router, prefix } => no_route(alloc, names, now, *router, *prefix),

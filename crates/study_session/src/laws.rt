@@ -10,7 +10,8 @@ ghost use Rattle.study_session.specs.Lines.{IsAnswerTo, after_line};
 
 use study_script::plan_lines_mean_the_same;
 
-/// A line that `ospf-plan` takes has the reply that it gives, and leaves the sessions that it leaves.
+/// A line that `ospf-plan` takes has the reply that it gives, and leaves the sessions that it
+/// leaves.
 ///
 /// The function does nothing: its contract is the law.
 pub fn plan_lines_are_answered_alike()

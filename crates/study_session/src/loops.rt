@@ -30,16 +30,16 @@ fn loops_reply<A: Allocator + Copy>(
     ensures { IfOk result (λ text. text.items
         ≡ loops_reply (called names.now) branch report.now.loops report.now.blackholes) }
 {
-    let (loops, holes) = (report.loops(), report.blackholes());
+    let (loops, blackholes) = (report.loops(), report.blackholes());
     let mut text = head(alloc, branch, SeeWord::Loops)?;
-    push_number_after(&mut text, loops.len() as u64 + holes.len() as u64)?;
+    push_number_after(&mut text, loops.len() as u64 + blackholes.len() as u64)?;
     push_word(&mut text, " loops")?;
     push_number_after(&mut text, loops.len() as u64)?;
     push_word(&mut text, " blackholes")?;
-    push_number_after(&mut text, holes.len() as u64)?;
+    push_number_after(&mut text, blackholes.len() as u64)?;
     push_word(&mut text, "\n")?;
     push_lines(&mut text, names, loops)?;
-    push_lines(&mut text, names, holes)?;
+    push_lines(&mut text, names, blackholes)?;
     Ok(text)
 }
 

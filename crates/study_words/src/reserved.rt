@@ -22,8 +22,8 @@ fn is_particle(word: &[u8]) -> bool
         || word == b"only".as_slice()
 }
 
-/// Whether a word is one of the language of studies: a command word, the word of a condition or of a
-/// kind of routes, a comparison, or `not`, `via`, `avoids`, `delivered`, `none` or `only`.
+/// Whether a word is one of the language of studies: a command word, the word of a condition or of
+/// a kind of routes, a comparison, or `not`, `via`, `avoids`, `delivered`, `none` or `only`.
 #[tactic(auto, unfolding(crate::specs::Reserved::is_reserved))]
 pub fn is_reserved(word: &[u8]) -> bool
     ensures { result ≡ is_reserved word.now }

@@ -2,7 +2,7 @@
 
 use super::paths::BORDERS;
 use forwarding::Forwarding;
-use lost_routes::{Announced, RouterPrefix, LostPairs};
+use lost_routes::{Announced, LostPairs, RouterPrefix};
 use lsdb::Database;
 use spf::Meter;
 use std::alloc::Global;

@@ -29,7 +29,10 @@ const LINES: &[(&str, &str)] = &[
     ("path r1 lan", "S6 BadAddress lan"),
     ("add-external r1 10.0.0.0/8 1 5 r2 0", "S6 BadAddress r2"),
     ("add-external r1 10.0.0.0/8 3 5 r2 0", "S5 BadNumber 3"),
-    ("add-stub 0.0.0.0 r1 10.0.0.1/8 5", "S7 BadPrefix 10.0.0.1/8"),
+    (
+        "add-stub 0.0.0.0 r1 10.0.0.1/8 5",
+        "S7 BadPrefix 10.0.0.1/8",
+    ),
     ("add-stub 0.0.0.0 r1 r2 0", "S7 BadPrefix r2"),
     ("microloops 1x", "S5 BadNumber 1x"),
     ("audit", "S2 UnknownWord audit"),

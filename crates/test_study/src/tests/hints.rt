@@ -127,11 +127,13 @@ const LINES: &[(&str, &str)] = &[
     ),
     (
         "expect xyz",
-        "script S2 UnknownWord xyz (one of route no-route hops path lost gone loops microloops blackholes same changes)",
+        "script S2 UnknownWord xyz (one of route no-route hops path lost gone loops microloops \
+         blackholes same changes)",
     ),
     (
         "expect route r1",
-        "script S3 MissingWord r1 (expect route ROUTER PREFIX [KIND] [via NEIGHBOR,..] [cost OP NUMBER])",
+        "script S3 MissingWord r1 (expect route ROUTER PREFIX [KIND] [via NEIGHBOR,..] \
+         [cost OP NUMBER])",
     ),
     (
         "expect route r9 10.1.0.0/16",

@@ -36,7 +36,10 @@ fn lists_alone_take_memory(rt: HostRuntime) -> Result<(), Fail> {
     for line in ["routers", "cost 0.0.0.0 1.1.1.1 0.0.0.0/0 5", "expect same"] {
         assert!(rt; !line_runs_out(&rt, line)?, "{line}");
     }
-    for line in ["expect lost only 0.0.0.0/0", "expect route 1.1.1.1 0.0.0.0/0 via 2.2.2.2"] {
+    for line in [
+        "expect lost only 0.0.0.0/0",
+        "expect route 1.1.1.1 0.0.0.0/0 via 2.2.2.2",
+    ] {
         assert!(rt; line_runs_out(&rt, line)?, "{line}");
     }
     Ok(())

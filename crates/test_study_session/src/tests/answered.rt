@@ -1,5 +1,5 @@
-//! What the lines of a study are answered. These functions have no clauses, so that the prover knows
-//! nothing of what they answer, and the tests are proved soon.
+//! What the lines of a study are answered. These functions have no clauses, so that the prover
+//! knows nothing of what they answer, and the tests are proved soon.
 
 use branches::Branches;
 use lsdb::Database;
@@ -11,10 +11,14 @@ use test_support::dump_of_text;
 
 /// Four routers in a square: from 1.1.1.1 to 4.4.4.4 it costs 20 by 2.2.2.2, and 30 by 3.3.3.3.
 const SQUARE: &str = "area 0.0.0.0
-router 1.1.1.1: point-to-point 2.2.2.2 data=10.0.12.1 cost=10, point-to-point 3.3.3.3 data=10.0.13.1 cost=10, stub 10.1.0.0/16 cost=1
-router 2.2.2.2: point-to-point 1.1.1.1 data=10.0.12.2 cost=10, point-to-point 4.4.4.4 data=10.0.24.2 cost=10
-router 3.3.3.3: point-to-point 1.1.1.1 data=10.0.13.3 cost=10, point-to-point 4.4.4.4 data=10.0.34.3 cost=20, stub 10.3.0.0/16 cost=1
-router 4.4.4.4: point-to-point 2.2.2.2 data=10.0.24.4 cost=10, point-to-point 3.3.3.3 data=10.0.34.4 cost=20, stub 10.4.0.0/16 cost=1";
+router 1.1.1.1: point-to-point 2.2.2.2 data=10.0.12.1 cost=10, \
+    point-to-point 3.3.3.3 data=10.0.13.1 cost=10, stub 10.1.0.0/16 cost=1
+router 2.2.2.2: point-to-point 1.1.1.1 data=10.0.12.2 cost=10, \
+    point-to-point 4.4.4.4 data=10.0.24.2 cost=10
+router 3.3.3.3: point-to-point 1.1.1.1 data=10.0.13.3 cost=10, \
+    point-to-point 4.4.4.4 data=10.0.34.3 cost=20, stub 10.3.0.0/16 cost=1
+router 4.4.4.4: point-to-point 2.2.2.2 data=10.0.24.4 cost=10, \
+    point-to-point 3.3.3.3 data=10.0.34.4 cost=20, stub 10.4.0.0/16 cost=1";
 
 /// The names of the routers.
 const HOSTS: &[u8] = b"1.1.1.1 r1

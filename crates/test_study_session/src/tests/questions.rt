@@ -37,8 +37,10 @@ fn changes_are_grouped(rt: HostRuntime) -> Result<(), Fail> {
     assert_eq!(rt;
         found.as_str(),
         "@0 ok
-@0 changes r1 1 router-gone 0 router-new 0 lost 0 gone 0 gained 0 type 0 dearer 1 cheaper 0 moved 0 unchanged 2
-dearer r1 10.4.0.0/16 intra cost 31 area 0.0.0.0 via r3 10.0.13.3 out 10.0.13.1 was intra cost 21 area 0.0.0.0 via r2 10.0.12.2 out 10.0.12.1
+@0 changes r1 1 router-gone 0 router-new 0 lost 0 gone 0 gained 0 type 0 dearer 1 cheaper 0 \
+         moved 0 unchanged 2
+dearer r1 10.4.0.0/16 intra cost 31 area 0.0.0.0 via r3 10.0.13.3 out 10.0.13.1 was \
+         intra cost 21 area 0.0.0.0 via r2 10.0.12.2 out 10.0.12.1
 "
     );
     Ok(())

@@ -18,7 +18,8 @@ loop-router-preserved g c =
     let both = c.args.comparison.now in
     let routers = c.args.routers.now in
     let i = c.loop-router.router-index in (
-      adds_at (flat_map_adds (names_of both)) (λ (cs : List ChangeName). c.loop-router.names.items ≡ cs) (λ (cs : List ChangeName). c.push_changes_of.new.names.items ≡ cs)
+      adds_at (flat_map_adds (names_of both)) (λ (cs : List ChangeName). c.loop-router.names.items ≡ cs)
+          (λ (cs : List ChangeName). c.push_changes_of.new.names.items ≡ cs)
           routers i no_router c.loop-router-test.true c.loop-router.invariant.0 (λ cs was.
           c.in_ok-more.ensures.names ∙ ap (λ (l : List ChangeName). l ++ names_of both (get_or routers i no_router)) was),
       summed routers i no_router c.loop-router-test.true (unchanged_of both) c.loop-router.unchanged c.in_ok-more.more _

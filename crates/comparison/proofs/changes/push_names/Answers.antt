@@ -15,7 +15,8 @@ pub loop-found-preserved : goal.loop-found-preserved
 loop-found-preserved g c =
     let name = name_of c.args.comparison.now c.args.router in
     let start = c.args.names.now.items in
-    adds_step (map_adds name) (λ (cs : List ChangeName). c.loop-found.names.items ≡ start ++ cs) (λ (cs : List ChangeName). c.push.new.self.items ≡ start ++ cs)
+    adds_step (map_adds name) (λ (cs : List ChangeName). c.loop-found.names.items ≡ start ++ cs)
+    (λ (cs : List ChangeName). c.push.new.self.items ≡ start ++ cs)
     c.args.changes.now c.loop-found.found-index c.found-item.result c.loop-found-test.true c.found-item.is c.loop-found.invariant (λ cs was.
     c.in_ok-push.ensures.items ∙ ap (λ (l : List ChangeName). l ++ c.name_of.result ∷ []) was
     ∙ append_assoc start cs (c.name_of.result ∷ []) ∙ ap (λ (n : ChangeName). start ++ (cs ++ n ∷ [])) c.name_of.ensures)

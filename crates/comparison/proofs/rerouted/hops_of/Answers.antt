@@ -12,7 +12,8 @@ pub loop-route-preserved : goal.loop-route-preserved
 loop-route-preserved g c =
     joined c.args.routes.now c.loop-route.route-index c.route-item.result c.loop-route.hops _ c.loop-route-test.true c.route-item.is
     c.loop-route.invariant
-    (c.in_ok-join.ensures.joined ∙ ap (λ (l : List Hop). rising hop_cmp (c.loop-route.hops ++ l)) (c.as_slice.ensures.hops ∙ ap (λ (r : RouteValue). r.hops) c.route.view_is))
+    (c.in_ok-join.ensures.joined
+    ∙ ap (λ (l : List Hop). rising hop_cmp (c.loop-route.hops ++ l)) (c.as_slice.ensures.hops ∙ ap (λ (r : RouteValue). r.hops) c.route.view_is))
 
 pub returns : goal.returns
 returns g c = c.loop-route.invariant ∙ ap hops_of (take_all c.loop-route.route-index c.args.routes.now c.loop-route-test.false)

@@ -22,13 +22,17 @@ loop-routes-preserved g c =
     c.in_ok-found.ensures
     ∙ ap (λ (o : Option RouterValue). lost_since baseline now o is)
     (c.routes_of.ensures ∙ ap (λ (id : RouterId). routes_at were id) router) in (
-      adds_step (flat_map_adds (λ (r : RouterValue). pairs_of r.router (lost_by baseline now were r).lost)) (λ (cs : List RouterPrefix). c.loop-routes.lost.items ≡ cs)
-          (λ (cs : List RouterPrefix). c.push_pairs.new.pairs.items ≡ cs) c.args.routers.now i is c.loop-routes-test.true c.routes-item.is c.loop-routes.invariant.0 (λ cs was.
+      adds_step (flat_map_adds (λ (r : RouterValue). pairs_of r.router (lost_by baseline now were r).lost))
+          (λ (cs : List RouterPrefix). c.loop-routes.lost.items ≡ cs)
+          (λ (cs : List RouterPrefix). c.push_pairs.new.pairs.items ≡ cs)
+          c.args.routers.now i is c.loop-routes-test.true c.routes-item.is c.loop-routes.invariant.0 (λ cs was.
           c.in_ok-push_pairs.ensures ∙ ap (λ (l : List RouterPrefix). l ++ pairs_of c.router-router.result c.lost.result.now) was
           ∙ ap (λ (nets : List Net). cs ++ pairs_of c.router-router.result nets) (c.lost.ensures ∙ ap (λ (f : LostValue). f.lost) same)
           ∙ ap (λ (id : RouterId). cs ++ pairs_of id (lost_by baseline now were is).lost) router),
-      adds_step (flat_map_adds (λ (r : RouterValue). pairs_of r.router (lost_by baseline now were r).gone)) (λ (cs : List RouterPrefix). c.loop-routes.gone.items ≡ cs)
-          (λ (cs : List RouterPrefix). c.push_pairs-in-loop-routes.new.pairs.items ≡ cs) c.args.routers.now i is c.loop-routes-test.true c.routes-item.is c.loop-routes.invariant.1 (λ cs was.
+      adds_step (flat_map_adds (λ (r : RouterValue). pairs_of r.router (lost_by baseline now were r).gone))
+          (λ (cs : List RouterPrefix). c.loop-routes.gone.items ≡ cs)
+          (λ (cs : List RouterPrefix). c.push_pairs-in-loop-routes.new.pairs.items ≡ cs)
+          c.args.routers.now i is c.loop-routes-test.true c.routes-item.is c.loop-routes.invariant.1 (λ cs was.
           c.in_ok-push_pairs-2.ensures ∙ ap (λ (l : List RouterPrefix). l ++ pairs_of c.router-router.result c.gone.result.now) was
           ∙ ap (λ (nets : List Net). cs ++ pairs_of c.router-router.result nets) (c.gone.ensures ∙ ap (λ (f : LostValue). f.gone) same)
           ∙ ap (λ (id : RouterId). cs ++ pairs_of id (lost_by baseline now were is).gone) router),

@@ -17,14 +17,18 @@ loop-candidate-preserved g c =
     let alike = c.likeness-alike.ensures ∙ ap (likeness word) c.bytes.ensures in
     elim c.if-alike-most.branch [
       | then-alike-most w ↦ record {
-        most = w.most-is ∙ most_taken written word all i next c.loop-candidate-test.true c.candidate-item.is most c.likeness-alike.result so_far.most alike w.if-alike-most.true;
+        most = w.most-is ∙ most_taken written word all i next c.loop-candidate-test.true c.candidate-item.is most c.likeness-alike.result
+            so_far.most alike w.if-alike-most.true;
         best = ap (option_map (λ found. written found.now)) w.best-is
-            ∙ near_taken written word all i next c.loop-candidate-test.true c.candidate-item.is most c.likeness-alike.result so_far.most alike w.if-alike-most.true;
+            ∙ near_taken written word all i next c.loop-candidate-test.true c.candidate-item.is most c.likeness-alike.result
+            so_far.most alike w.if-alike-most.true;
       }
       | else-alike-most w ↦ record {
-        most = w.most-is ∙ most_kept written word all i next c.loop-candidate-test.true c.candidate-item.is most c.likeness-alike.result so_far.most alike w.if-alike-most.false;
+        most = w.most-is ∙ most_kept written word all i next c.loop-candidate-test.true c.candidate-item.is most c.likeness-alike.result
+            so_far.most alike w.if-alike-most.false;
         best = ap (option_map (λ found. written found.now)) w.best-is ∙ so_far.best
-            ∙ near_kept written word all i next c.loop-candidate-test.true c.candidate-item.is most c.likeness-alike.result so_far.most alike w.if-alike-most.false;
+            ∙ near_kept written word all i next c.loop-candidate-test.true c.candidate-item.is most c.likeness-alike.result
+            so_far.most alike w.if-alike-most.false;
       }
     ]
 

@@ -1,7 +1,7 @@
-use Rattle.std.proofs.Common.{◌≡◌, List, Some, ap, sym, subst, ◌∙◌}
+use Rattle.std.proofs.Common.{ap, sym, subst, ◌∙◌}
 use Rattle.std.specs.Prelude.{option_map}
 use Rattle.lsdb.specs.Lists.{Lists}
-use Rattle.lsdb.specs.Slots.{Slots, lists_of}
+use Rattle.lsdb.specs.Slots.{lists_of}
 use Rattle.edit_history.specs.Session.{state}
 use Rattle.branches.specs.Branches.{Sessions, before_last, sessions_of}
 use Rattle.loop_report.specs.Loops.{AreJointLoops}

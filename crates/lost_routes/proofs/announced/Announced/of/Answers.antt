@@ -19,9 +19,11 @@ pub loop-i-preserved : goal.loop-i-preserved
 loop-i-preserved g c =
     let db = lists_of c.args.database.now in
     let head : AreaHead = record { id = c.area-is_stub.result.0.0; is_stub = c.area-is_stub.result.1 } in (
-      area_more db (flat_map live_networks) (flat_map-append live_networks) c.loop-i.i head c.area-is_stub.ensures _ c.lsas-in-loop-i.ensures.lsas _ _ _ c.loop-i.invariant.0
+      area_more db (flat_map live_networks) (flat_map-append live_networks) c.loop-i.i head c.area-is_stub.ensures _
+          c.lsas-in-loop-i.ensures.lsas _ _ _ c.loop-i.invariant.0
           c.in_ok-add_area.ensures.networks,
-      area_more db (filter_map summary_prefix) (filter_map-append summary_prefix) c.loop-i.i head c.area-is_stub.ensures _ c.lsas-in-loop-i.ensures.lsas _ _ _ c.loop-i.invariant.1
+      area_more db (filter_map summary_prefix) (filter_map-append summary_prefix) c.loop-i.i head c.area-is_stub.ensures _
+          c.lsas-in-loop-i.ensures.lsas _ _ _ c.loop-i.invariant.1
           c.in_ok-add_area.ensures.summaries,
     )
 
