@@ -1,5 +1,5 @@
 -- What a line is answered, and the study after it, by what the line means.
-use Rattle.std.proofs.Common.{◌≡◌, ℕ, List, Option, None, Some, Result, Ok, Err, refl, ap, subst, sym}
+use Rattle.std.proofs.Common.{◌≡◌, ℕ, List, Option, None, Some, Result, Ok, Err, IfOk, OnOk, refl, ap, subst, sym}
 use Rattle.branches.specs.Branches.{Sessions}
 use Rattle.study_arguments.specs.Fault.{FaultAt}
 use Rattle.study_script.specs.Line.{Asked}
@@ -30,3 +30,16 @@ module _ (s : Study) (meant : Result (Option (ℕ × Asked)) FaultAt) where
 
     pub fault_after : s.sessions ≡ sessions_by meant s.sessions
     fault_after = ap (λ (m : Result (Option (ℕ × Asked)) FaultAt). sessions_by m s.sessions) (sym is)
+
+-- what is asked for, by the command
+pub answered : {E : Type 0} (s : Study) (branch : ℕ) (result : Result AnswerValue E) {given what : Asked} → given ≡ what
+    → IfOk result (IsAnswerIn s branch what) → IfOk result (IsAnswerIn s branch given)
+answered s branch result is = subst (λ (a : Asked). IfOk result (IsAnswerIn s branch a)) (sym is)
+
+module _ (branch : ℕ) (all after : Sessions) where
+  pub left_by : {given what : Asked} → given ≡ what → after ≡ sessions_in branch what all → after ≡ sessions_in branch given all
+  left_by is = subst (λ (a : Asked). after ≡ sessions_in branch a all) (sym is)
+
+  pub left : {T E : Type 0} (result : Result T E) {given what : Asked} → given ≡ what
+      → OnOk result (after ≡ sessions_in branch what all) → OnOk result (after ≡ sessions_in branch given all)
+  left result is = subst (λ (a : Asked). OnOk result (after ≡ sessions_in branch a all)) (sym is)
