@@ -3,16 +3,20 @@ use Rattle.std.specs.Prelude.{option_map}
 use Rattle.std.proofs.lemmas.Result.{IfOk-weaker}
 use Rattle.network_names.specs.Names.{called}
 use Rattle.lsa_codec.specs.declared.address.RouterId.{RouterId}
+use Rattle.lsdb.specs.Lists.{Lists}
 use Rattle.lsdb.specs.Slots.{lists_of}
 use Rattle.edit_history.specs.Session.{Session, state}
 use Rattle.branches.specs.Branches.{Sessions, before_last, sessions_of}
-use Rattle.study_script.specs.Expected.{pairs_allowed}
+use Rattle.study_script.specs.Expected.{PairsAllowed, pairs_allowed}
 use Rattle.study_script.specs.declared.condition.Condition.TheVariants as condition
+use Rattle.study_text.specs.Shown.{Called}
+use Rattle.study_session.specs.declared.missing.Missing.{Missing}
 use Rattle.study_session.specs.declared.missing.Missing.TheVariants as missing
 use Rattle.study_session.specs.ChangeAnswers.{beside}
 use Rattle.study_session.specs.ChangeVerdicts.{few_verdict, pairs_verdict, same_verdict}
 use Rattle.study_session.specs.LoopVerdicts.{IsBlackholesVerdict, IsLoopsVerdict, IsMicroloopsVerdict}
 use Rattle.study_session.specs.RouteVerdicts.{IsPathVerdict, hops_verdict, no_route_verdict, route_verdict}
+use Rattle.study_session.specs.Verdicts.{VerdictValue}
 use Rattle.study_session.specs.steps.Microloops.{AreMicroloops, no_microloops_by}
 use Rattle.study_session.specs.steps.Missing.{missing_pairs, missing_text}
 use Rattle.study_session.specs.steps.Verdicts.{verdict_of}
@@ -20,6 +24,11 @@ use Rattle.study_session.proofs.Asked.{counted}
 use Rattle.study_session.proofs.FoundIn.{found, found_by}
 use Rattle.study_session.proofs.Microloops.{found as found_microloops}
 use Rattle.study_session.proofs.expectations.verdict.Goals as goal
+
+-- what is found of pairs that are lost or gone
+abbrev IsFoundMissing : Missing → PairsAllowed → Called → Lists → Lists → VerdictValue → Type 0
+IsFoundMissing which allowed called baseline db verdict =
+    verdict ≡ pairs_verdict called (missing_text which) allowed (missing_pairs which (beside baseline db))
 
 pub returns-in-Route-clause-verdict : goal.returns-in-Route-clause-verdict
 returns-in-Route-clause-verdict g c = found_by (called c.args.names.now) (lists_of c.args.baseline.now) c.args.branch
@@ -48,8 +57,7 @@ returns-in-Path-clause-verdict g c = found_by (called c.args.names.now) (lists_o
 
 pub returns-in-Lost-clause-verdict : goal.returns-in-Lost-clause-verdict
 returns-in-Lost-clause-verdict g c = found_by (called c.args.names.now) (lists_of c.args.baseline.now) c.args.branch
-    c.pairs.result (λ called baseline db verdict.
-    verdict ≡ pairs_verdict called (missing_text missing.Lost) (pairs_allowed c.in-Lost.allowed) (missing_pairs missing.Lost (beside baseline db)))
+    c.pairs.result (IsFoundMissing missing.Lost (pairs_allowed c.in-Lost.allowed))
     c.in-Lost.is c.database-now.ensures.state c.planner.ensures c.in_ok-prepare.ensures.kept (λ verdict is. is) c.pairs.ensures
 
 pub returns-in-NoLoops-clause-verdict : goal.returns-in-NoLoops-clause-verdict
@@ -59,8 +67,7 @@ returns-in-NoLoops-clause-verdict g c = found_by (called c.args.names.now) (list
 
 pub returns-in-Gone-clause-verdict : goal.returns-in-Gone-clause-verdict
 returns-in-Gone-clause-verdict g c = found_by (called c.args.names.now) (lists_of c.args.baseline.now) c.args.branch
-    c.pairs-in-Gone.result (λ called baseline db verdict.
-    verdict ≡ pairs_verdict called (missing_text missing.Gone) (pairs_allowed c.in-Gone.allowed) (missing_pairs missing.Gone (beside baseline db)))
+    c.pairs-in-Gone.result (IsFoundMissing missing.Gone (pairs_allowed c.in-Gone.allowed))
     c.in-Gone.is c.database-now.ensures.state c.planner.ensures c.in_ok-prepare.ensures.kept (λ verdict is. is) c.pairs-in-Gone.ensures
 
 pub returns-in-Same-clause-verdict : goal.returns-in-Same-clause-verdict

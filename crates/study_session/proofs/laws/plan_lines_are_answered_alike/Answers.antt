@@ -1,6 +1,5 @@
-use Rattle.std.proofs.Common.{Ok, Some, ap, subst, ◌∙◌}
+use Rattle.std.proofs.Common.{Some, ap, subst, ◌∙◌}
 use Rattle.branches.specs.Replies.{reply_to}
-use Rattle.study_script.specs.Line.{plan}
 use Rattle.study_session.specs.Answers.{AnswerValue}
 use Rattle.study_session.specs.Lines.{IsAnswerBy, sessions_by}
 use Rattle.study_session.proofs.PlanText.{plan_text}

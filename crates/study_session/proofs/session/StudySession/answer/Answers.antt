@@ -1,4 +1,4 @@
-use Rattle.std.proofs.Common.{◌≡◌, ap, ◌∙◌}
+use Rattle.std.proofs.Common.{ap, ◌∙◌}
 use Rattle.network_names.specs.Names.{stands_for}
 use Rattle.branches.specs.Branches.{Sessions}
 use Rattle.study_arguments.specs.Fault.{fault_at}
