@@ -26,6 +26,10 @@ pub record ForwardingValue : Type 0 where
 abbrev pub routers_of : Lists → List RouterValue
 routers_of db = map (router_in db) (attached_routers db)
 
+-- what the entries of a router come from, if it is one of these
+abbrev pub routes_at : List RouterValue → RouterId → Option RouterValue
+routes_at routers router = find (λ r. eq_by_cmp router_cmp router r.router) routers
+
 pub record IsForwardingOf (db : Lists) (forwarding : ForwardingValue) : Type 0 where
   pub graphs : AreGraphsOf db forwarding.graphs
   pub routers : forwarding.routers ≡ routers_of db

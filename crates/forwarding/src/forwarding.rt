@@ -1,15 +1,18 @@
 //! What the forwarding graphs of a database come from.
 
-ghost use Rattle.std.specs.Prelude.{◌≡◌, IfOk};
+ghost use Rattle.std.specs.Prelude.{◌≡◌, map, IfOk};
+ghost use Rattle.std.specs.List.Sorted.{IsStrictlySortedBy};
+ghost use Rattle.std.specs.Option.{option_copied};
+ghost use Rattle.lsa_codec.specs.Order.{router_cmp};
 ghost use Rattle.lsdb.specs.Lists.{Lists};
 ghost use Rattle.lsdb.specs.Slots.{lists_of};
-ghost use Rattle.forwarding.specs.Graphs.{IsForwardingOf, graph_of, step_of};
+ghost use Rattle.forwarding.specs.Graphs.{IsForwardingOf, graph_of, routes_at, step_of};
 ghost use Rattle.forwarding.specs.Owners.{AreGraphsOf};
 
 use crate::area_graphs::AreaGraphs;
 use crate::graph::{ForwardingGraph, RouterStep};
 use crate::router_routes::RouterRoutes;
-use lsa_codec::Addr;
+use lsa_codec::{Addr, RouterId};
 use lsdb::Database;
 use routing_table::routers;
 use spf::Meter;
@@ -76,6 +79,33 @@ impl<A: Allocator + Copy> Forwarding<A> {
             routers.push(RouterRoutes::of(alloc, database, *router, meter)?)?;
         }
         Ok(Forwarding { graphs, routers })
+    }
+
+    /// The graphs of the areas.
+    pub fn graphs(&self) -> &AreaGraphs<A>
+        ensures { result.now ≡ self.now.graphs }
+    {
+        &self.graphs
+    }
+
+    /// The attached routers in rising order, each with what its entries come from.
+    pub fn routers(&self) -> &[RouterRoutes<A>]
+        ensures routers { result.now ≡ self.now.routers }
+        ensures sorted { IsStrictlySortedBy router_cmp (map (λ r. r.router) result.now) }
+    {
+        self.routers.as_slice()
+    }
+
+    /// What the entries of a router come from, if it is attached. It takes no memory, and time
+    /// logarithmic in the number of routers.
+    pub fn routes_of(&self, router: RouterId) -> Option<&RouterRoutes<A>>
+        ensures { option_copied result ≡ routes_at self.now.routers router }
+    {
+        let routers = self.routers();
+        match routers.binary_search_by_key(&router, |routes| routes.router()) {
+            Ok(index) => Some(&routers[index]),
+            Err(_) => None,
+        }
     }
 
     /// The forwarding graph of an address: each attached router with its match.

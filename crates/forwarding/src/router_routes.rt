@@ -11,7 +11,7 @@ ghost use Rattle.forwarding.specs.Owners.{AreGraphsOf};
 use crate::area_graphs::AreaGraphs;
 use crate::entry::Match;
 use crate::own_externals::own_externals;
-use area_routes::{PathType, Route};
+use area_routes::{PathType, Route, Routes};
 use lsa_codec::{Addr, Prefix, RouterId};
 use lsdb::Database;
 use next_hops::Hop;
@@ -110,6 +110,20 @@ impl<A: Allocator + Copy> RouterRoutes<A> {
         ensures { result ≡ self.now.router }
     {
         self.table.router()
+    }
+
+    /// The routes of its table.
+    pub fn routes(&self) -> &Routes<A>
+        ensures { result.now ≡ self.now.routes }
+    {
+        self.table.routes()
+    }
+
+    /// The prefixes of its own AS-external-LSAs.
+    pub fn own(&self) -> &BTreeSet<Prefix, A>
+        ensures { result.now.keys ≡ self.now.own }
+    {
+        &self.own
     }
 
     /// The entry of the router for a prefix, if there is one.

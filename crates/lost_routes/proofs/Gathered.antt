@@ -1,5 +1,6 @@
 -- Prefixes in a set, one part after another.
-use Rattle.std.proofs.Common.{◌≡◌, ◌∙◌, ◌+◌, ◌<◌, ◌≤◌, ℕ, Bool, true, false, Bor, List, [], ◌∷◌, ◌++◌, Option, append_assoc, get_or, length, map, take, refl, subst, sym, ap}
+use Rattle.std.proofs.Common.{◌≡◌, ◌∙◌, ◌+◌, ◌<◌, ◌≤◌, ℕ, Bool, true, false, Bor, List, [], ◌∷◌, ◌++◌, Option}
+use Rattle.std.proofs.Common.{append_assoc, get_or, length, map, take, refl, subst, sym, ap}
 use Rattle.std.specs.Prelude.{◌||◌}
 use Rattle.std.specs.BTreeSet.{insert_key}
 use Rattle.std.specs.List.{cons_option, list_any}
@@ -60,7 +61,8 @@ module _ {X : Type 0} {g : List X → List Net} {h : X → List Net} (adds : Add
       gathers_same (g xs ++ h x) (g (xs ++ x ∷ [])) old new (sym (adds.push xs x)) (gathers_both (g xs) (h x) old mid new so_far one)
 
   -- an item that a reference refers to
-  pub gathers_push_now : (xs : List (Bor X)) (x : Bor X) (old mid new : List Net) → Gathers (g (map (λ (y : Bor X). y.now) xs)) old mid → Gathers (h x.now) mid new
+  pub gathers_push_now : (xs : List (Bor X)) (x : Bor X) (old mid new : List Net)
+      → Gathers (g (map (λ (y : Bor X). y.now) xs)) old mid → Gathers (h x.now) mid new
       → Gathers (g (map (λ (y : Bor X). y.now) (xs ++ x ∷ []))) old new
   gathers_push_now xs x old mid new so_far one =
       let now : Bor X → X = λ y. y.now in

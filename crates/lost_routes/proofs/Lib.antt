@@ -3,5 +3,5 @@ pub mod AreaNets
 pub mod Missing
 pub mod Present
 pub mod Split
-pub mod Matched
 pub mod Unchanged
+pub mod Announcing

@@ -6,6 +6,7 @@ ghost use Rattle.lsa_codec.specs.Links.{stub_net};
 ghost use Rattle.lsa_codec.specs.Views.{ls_infinity};
 ghost use Rattle.lsdb.specs.Slots.{lists_of};
 ghost use Rattle.area_graph.specs.Area.{is_live};
+ghost use Rattle.forwarding.specs.Matches.{has_net};
 ghost use Rattle.lost_routes.specs.Announced.{announced_in, external_prefix, is_announced, live_networks, networks_of, summary_prefix};
 ghost use Rattle.lost_routes.specs.steps.Gathering.{Gathers};
 
@@ -63,7 +64,7 @@ fn add_networks<A: Allocator + Copy>(
 }
 
 /// Adds the networks of a router-LSA or network-LSA that is live.
-fn add_live_networks<A: Allocator + Copy>(
+pub(crate) fn add_live_networks<A: Allocator + Copy>(
     nets: &mut BTreeSet<Prefix, A>,
     lsa: &Lsa<A>,
 ) -> Result<(), AllocError>
@@ -83,7 +84,7 @@ fn is_usable<A: Allocator + Copy>(lsa: &Lsa<A>, metric: u32) -> bool
 }
 
 /// The prefix of an LSA, if it is a live summary-LSA of type 3 whose metric is below LSInfinity.
-fn summary_prefix<A: Allocator + Copy>(lsa: &Lsa<A>) -> Option<Prefix>
+pub(crate) fn summary_prefix<A: Allocator + Copy>(lsa: &Lsa<A>) -> Option<Prefix>
     ensures { result ≡ summary_prefix lsa.now }
 {
     let view = lsa.summary()?;
@@ -174,5 +175,12 @@ impl<A: Allocator + Copy> Announced<A> {
         self.networks.contains(&net)
             || self.externals.contains(&net)
             || self.summaries.contains(&net) && !baseline.networks.contains(&net)
+    }
+
+    /// Whether a prefix is a network of an area. It takes no memory.
+    pub(crate) fn has_network(&self, net: Prefix) -> bool
+        ensures { result ≡ has_net self.now.networks net }
+    {
+        self.networks.contains(&net)
     }
 }

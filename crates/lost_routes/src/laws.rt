@@ -1,18 +1,12 @@
 //! What holds of the definitions.
 
-ghost use Rattle.std.specs.Prelude.{◌≡◌, ◌↔◌, ◌⊎◌, [], Contains, is_some};
+ghost use Rattle.std.specs.Prelude.{◌≡◌, ◌↔◌, ◌⊎◌, [], Contains};
 ghost use Rattle.lsa_codec.specs.Prefix.{Net};
 ghost use Rattle.lsdb.specs.Lists.{Lists};
-ghost use Rattle.forwarding.specs.Matches.{RouterValue, entry_for};
+ghost use Rattle.forwarding.specs.Matches.{RouterValue};
 ghost use Rattle.lost_routes.specs.Announced.{AnnouncedValue};
-ghost use Rattle.lost_routes.specs.Lost.{has_entry, lost_routes, missing};
+ghost use Rattle.lost_routes.specs.Lost.{lost_routes, missing};
 ghost use Rattle.lost_routes.specs.LostPairs.{lost_pairs};
-
-/// A router has an entry for a prefix exactly where packets for its addresses may match it.
-pub fn entries_are_matched()
-    ensures { (db : Lists) (r : RouterValue) (net : Net)
-        → has_entry r net ≡ is_some (entry_for db r net) }
-{}
 
 /// Each prefix that a router is missing is lost or gone, none is both, and no other is one of them.
 pub fn missing_is_lost_or_gone()

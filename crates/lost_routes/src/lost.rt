@@ -6,8 +6,8 @@ ghost use Rattle.lost_routes.specs.Lost.{lacks, lost_routes, missing};
 ghost use Rattle.lost_routes.specs.steps.Gathering.{Gathers};
 
 use crate::announced::Announced;
-use crate::entries::Entries;
 use lsa_codec::Prefix;
+use router_entries::Entries;
 use std::alloc::{AllocError, Allocator, Global};
 use std::collections::BTreeSet;
 use std::marker::Model;

@@ -6,7 +6,7 @@ use Rattle.std.specs.declared.cmp.Ordering.{Ordering}
 use Rattle.std.specs.declared.cmp.Ordering.TheVariants.{Less, Equal, Greater}
 use Rattle.std.proofs.lemmas.Cmp.{nat_cmp_total, on_total, ranked, then_total}
 use Rattle.table_changes.specs.Changes.{cost_cmp}
-use Rattle.table_changes.specs.Entries.{EntryValue}
+use Rattle.router_entries.specs.Entries.{EntryValue}
 use Rattle.table_changes.specs.InWords.{CostTheSame, CostsLess}
 
 pub cost_total : IsTotalOrder cost_cmp

@@ -9,7 +9,7 @@ use Rattle.table_changes.specs.declared.change.Change.{Change}
 use Rattle.table_changes.specs.declared.change.Change.TheVariants.{Missing, Gained, OtherKind, Costlier, Cheaper, Moved}
 use Rattle.table_changes.specs.declared.change.PrefixChange.{PrefixChange}
 use Rattle.table_changes.specs.Changes.{change_at, change_for, changes, count_of, nets_of_both, unchanged, with_net}
-use Rattle.table_changes.specs.Entries.{EntriesValue}
+use Rattle.forwarding.specs.Matches.{RouterValue}
 
 -- ---- changes of all kinds
 
@@ -54,7 +54,7 @@ module _ (for : Net → Option Change) where
   lengths nets = counted_by (λ found. length found) refl (λ c cs. omega arith) nets
 
 -- the changes of all prefixes, and how many have none
-module _ (rerouted : List Hop) (before now : EntriesValue) (nets seen : List Net) (found : List PrefixChange) where
+module _ (rerouted : List Hop) (before now : RouterValue) (nets seen : List Net) (found : List PrefixChange) where
   module _ (all : nets ≡ nets_of_both before now) (same : seen ≡ nets) (is : found ≡ filter_map (change_at rerouted before now) seen) where
     pub are_all : found ≡ changes rerouted before now
     are_all = is ∙ ap (filter_map (change_at rerouted before now)) (same ∙ all)

@@ -7,4 +7,3 @@ mod Nets
 mod Listed
 mod Counted
 mod Swapped
-mod Matching

@@ -15,7 +15,8 @@ use Rattle.best_ways.proofs.RisingLemmas.{sorted_rising}
 use Rattle.table_changes.specs.declared.change.Change.{Change}
 use Rattle.table_changes.specs.declared.change.PrefixChange.{PrefixChange}
 use Rattle.table_changes.specs.Changes.{change_at, change_for, change_of, changes, nets_of_both, with_net}
-use Rattle.table_changes.specs.Entries.{EntriesValue, EntryValue, entry_for, nets_of}
+use Rattle.forwarding.specs.Matches.{RouterValue}
+use Rattle.router_entries.specs.Entries.{EntryValue, entry_for, nets_of}
 use Rattle.table_changes.specs.InWords.{AreChanges}
 use Rattle.table_changes.proofs.Having.{nets_have}
 
@@ -26,7 +27,7 @@ some_entry rerouted None None change h = cc
 some_entry rerouted None (Some now) change h = inr refl
 some_entry rerouted (Some before) now change h = inl refl
 
-module _ (rerouted : List Hop) (before now : EntriesValue) where
+module _ (rerouted : List Hop) (before now : RouterValue) where
   abbrev at : Net → Option PrefixChange
   at = change_at rerouted before now
 

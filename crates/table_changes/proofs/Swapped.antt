@@ -18,7 +18,8 @@ use Rattle.best_ways.proofs.RisingLemmas.{rising_same}
 use Rattle.table_changes.specs.declared.change.Change.{Change}
 use Rattle.table_changes.specs.declared.change.Change.TheVariants.{OtherKind, Costlier, Cheaper, Moved}
 use Rattle.table_changes.specs.Changes.{change_at, change_between, change_for, change_of, changes, changes_of, cost_cmp, nets_of_both, same_kind, same_way, unchanged, with_net}
-use Rattle.table_changes.specs.Entries.{EntriesValue, EntryValue, entry_for, nets_of}
+use Rattle.forwarding.specs.Matches.{RouterValue}
+use Rattle.router_entries.specs.Entries.{EntryValue, entry_for, nets_of}
 use Rattle.table_changes.specs.InWords.{LeadTheSameWay}
 use Rattle.table_changes.specs.Swapping.{opposite, swapped, swapped_change}
 use Rattle.table_changes.proofs.Costs.{cost_total}
@@ -50,14 +51,14 @@ same_as_itself : (entry : Option EntryValue) → change_of [] entry entry ≡ No
 same_as_itself None = refl
 same_as_itself (Some entry) = itself entry
 
-none_at : (entries : EntriesValue) (nets : List Net) → filter_map (change_at [] entries entries) nets ≡ []
+none_at : (entries : RouterValue) (nets : List Net) → filter_map (change_at [] entries entries) nets ≡ []
 none_at entries [] = refl
 none_at entries (net ∷ nets) =
     ap (λ (v : Option Change). cons_option (option_map (with_net net) v) (filter_map (change_at [] entries entries) nets))
     (same_as_itself (entry_for entries net))
     ∙ none_at entries nets
 
-pub no_changes : (entries : EntriesValue) → changes [] entries entries ≡ []
+pub no_changes : (entries : RouterValue) → changes [] entries entries ≡ []
 no_changes entries = none_at entries (nets_of_both entries entries)
 
 -- ---- the other side
@@ -68,7 +69,7 @@ or_comm true false = refl
 or_comm false true = refl
 or_comm false false = refl
 
-nets_swap : (before now : EntriesValue) → nets_of_both now before ≡ nets_of_both before now
+nets_swap : (before now : RouterValue) → nets_of_both now before ≡ nets_of_both before now
 nets_swap before now =
     rising_same prefix_total prefix_exact (nets_of now ++ nets_of before) (nets_of before ++ nets_of now) (λ q.
     let has = eq_by_cmp prefix_cmp q in
@@ -106,7 +107,7 @@ module _ (rerouted : List Hop) where
   change_swaps (Some before) None = refl
   change_swaps (Some before) (Some now) = between_swaps before now
 
-  module _ (before now : EntriesValue) where
+  module _ (before now : RouterValue) where
     for_swaps : (net : Net) → change_for rerouted now before net ≡ option_map opposite (change_for rerouted before now net)
     for_swaps net = change_swaps (entry_for before net) (entry_for now net)
 

@@ -15,7 +15,7 @@ use Rattle.next_hops.specs.Hop.{hop_cmp}
 use Rattle.next_hops.specs.declared.hop.Hop.{Hop}
 use Rattle.next_hops.proofs.HopLemmas.{hop_cmp_total, same_hop}
 use Rattle.table_changes.specs.Changes.{has_hop, leads_elsewhere, same_area, same_way}
-use Rattle.table_changes.specs.Entries.{EntryValue}
+use Rattle.router_entries.specs.Entries.{EntryValue}
 use Rattle.table_changes.specs.InWords.{LeadTheSameWay}
 
 pub hop_decides : (a b : Hop) → Decides (eq_by_cmp hop_cmp a b) (a ≡ b)

@@ -9,7 +9,7 @@ use Rattle.next_hops.specs.declared.hop.Hop.{Hop}
 use Rattle.table_changes.specs.declared.change.Change.{Change}
 use Rattle.table_changes.specs.declared.change.Change.TheVariants.{Missing, Gained, OtherKind, Costlier, Cheaper, Moved}
 use Rattle.table_changes.specs.Changes.{change_between, change_of, cost_cmp, same_kind, same_way}
-use Rattle.table_changes.specs.Entries.{EntryValue}
+use Rattle.router_entries.specs.Entries.{EntryValue}
 use Rattle.table_changes.specs.InWords.{CostTheSame, CostsLess, IsBetween, IsChange, LeadTheSameWay}
 use Rattle.table_changes.proofs.Costs.{costs, not_both, not_less, not_more}
 use Rattle.table_changes.proofs.SameKinds.{same_kind_decides}

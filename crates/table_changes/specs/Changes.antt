@@ -16,7 +16,8 @@ use Rattle.study_words.specs.declared.route_kind.RouteKind.TheVariants.{Intra, I
 use Rattle.table_changes.specs.declared.change.Change.{Change}
 use Rattle.table_changes.specs.declared.change.Change.TheVariants.{Missing, Gained, OtherKind, Costlier, Cheaper, Moved}
 use Rattle.table_changes.specs.declared.change.PrefixChange.{PrefixChange}
-use Rattle.table_changes.specs.Entries.{EntriesValue, EntryValue, entry_for, nets_of}
+use Rattle.forwarding.specs.Matches.{RouterValue}
+use Rattle.router_entries.specs.Entries.{EntryValue, entry_for, nets_of}
 
 -- ---- two entries for a prefix
 
@@ -67,13 +68,13 @@ module _ (rerouted : List Hop) where
 -- ---- all entries of a router
 
 -- the prefixes that have an entry before or now, in order
-abbrev pub nets_of_both : EntriesValue → EntriesValue → List Net
+abbrev pub nets_of_both : RouterValue → RouterValue → List Net
 nets_of_both before now = rising prefix_cmp (nets_of before ++ nets_of now)
 
 abbrev pub with_net : Net → Change → PrefixChange
 with_net net change = record { net = net; change = change }
 
-module _ (rerouted : List Hop) (before now : EntriesValue) where
+module _ (rerouted : List Hop) (before now : RouterValue) where
   -- what differs for a prefix
   abbrev pub change_for : Net → Option Change
   change_for net = change_of rerouted (entry_for before net) (entry_for now net)
@@ -94,7 +95,7 @@ pub record ChangesValue : Type 0 where
   pub changes : List PrefixChange
   pub unchanged : ℕ
 
-abbrev pub changes_of : List Hop → EntriesValue → EntriesValue → ChangesValue
+abbrev pub changes_of : List Hop → RouterValue → RouterValue → ChangesValue
 changes_of rerouted before now = record { changes = changes rerouted before now; unchanged = unchanged rerouted before now }
 
 -- ---- counts

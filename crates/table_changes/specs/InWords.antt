@@ -8,7 +8,8 @@ use Rattle.table_changes.specs.declared.change.Change.{Change}
 use Rattle.table_changes.specs.declared.change.Change.TheVariants.{Missing, Gained, OtherKind, Costlier, Cheaper, Moved}
 use Rattle.table_changes.specs.declared.change.PrefixChange.{PrefixChange}
 use Rattle.table_changes.specs.Changes.{change_for, with_net}
-use Rattle.table_changes.specs.Entries.{EntriesValue, EntryValue}
+use Rattle.forwarding.specs.Matches.{RouterValue}
+use Rattle.router_entries.specs.Entries.{EntryValue}
 
 -- ---- two entries for a prefix
 
@@ -47,7 +48,7 @@ module _ (rerouted : List Hop) where
 -- ---- all entries of a router
 
 -- in order of prefix, each once, exactly the prefixes for which something differs, each with that
-pub record AreChanges (rerouted : List Hop) (before now : EntriesValue) (changes : List PrefixChange) : Type 0 where
+pub record AreChanges (rerouted : List Hop) (before now : RouterValue) (changes : List PrefixChange) : Type 0 where
   pub order : IsStrictlySortedBy prefix_cmp (map (λ c. c.net) changes)
   pub each : (net : Net) (change : Change) → Contains changes (with_net net change)
       ↔ (change_for rerouted before now net ≡ Some change)

@@ -1,4 +1,3 @@
-pub mod Entries
 pub mod Changes
 pub mod InWords
 pub mod Swapping

@@ -11,8 +11,7 @@ ghost use Rattle.table_changes.specs.Changes.{has_hop, same_change, same_kind};
 
 use crate::change::Change;
 use next_hops::{Hop, hop_equality, hop_order};
-use std::alloc::Allocator;
-use std::collections::BTreeSet;
+use std::cmp::Ordering;
 use study_words::RouteKind;
 
 /// What `==` says of kinds, changes and hops. It does nothing, and its contract is a law.
@@ -51,11 +50,18 @@ pub(crate) fn are_equal_hops(before: &[Hop], now: &[Hop]) -> bool
     before == now
 }
 
-/// Whether a hop is in a set.
-pub(crate) fn has_hop<A: Allocator + Copy>(hops: &BTreeSet<Hop, A>, hop: Hop) -> bool
-    ensures { result ≡ has_hop hops.now.keys hop }
+/// Whether two hops are one.
+fn is_same_hop(hop: Hop, other: Hop) -> bool
+    ensures { result ≡ eq_by_cmp hop_cmp hop other }
 {
-    // The law says that the order of the set is that of the definitions.
+    // The law says that the order of hops is that of the definitions.
     hop_order();
-    hops.contains(&hop)
+    hop.cmp(&other) == Ordering::Equal
+}
+
+/// Whether a hop is among some.
+pub(crate) fn has_hop(hops: &[Hop], hop: Hop) -> bool
+    ensures { result ≡ has_hop hops.now hop }
+{
+    hops.iter().any(|other| is_same_hop(hop, *other))
 }

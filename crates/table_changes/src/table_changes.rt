@@ -7,13 +7,11 @@ ghost use Rattle.table_changes.specs.Changes.{change_at, changes_of, count_of, n
 
 use crate::change::{Change, PrefixChange};
 use crate::comparing::change_of;
-use crate::entries::Entries;
 use crate::equality::is_same_change;
-use crate::walk::Walk;
 use lsa_codec::Prefix;
 use next_hops::Hop;
+use router_entries::{Entries, EntryWalk};
 use std::alloc::{AllocError, Allocator, Global};
-use std::collections::BTreeSet;
 use std::marker::Model;
 
 /// How the entries of a router differ from those that it had: what differs for each prefix, in
@@ -67,16 +65,16 @@ fn push_change<A: Allocator + Copy>(
 /// What differs for some prefixes, in their order.
 fn changes_at<A: Allocator + Copy>(
     alloc: A,
-    rerouted: &BTreeSet<Hop, A>,
+    rerouted: &[Hop],
     nets: &[Prefix],
     before: &Entries<'_, A>,
     now: &Entries<'_, A>,
 ) -> Result<Vec<PrefixChange, A>, AllocError>
     ensures { IfOk result (λ changes. changes.items
-        ≡ filter_map (change_at rerouted.now.keys before.now now.now) nets.now) }
+        ≡ filter_map (change_at rerouted.now before.now now.now) nets.now) }
 {
     let mut changes = Vec::new(alloc);
-    let (mut earlier, mut present) = (Walk::of(before), Walk::of(now));
+    let (mut earlier, mut present) = (EntryWalk::of(before), EntryWalk::of(now));
     for net in nets {
         let had = earlier.entry_for(*net);
         let has = present.entry_for(*net);
@@ -99,12 +97,12 @@ impl<A: Allocator + Copy> TableChanges<A> {
     /// Memory ran out.
     pub fn between(
         alloc: A,
-        rerouted: &BTreeSet<Hop, A>,
+        rerouted: &[Hop],
         before: &Entries<'_, A>,
         now: &Entries<'_, A>,
     ) -> Result<TableChanges<A>, AllocError>
         ensures { IfOk result (λ found. found
-            ≡ changes_of rerouted.now.keys before.now now.now) }
+            ≡ changes_of rerouted.now before.now now.now) }
     {
         let nets = nets_of_both(alloc, before, now)?;
         let changes = changes_at(alloc, rerouted, nets.as_slice(), before, now)?;

@@ -1,7 +1,8 @@
 //! What routers have lost, where one network was the baseline of another.
 
 use super::paths::BORDERS;
-use lost_routes::{LostPair, LostPairs};
+use forwarding::Forwarding;
+use lost_routes::{Announced, LostPairs, RouterPrefix};
 use lsdb::Database;
 use spf::Meter;
 use std::alloc::Global;
@@ -86,7 +87,7 @@ const CASES: &[(&str, &str, &str, &str)] = &[
 ];
 
 /// Adds routers and prefixes, each with a space after it.
-fn push_pairs(alloc: Global, text: &mut String, pairs: &[LostPair]) -> Result<(), Fail> {
+fn push_pairs(alloc: Global, text: &mut String, pairs: &[RouterPrefix]) -> Result<(), Fail> {
     for pair in pairs {
         let (router, net) = (pair.router, pair.net);
         text.push_str(&format!(in alloc; "{router} {net} ")?)?;
@@ -98,7 +99,13 @@ fn push_pairs(alloc: Global, text: &mut String, pairs: &[LostPair]) -> Result<()
 fn lost_between(alloc: Global, baseline: &str, now: &str) -> Result<String, Fail> {
     let baseline = Database::load(alloc, &dump_of_text(alloc, baseline)?)?;
     let now = Database::load(alloc, &dump_of_text(alloc, now)?)?;
-    let found = LostPairs::of(alloc, &baseline, &now, &mut Meter::new())?;
+    let found = LostPairs::of(
+        alloc,
+        &Announced::of(alloc, &baseline)?,
+        &Announced::of(alloc, &now)?,
+        &Forwarding::of(alloc, &baseline, &mut Meter::new())?,
+        &Forwarding::of(alloc, &now, &mut Meter::new())?,
+    )?;
     let mut text = String::new(alloc);
     text.push_str("lost ")?;
     push_pairs(alloc, &mut text, found.lost())?;

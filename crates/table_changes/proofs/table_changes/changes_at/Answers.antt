@@ -2,13 +2,13 @@ use Rattle.std.proofs.Common.{◌≡◌, ◌++◌, [], take, ap, ◌∙◌}
 use Rattle.std.specs.List.{cons_option, filter_map}
 use Rattle.std.specs.Option.{option_copied, option_map}
 use Rattle.table_changes.specs.Changes.{change_at, change_for, change_of, with_net}
-use Rattle.table_changes.specs.Entries.{entry_for}
+use Rattle.router_entries.specs.Entries.{entry_for}
 use Rattle.table_changes.proofs.Nets.{pushed}
 use Rattle.table_changes.proofs.table_changes.changes_at.Goals as goal
 
 pub loop-net-preserved : goal.loop-net-preserved
 loop-net-preserved g c =
-    let rerouted = c.args.rerouted.now.keys in
+    let rerouted = c.args.rerouted.now in
     let before = c.args.before.now in
     let now = c.args.now.now in
     let nets = c.args.nets.now in

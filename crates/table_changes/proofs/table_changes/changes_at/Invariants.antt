@@ -6,7 +6,7 @@ use Rattle.table_changes.proofs.table_changes.changes_at.Given as goal
 -- what differs for the prefixes so far; the entries stay
 abbrev pub invariant-loop-net : goal.invariant-loop-net
 invariant-loop-net g l = record {
-  changes : l.changes.items ≡ filter_map (change_at l.rerouted.keys l.before l.now) (take l.net-index l.nets);
+  changes : l.changes.items ≡ filter_map (change_at l.rerouted l.before l.now) (take l.net-index l.nets);
   earlier : l.earlier ≡ l.before;
   present : l.present ≡ l.now;
 }

@@ -4,8 +4,8 @@ use Rattle.area_graph.specs.Rising.{rising}
 use Rattle.lsa_codec.specs.Order.{prefix_cmp}
 use Rattle.lsa_codec.proofs.OrderLemmas.{prefix_exact, prefix_total}
 use Rattle.best_ways.proofs.RisingLemmas.{dedup_rising}
-use Rattle.table_changes.specs.Entries.{nets_of}
-use Rattle.table_changes.proofs.Nets.{equal_nets}
+use Rattle.router_entries.specs.Entries.{nets_of}
+use Rattle.router_entries.proofs.EntryLemmas.{equal_nets}
 use Rattle.table_changes.proofs.table_changes.nets_of_both.Goals as goal
 
 pub returns : goal.returns

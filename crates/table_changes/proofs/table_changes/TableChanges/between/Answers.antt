@@ -6,13 +6,13 @@ use Rattle.table_changes.proofs.table_changes.TableChanges.between.Goals as goal
 pub overflow_sub-unchanged : goal.overflow_sub-unchanged
 overflow_sub-unchanged g c =
     let all =
-    number_of_all c.args.rerouted.now.keys c.args.before.now c.args.now.now c.in_ok-nets.nets.items c.as_slice.result.now
+    number_of_all c.args.rerouted.now c.args.before.now c.args.now.now c.in_ok-nets.nets.items c.as_slice.result.now
     c.in_ok-changes.changes.items c.in_ok-nets.ensures c.as_slice.ensures.value c.in_ok-changes.ensures in
     omega (arith, c.len.ensures, c.len-2.ensures, c.in_ok-nets.nets.ok.0, c.in_ok-changes.changes.ok.0, all)
 
 pub returns : goal.returns
 returns g c =
-    let rerouted = c.args.rerouted.now.keys in
+    let rerouted = c.args.rerouted.now in
     let before = c.args.before.now in
     let now = c.args.now.now in
     let nets = c.in_ok-nets.nets in

@@ -1,0 +1,8 @@
+use Rattle.std.proofs.Common.{◌≡◌, ◌++◌, map}
+use Rattle.std.specs.Prelude.{flat_map}
+use Rattle.lost_routes.specs.Announcers.{by_external}
+use Rattle.lost_routes.proofs.announcers.push_externals.Given as goal
+
+-- the pairs of the LSAs so far were added
+abbrev pub invariant-loop-lsa : goal.invariant-loop-lsa
+invariant-loop-lsa g l = l.pairs.items ≡ l.initial.pairs.items ++ flat_map by_external (map (λ lsa. lsa.now) l.yielded)

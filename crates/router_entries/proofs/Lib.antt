@@ -1,0 +1,4 @@
+pub mod EntryLemmas
+mod Matching
+mod Matched
+mod Own

@@ -1,0 +1,3 @@
+pub mod Entries
+pub mod OwnExternals
+pub mod steps
