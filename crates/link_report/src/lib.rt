@@ -1,9 +1,9 @@
 //! The routers, links and networks of a database, as the words `routers`, `links` and `networks` of
 //! studies show them (RFC 2328, 12.4.1 and 12.4.2).
 //!
-//! Each has its values, [`RouterLine`], [`LinkLine`] and [`NetworkLine`], and a text with a line for
-//! each. [`link_line_at`] describes one link of a router-LSA of any age, and [`link_numbers`] finds
-//! the links that a word of an edit names.
+//! Each has its values, [`RouterLine`], [`LinkLine`] and [`NetworkLine`], and a text with a line
+//! for each. [`link_line_at`] describes one link of a router-LSA of any age, and [`link_numbers`]
+//! finds the links that a word of an edit names.
 #![tactic(auto)]
 
 // What the values are made from.

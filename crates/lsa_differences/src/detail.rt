@@ -5,7 +5,7 @@ ghost use Rattle.lsa_codec.specs.Spelling.{address_text};
 ghost use Rattle.lsa_codec.specs.Views.{attached_of};
 ghost use Rattle.lsa_differences.specs.Details.{detail_of, detail_text, external_of, external_text, type_text};
 
-use lsa_codec::{Addr, ExternalView, Lsa, NetworkView};
+use lsa_codec::{Addr, ExternalView, Lsa};
 use std::alloc::{AllocError, Allocator};
 use study_text::{push_address, push_number};
 
@@ -49,11 +49,15 @@ fn external_of(lsa: &ExternalView<'_>) -> External
     }
 }
 
-/// How many routers a network-LSA lists.
-fn member_count(lsa: &NetworkView<'_>) -> usize
+/// Where the routers that a network-LSA lists begin (RFC 2328, A.4.3).
+const MEMBERS_AT: usize = 24;
+
+/// How many routers a network-LSA lists, of 4 bytes each.
+#[tactic(auto, using(crate::proofs::Members::members))]
+fn member_count<A: Allocator + Copy>(lsa: &Lsa<A>) -> usize
     ensures { result ≡ length (attached_of lsa.now) }
 {
-    lsa.attached().count()
+    lsa.bytes().len().saturating_sub(MEMBERS_AT) / 4
 }
 
 impl Detail {
@@ -64,8 +68,8 @@ impl Detail {
         if let Some(router) = lsa.router() {
             return Detail::Links(usize::from(router.link_count()));
         }
-        if let Some(network) = lsa.network() {
-            return Detail::Members(member_count(&network));
+        if lsa.network().is_some() {
+            return Detail::Members(member_count(lsa));
         }
         if let Some(summary) = lsa.summary() {
             return Detail::Metric(summary.metric());

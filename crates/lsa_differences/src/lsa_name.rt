@@ -146,8 +146,8 @@ fn push_subject<A: Allocator + Copy>(
     }
 }
 
-/// Adds what an LSA is called, as `area 0.0.0.0 summary 10.1.0.0/24 by r3`: its area, its type, what
-/// it describes, and its Advertising Router.
+/// Adds what an LSA is called, as `area 0.0.0.0 summary 10.1.0.0/24 by r3`: its area, its type,
+/// what it describes, and its Advertising Router.
 ///
 /// # Errors
 ///
