@@ -166,8 +166,8 @@ fn routers_of<A: Allocator + Copy>(
 }
 
 impl<A: Allocator + Copy> Announcers<A> {
-    /// The routers whose live LSAs announce prefixes, where these prefixes were announced in the
-    /// baseline.
+    /// The routers whose live LSAs announce prefixes, each with a prefix. A summary-LSA counts only
+    /// for a prefix that was no network of an area in the baseline, since it may outlive that.
     ///
     /// # Errors
     ///
