@@ -91,6 +91,8 @@ REFUSED = [
     End("an endless dump", "--dump /dev/zero script", 3, "dump: L13 TooLarge at 0\n"),
     End("an endless baseline", "--dump dump --baseline /dev/stdin script", 3, "baseline: L13 TooLarge at 0\n",
         stdin=SAMPLE, is_endless=True),
+    End("a refused dump before an endless baseline", "--dump long --baseline /dev/zero script", 3,
+        "dump: L4 TrailingBytes at 99\n"),
     End("a refused dump, and nobody hears", "--dump long script", 3, stderr="full"),
     End("a refused names file, and standard error closed", "--dump dump --names script script", 3, stderr="closed"),
 ]
@@ -122,6 +124,8 @@ FILES = [
     End("no names and no study are there", "--dump dump --names none none", 4, "file: Open names\n"),
     End("all files are opened before the dump is read", "--dump FOLDER script none", 4, "file: Open study\n"),
     End("all files are read before the dump is loaded", "--dump long --names script FOLDER", 4, "file: Read\n"),
+    End("all files are read before an endless dump is refused", "--dump /dev/zero script /dev/zero", 4, "file: TooLarge\n"),
+    End("a folder is read before an endless dump is refused", "--dump /dev/zero script FOLDER", 4, "file: Read\n"),
     End("standard input closed", "--dump dump --out out", 4, "file: Read\n", stdin=None),
     End("standard input closed, and - as the second study", "--dump dump script -", 4, "file: Read\n", stdin=None),
     End("standard input closed, and nobody hears", "--dump dump", 4, stdin=None, stderr="full"),
