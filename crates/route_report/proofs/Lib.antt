@@ -2,3 +2,4 @@ pub mod Deciding
 pub mod Finding
 pub mod Grown
 pub mod SureSteps
+pub mod OnTheWay
