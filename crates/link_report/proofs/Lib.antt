@@ -1,5 +1,5 @@
 mod Pushed
-mod Rising
+mod RisingLists
 mod Numbered
 mod Takings
 mod LinkLengths

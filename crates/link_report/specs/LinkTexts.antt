@@ -41,14 +41,17 @@ net_text None = codes "none"
 net_text (Some net) = prefix_text net
 
 -- where a link leads: the prefix of a stub link, or the far end and the Link Data
-abbrev pub where_text : Called → Link → Option Net → List ℕ
-where_text called link net =
-    if is_stub link.kind then codes " " ++ net_text net
+abbrev pub where_text : Called → Link → List ℕ
+where_text called link =
+    if is_stub link.kind then codes " " ++ net_text (stub_net link)
     else codes " to " ++ far_text called link ++ codes ", " ++ address_text link.link_data.0
 
 -- the name of a link: its number, its kind, and where it leads
+abbrev pub numbered_text : Called → ℕ → Link → List ℕ
+numbered_text called number link = codes "#" ++ decimal number ++ codes " " ++ kind_text link.kind ++ where_text called link
+
 abbrev pub name_text : Called → LinkValue → List ℕ
-name_text called v = codes "#" ++ decimal v.number ++ codes " " ++ kind_text v.link.kind ++ where_text called v.link v.net
+name_text called v = numbered_text called v.number v.link
 
 -- ---- descriptions
 

@@ -71,13 +71,17 @@ impl<'a, A: Allocator + Copy> UsedArea<'a, A> {
 }
 
 /// The areas of a database, in rising order of their IDs.
-pub(crate) fn area_ids<A: Allocator + Copy>(
+///
+/// # Errors
+///
+/// Memory ran out.
+pub fn area_ids<A: Allocator + Copy>(
     alloc: A,
     database: &Database<A>,
 ) -> Result<Vec<AreaId, A>, AllocError>
     ensures { IfOk result (λ areas. areas.items ≡ area_ids (lists_of database.now)) }
 {
-    let mut areas = Vec::new(alloc);
+    let mut areas = Vec::with_capacity(alloc, database.area_count())?;
     for i in 0..database.area_count() {
         let (area, _is_stub) = database.area(i);
         areas.push(area)?;

@@ -26,9 +26,11 @@ mod network_line;
 mod network_text;
 
 pub use ages::router_lsa_of_any_age;
+pub use areas::area_ids;
 pub use link_line::{LinkLine, link_line_at, link_lines};
 pub use link_side::InterfaceStub;
-pub use link_text::{push_link, push_link_name};
+pub use link_text::{push_link, push_link_name, push_numbered};
+pub use lists::{links_of, rising};
 pub use named::link_numbers;
 pub use network_line::{NetworkLine, network_lines};
 pub use router_line::{RouterLine, router_lines};

@@ -3,7 +3,7 @@
 
 ghost use Rattle.std.specs.Prelude.{◌≡◌, ◌++◌, IfOk, OnOk, map};
 ghost use Rattle.network_names.specs.Names.{called};
-ghost use Rattle.link_report.specs.LinkTexts.{back_text, description, far_text, kind_text, name_text, net_text, owner_text, place_text, rest_text, where_text};
+ghost use Rattle.link_report.specs.LinkTexts.{back_text, description, far_text, kind_text, name_text, net_text, numbered_text, owner_text, place_text, rest_text, where_text};
 
 use crate::link_line::LinkLine;
 use crate::link_side::InterfaceStub;
@@ -95,14 +95,13 @@ fn push_where<A: Allocator + Copy>(
     text: &mut Vec<u8, A>,
     names: &Names<'_, A>,
     link: Link,
-    net: Option<Prefix>,
 ) -> Result<(), AllocError>
     ensures { OnOk result
-        (text.new.items ≡ text.old.items ++ where_text (called names.now) link net) }
+        (text.new.items ≡ text.old.items ++ where_text (called names.now) link) }
 {
     if link.kind.is_stub() {
         push_word(text, " ")?;
-        return push_net(text, net);
+        return push_net(text, link.net());
     }
     push_word(text, " to ")?;
     push_far(text, names, link)?;
@@ -110,8 +109,28 @@ fn push_where<A: Allocator + Copy>(
     push_address(text, link.link_data)
 }
 
-/// Adds the name of a link, as `#1 point-to-point to r2, 10.0.12.1`: its number, its kind, and
-/// where it leads.
+/// Adds the name of a link of a router-LSA, as `#1 point-to-point to r2, 10.0.12.1`: its number,
+/// counted from 1, its kind, and where it leads.
+///
+/// # Errors
+///
+/// Memory ran out. A part of the text may have been added.
+pub fn push_numbered<A: Allocator + Copy>(
+    text: &mut Vec<u8, A>,
+    names: &Names<'_, A>,
+    number: usize,
+    link: Link,
+) -> Result<(), AllocError>
+    ensures { OnOk result
+        (text.new.items ≡ text.old.items ++ numbered_text (called names.now) number link) }
+{
+    push_number_after(text, "#", number as u64)?;
+    push_word(text, " ")?;
+    push_kind(text, link.kind)?;
+    push_where(text, names, link)
+}
+
+/// Adds the name of a link, as [`push_numbered`] does.
 ///
 /// # Errors
 ///
@@ -124,10 +143,7 @@ pub fn push_link_name<A: Allocator + Copy, B: Allocator + Copy>(
     ensures { OnOk result
         (text.new.items ≡ text.old.items ++ name_text (called names.now) line.now) }
 {
-    push_number_after(text, "#", line.number as u64)?;
-    push_word(text, " ")?;
-    push_kind(text, line.link.kind)?;
-    push_where(text, names, line.link, line.net)
+    push_numbered(text, names, line.number, line.link)
 }
 
 impl Shown for InterfaceStub {

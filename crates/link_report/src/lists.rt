@@ -9,7 +9,11 @@ use std::alloc::{AllocError, Allocator};
 use std::collections::BTreeSet;
 
 /// The items of a list in rising order, each once.
-pub(crate) fn rising<T: Ord + Copy, A: Allocator + Copy>(
+///
+/// # Errors
+///
+/// Memory ran out.
+pub fn rising<T: Ord + Copy, A: Allocator + Copy>(
     alloc: A,
     items: &[T],
 ) -> Result<Vec<T, A>, AllocError>
@@ -23,7 +27,11 @@ pub(crate) fn rising<T: Ord + Copy, A: Allocator + Copy>(
 }
 
 /// The links of a router-LSA, in their order.
-pub(crate) fn links_of<A: Allocator + Copy>(
+///
+/// # Errors
+///
+/// Memory ran out.
+pub fn links_of<A: Allocator + Copy>(
     alloc: A,
     lsa: &RouterView<'_>,
 ) -> Result<Vec<Link, A>, AllocError>

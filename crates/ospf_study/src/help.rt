@@ -21,7 +21,7 @@ const DETAILS: &str =
 of them, and `help` lists all of them with their arguments:
   routers, links, networks          what the database has
   routes ROUTER, path ROUTER ADDR   how packets go
-  changes, lost, gone               what differs from the baseline
+  changes, differences, lost, gone  what differs from the baseline
   loops, microloops                 where packets would go round, also while routers change over
   expect CONDITION                  says what must hold
 A line may be preceded by its branch, @0 to @7. A line that begins with # is a comment. Names of a

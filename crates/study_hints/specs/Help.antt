@@ -43,6 +43,7 @@ command_meaning (See see.Networks) = codes "each transit network with its Design
 command_meaning (See see.Routes) = codes "what a router uses, by neighbor; with an address the longest match"
 command_meaning (See see.Path) = codes "the ways of a packet, router by router, and how they end"
 command_meaning (See see.Changes) = codes "what differs from the baseline, by kind of change"
+command_meaning (See see.Differences) = codes "the LSAs that differ from the baseline, by meaning"
 command_meaning (See see.Lost) = codes "routes that are gone though their prefix is still announced"
 command_meaning (See see.Gone) = codes "routes that are gone because nobody announces their prefix"
 command_meaning (See see.Loops) = codes "forwarding loops, and blackholes that the baseline does not have"

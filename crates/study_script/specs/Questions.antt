@@ -17,6 +17,7 @@ question_of names words.Networks line = alone question.Networks line
 question_of names words.Routes line = made (λ x. question.Routes x.0 x.1) (one_or_two_of (router_id names) (addr names) line)
 question_of names words.Path line = made (λ x. question.Path x.0 x.1) (two_of (router_id names) (addr names) line)
 question_of names words.Changes line = made question.Changes (optional_of (router_id names) line)
+question_of names words.Differences line = alone question.Differences line
 question_of names words.Lost line = alone question.Lost line
 question_of names words.Gone line = alone question.Gone line
 question_of names words.Loops line = alone question.Loops line

@@ -28,6 +28,8 @@ pub enum Question {
     },
     /// `changes [ROUTER]`: what differs from the baseline, for a router or for all.
     Changes(Option<RouterId>),
+    /// `differences`: the LSAs that differ from the baseline, by meaning.
+    Differences,
     /// `lost`: routes that are gone though their prefix is still announced.
     Lost,
     /// `gone`: routes that are gone because nobody announces their prefix.

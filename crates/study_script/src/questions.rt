@@ -35,6 +35,7 @@ pub(crate) fn question<'a, A: Allocator + Copy>(
             Ok(Question::Path { router, address })
         }
         SeeWord::Changes => Ok(Question::Changes(optional(names, line)?)),
+        SeeWord::Differences => alone(Question::Differences, line),
         SeeWord::Lost => alone(Question::Lost, line),
         SeeWord::Gone => alone(Question::Gone, line),
         SeeWord::Loops => alone(Question::Loops, line),

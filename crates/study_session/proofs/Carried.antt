@@ -3,8 +3,10 @@ use Rattle.std.proofs.Common.{◌≡◌, ℕ, List, Option, None, Some, Result, 
 use Rattle.branches.specs.Branches.{Sessions}
 use Rattle.study_arguments.specs.Fault.{FaultAt}
 use Rattle.study_script.specs.Line.{Asked}
-use Rattle.study_session.specs.Answers.{AnswerValue, Study}
-use Rattle.study_session.specs.Lines.{IsAnswerBy, IsAnswerIn, fault_answer, sessions_by, sessions_in}
+use Rattle.study_answers.specs.Answers.{AnswerValue}
+use Rattle.study_session.specs.Studies.{Study}
+use Rattle.study_session.specs.Lines.{IsAnswerBy, IsAnswerIn, sessions_by, sessions_in}
+use Rattle.study_answers.specs.Answers.{fault_answer}
 
 module _ (s : Study) (meant : Result (Option (ℕ × Asked)) FaultAt) where
   -- nothing is asked for

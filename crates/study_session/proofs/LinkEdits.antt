@@ -10,7 +10,7 @@ use Rattle.link_report.specs.Links.{link_at}
 use Rattle.branches.specs.Branches.{Sessions, stepped}
 use Rattle.branches.specs.Replies.{reply_to}
 use Rattle.study_session.specs.declared.link_edit.LinkEdit.{LinkEdit}
-use Rattle.study_session.specs.Answers.{refused_answer}
+use Rattle.study_answers.specs.Answers.{refused_answer}
 use Rattle.study_session.specs.PlanAnswers.{changed_answer}
 use Rattle.study_session.specs.NamedCommands.{change_text, link_answer, link_edit, link_stepped, many_links, named_number}
 
@@ -31,6 +31,7 @@ module _ (area : AreaId) (router : RouterId) (name : LinkName) (edit : LinkEdit)
         → change ≡ change_text edit called (link_at (state planner) area router number)
         → changed_answer branch text (reply_to (now branch) command)
         ≡ link_answer called (all branch) branch area router edit (named_number (all branch) area router name)
+    unfolding link_answer
     found_answer called change text are says =
         ap (λ (t : List ℕ). changed_answer branch t (reply_to (now branch) command))
         (are ∙ subst (λ (s : Session). change ≡ change_text edit called (link_at (state s) area router number)) session_is says)
@@ -40,6 +41,7 @@ module _ (area : AreaId) (router : RouterId) (name : LinkName) (edit : LinkEdit)
         ∙ ap (link_answer called (all branch) branch area router edit) (number_is (Some number) is_number)
 
     pub found_stepped : stepped branch command now ≡ link_stepped branch area router edit (named_number (all branch) area router name) all
+    unfolding link_stepped
     found_stepped =
         ap (stepped branch command) kept ∙ ap (λ (c : Command). stepped branch c all) is_edit
         ∙ ap (λ (n : Option ℕ). link_stepped branch area router edit n all) (number_is (Some number) is_number)
@@ -48,9 +50,11 @@ module _ (area : AreaId) (router : RouterId) (name : LinkName) (edit : LinkEdit)
   module _ (are_several : None ≡ named_number planner area router name) where
     pub several_answer : (called : Called)
         → refused_answer branch many_links ≡ link_answer called (all branch) branch area router edit (named_number (all branch) area router name)
+    unfolding link_answer
     several_answer called = ap (link_answer called (all branch) branch area router edit) (number_is None are_several)
 
     pub several_stepped : now ≡ link_stepped branch area router edit (named_number (all branch) area router name) all
+    unfolding link_stepped
     several_stepped = kept ∙ ap (λ (n : Option ℕ). link_stepped branch area router edit n all) (number_is None are_several)
 
 -- what holds anyway holds of a success

@@ -20,7 +20,7 @@ use Rattle.link_report.specs.AnyAge.{router_lsa_of_any_age}
 use Rattle.link_report.specs.NamedLinks.{link_numbers}
 use Rattle.study_session.specs.declared.link_edit.LinkEdit.{LinkEdit}
 use Rattle.study_session.specs.declared.link_edit.LinkEdit.TheVariants as link
-use Rattle.study_session.specs.Answers.{AnswerValue, refused_answer}
+use Rattle.study_answers.specs.Answers.{AnswerValue, refused_answer}
 use Rattle.study_session.specs.PlanAnswers.{changed_answer, plan_answer}
 
 -- ---- which link is named
@@ -36,11 +36,11 @@ one_of (number ∷ []) = Some number
 one_of (number ∷ next ∷ numbers) = None
 
 -- the number of the link that a word names, if it does not name several. Where no edit may be done any more, none is looked up
-abbrev pub number_found : Session → AreaId → RouterId → LinkName → Option ℕ
+unfoldable pub number_found : Session → AreaId → RouterId → LinkName → Option ℕ
 number_found s area router name = if nat_lt (length s.done) most_edits then one_of (numbers_in s area router name) else Some 0
 
 -- the same of a link that is named by its number, or by a word
-abbrev pub named_number : Session → AreaId → RouterId → LinkName → Option ℕ
+unfoldable pub named_number : Session → AreaId → RouterId → LinkName → Option ℕ
 named_number s area router (Number number) = Some number
 named_number s area router (Address address) = number_found s area router (Address address)
 named_number s area router (Prefix net) = number_found s area router (Prefix net)
@@ -53,13 +53,13 @@ link_edit (link.Cost metric) area router number = command.Edit (edit.Cost area r
 link_edit link.Drop area router number = command.Edit (edit.DropLink area router number)
 
 -- what is said of the link: ` NAME: OLD -> NEW`, or ` gone DESCRIPTION`
-abbrev pub edited_text : LinkEdit → Called → LinkValue → List ℕ
+unfoldable pub edited_text : LinkEdit → Called → LinkValue → List ℕ
 edited_text (link.Cost metric) called v =
     codes " " ++ name_text called v ++ codes ": " ++ decimal v.link.metric ++ codes " -> " ++ decimal metric
 edited_text link.Drop called v = codes " gone " ++ description called v
 
 -- if there is such a link
-abbrev pub change_text : LinkEdit → Called → Option LinkValue → List ℕ
+unfoldable pub change_text : LinkEdit → Called → Option LinkValue → List ℕ
 change_text edit called v = option_map_or (edited_text edit called) v []
 
 abbrev pub many_links : List ℕ × List ℕ
@@ -67,13 +67,13 @@ many_links = (codes "E14", codes "ManyLinks")
 
 module _ (called : Called) (s : Session) (branch : ℕ) where
   -- the answer to an edit of the link with a number, if not several are named
-  abbrev pub link_answer : AreaId → RouterId → LinkEdit → Option ℕ → AnswerValue
+  unfoldable pub link_answer : AreaId → RouterId → LinkEdit → Option ℕ → AnswerValue
   link_answer area router edit None = refused_answer branch many_links
   link_answer area router edit (Some number) =
       changed_answer branch (change_text edit called (link_at (state s) area router number)) (reply_to s (link_edit edit area router number))
 
   -- the answer to a command with names
-  abbrev pub named_answer : NamedCommand → AnswerValue
+  unfoldable pub named_answer : NamedCommand → AnswerValue
   named_answer (named_command.Command c) = plan_answer branch (reply_to s c)
   named_answer (named_command.Cost area router name metric) = link_answer area router (link.Cost metric) (named_number s area router name)
   named_answer (named_command.DropLink area router name) = link_answer area router link.Drop (named_number s area router name)
@@ -81,12 +81,12 @@ module _ (called : Called) (s : Session) (branch : ℕ) where
 -- ---- sessions
 
 -- the sessions after an edit of a link; where several links are named, it is not carried out
-abbrev pub link_stepped : ℕ → AreaId → RouterId → LinkEdit → Option ℕ → Sessions → Sessions
+unfoldable pub link_stepped : ℕ → AreaId → RouterId → LinkEdit → Option ℕ → Sessions → Sessions
 link_stepped branch area router edit None all = all
 link_stepped branch area router edit (Some number) all = stepped branch (link_edit edit area router number) all
 
 -- the sessions after a command with names
-abbrev pub named_stepped : ℕ → NamedCommand → Sessions → Sessions
+unfoldable pub named_stepped : ℕ → NamedCommand → Sessions → Sessions
 named_stepped branch (named_command.Command c) all = stepped branch c all
 named_stepped branch (named_command.Cost area router name metric) all =
     link_stepped branch area router (link.Cost metric) (named_number (all branch) area router name) all

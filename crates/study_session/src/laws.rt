@@ -5,7 +5,8 @@ ghost use Rattle.edit_script.specs.declared.command.Command.{Command as AnyComma
 ghost use Rattle.edit_script.specs.Line.{meaning as plan_meaning};
 ghost use Rattle.branches.specs.Branches.{stepped};
 ghost use Rattle.branches.specs.Replies.{reply_text, reply_to};
-ghost use Rattle.study_session.specs.Answers.{AnswerValue, Study};
+ghost use Rattle.study_answers.specs.Answers.{AnswerValue};
+ghost use Rattle.study_session.specs.Studies.{Study};
 ghost use Rattle.study_session.specs.Lines.{IsAnswerTo, after_line};
 
 use study_script::plan_lines_mean_the_same;

@@ -5,35 +5,10 @@
 //! same sessions.
 #![tactic(auto)]
 
-// What a line is answered.
-mod answer;
-mod text;
-
-// Pairs that questions and expectations are about.
-mod missing;
-
 // Commands.
 mod link_edit;
 mod named;
 mod plan;
-
-// Questions.
-mod changes;
-mod help;
-mod known;
-mod links;
-mod listing;
-mod log;
-mod loops;
-mod questions;
-mod routes;
-
-// Expectations.
-mod change_conditions;
-mod conditions;
-mod expectations;
-mod loop_conditions;
-mod verdict;
 
 // Lines, one after another.
 mod session;
@@ -41,6 +16,5 @@ mod session;
 // What holds of the definitions.
 mod laws;
 
-pub use answer::{Answer, Outcome};
 pub use laws::plan_lines_are_answered_alike;
 pub use session::StudySession;

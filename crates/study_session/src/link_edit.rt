@@ -37,6 +37,7 @@ impl LinkEdit {
     }
 
     /// Adds what is said of the link.
+    #[tactic(auto, unfolding(crate::specs::NamedCommands::edited_text))]
     fn push_to<A: Allocator + Copy>(
         self,
         text: &mut Vec<u8, A>,
@@ -64,6 +65,7 @@ impl LinkEdit {
 }
 
 /// What is said of the link that is edited, if there is one.
+#[tactic(auto, unfolding(crate::specs::NamedCommands::change_text))]
 pub(crate) fn change_text<A: Allocator + Copy>(
     alloc: A,
     names: &Names<'_, A>,

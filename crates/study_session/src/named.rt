@@ -7,7 +7,6 @@ ghost use Rattle.network_names.specs.Names.{called};
 ghost use Rattle.branches.specs.Branches.{sessions_of};
 ghost use Rattle.study_session.specs.NamedCommands.{change_text, link_answer, link_stepped, named_answer, named_number, named_stepped, number_found, one_of};
 
-use crate::answer::Answer;
 use crate::link_edit::{LinkEdit, change_text};
 use crate::plan::{changing, plan};
 use branches::Branches;
@@ -16,6 +15,7 @@ use lsa_codec::{AreaId, RouterId};
 use network_names::Names;
 use recalculate::Planner;
 use std::alloc::{AllocError, Allocator};
+use study_answers::Answer;
 use study_arguments::LinkName;
 use study_script::NamedCommand;
 
@@ -35,6 +35,7 @@ fn one_of(numbers: &[u16]) -> Option<u16>
 
 /// The number of the link that a word names, 0 where there is none, and `None` where there are
 /// several. Where no edit may be done any more, none is looked up.
+#[tactic(auto, unfolding(crate::specs::NamedCommands::number_found))]
 fn number_found<A: Allocator + Copy>(
     alloc: A,
     planner: &Planner<A>,
@@ -56,6 +57,7 @@ fn number_found<A: Allocator + Copy>(
 }
 
 /// The number of the link that is named, 0 where there is none, and `None` where there are several.
+#[tactic(auto, unfolding(crate::specs::NamedCommands::named_number))]
 fn named_number<A: Allocator + Copy>(
     alloc: A,
     planner: &Planner<A>,
@@ -128,6 +130,7 @@ fn edit_link<A: Allocator + Copy>(
 }
 
 /// Carries out a command of `ospf-plan` in whose line names stand.
+#[tactic(auto, unfolding(crate::specs::NamedCommands::named_answer, crate::specs::NamedCommands::named_stepped))]
 pub(crate) fn named<A: Allocator + Copy>(
     alloc: A,
     branches: &mut Branches<A>,

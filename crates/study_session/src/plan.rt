@@ -5,14 +5,14 @@ ghost use Rattle.branches.specs.Branches.{sessions_of, stepped};
 ghost use Rattle.branches.specs.Replies.{reply_to, said_by};
 ghost use Rattle.study_session.specs.PlanAnswers.{changed_answer, plan_answer};
 
-use crate::answer::Answer;
-use crate::text::push_mark;
 use branches::{Branches, Reply, reply_text};
 use edit_script::Command;
 use std::alloc::{AllocError, Allocator};
+use study_answers::{Answer, push_mark};
 use study_text::push_word;
 
 /// The answer to a command of `ospf-plan`, by its reply.
+#[tactic(auto, unfolding(crate::specs::PlanAnswers::plan_answer))]
 fn plan_answer<A: Allocator + Copy>(
     alloc: A,
     branch: u8,
@@ -46,6 +46,7 @@ pub(crate) fn plan<A: Allocator + Copy>(
 }
 
 /// The answer to an edit that says what it changed, by its reply.
+#[tactic(auto, unfolding(crate::specs::PlanAnswers::changed_answer))]
 fn changed_answer<A: Allocator + Copy>(
     alloc: A,
     branch: u8,

@@ -4,19 +4,19 @@ ghost use Rattle.std.specs.Prelude.{◌≡◌, ◌<◌, IfOk, OnOk};
 ghost use Rattle.lsdb.specs.Text.{text};
 ghost use Rattle.branches.specs.Branches.{sessions_of};
 ghost use Rattle.study_script.specs.Line.{asked};
-ghost use Rattle.study_session.specs.Answers.{database_in, study_by, study_of};
+ghost use Rattle.study_session.specs.Studies.{database_in, study_by, study_of};
 ghost use Rattle.study_session.specs.Lines.{IsAnswerIn, IsAnswerTo, after_line, sessions_in};
 
-use crate::answer::Answer;
-use crate::expectations::expectation;
 use crate::named::named;
 use crate::plan::plan;
-use crate::questions::question;
 use branches::Branches;
 use lsdb::Database;
 use network_names::Names;
 use std::alloc::{AllocError, Allocator, Global};
+use study_answers::Answer;
 use study_arguments::ParseError;
+use study_expectations::expectation;
+use study_questions::question;
 use study_script::{StudyCommand, parse};
 
 /// The branches of a study, the database that they are compared with, and the names of routers and
@@ -54,6 +54,7 @@ fn carry_out<A: Allocator + Copy>(
 
 impl<'n, A: Allocator + Copy> StudySession<'n, A> {
     /// A study of these branches, which are compared with a baseline. It takes no memory.
+    #[tactic(auto, unfolding(crate::specs::Studies::study_of))]
     pub fn new(
         branches: Branches<A>,
         baseline: Database<A>,
@@ -98,6 +99,7 @@ impl<'n, A: Allocator + Copy> StudySession<'n, A> {
     /// # Errors
     ///
     /// Memory ran out.
+    #[tactic(auto, unfolding(crate::specs::Studies::study_of))]
     pub fn dump(&mut self, branch: u8) -> Result<Vec<u8, A>, AllocError>
         requires { branch < 8 }
         ensures dump { IfOk result

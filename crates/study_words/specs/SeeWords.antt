@@ -11,7 +11,7 @@ see_text w = written (see w)
 
 abbrev pub see_words : List SeeWord
 see_words =
-    of.Routers ∷ of.Links ∷ of.Networks ∷ of.Routes ∷ of.Path ∷ of.Changes ∷ of.Lost
+    of.Routers ∷ of.Links ∷ of.Networks ∷ of.Routes ∷ of.Path ∷ of.Changes ∷ of.Differences ∷ of.Lost
     ∷ of.Gone ∷ of.Loops ∷ of.Microloops ∷ of.Log ∷ of.Help ∷ []
 
 -- the one that a word is, if it is one

@@ -19,6 +19,8 @@ pub enum SeeWord {
     Path,
     /// `changes [ROUTER]`: what differs from the baseline, by kind of change.
     Changes,
+    /// `differences`: the LSAs that differ from the baseline, by meaning.
+    Differences,
     /// `lost`: routes that are gone though their prefix is still announced.
     Lost,
     /// `gone`: routes that are gone because nobody announces their prefix.
@@ -43,6 +45,7 @@ macro_rules! see_words {
             Routes "routes"
             Path "path"
             Changes "changes"
+            Differences "differences"
             Lost "lost"
             Gone "gone"
             Loops "loops"

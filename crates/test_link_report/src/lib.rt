@@ -1,5 +1,5 @@
-//! Tests of what is said of routers, links and networks, over small networks that are worked out by
-//! hand.
+//! Tests of what is said of routers, links and networks, and of how databases differ, over small
+//! networks that are worked out by hand.
 #![tactic(auto)]
 
 #[cfg(test)]

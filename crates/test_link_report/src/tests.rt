@@ -2,5 +2,6 @@
 
 // What the tests share.
 mod built;
+mod differences;
 mod lines;
 mod links;

@@ -8,7 +8,7 @@ use Rattle.branches.specs.Branches.{Sessions, resumed}
 use Rattle.network_names.specs.File.{Taken, names_in}
 use Rattle.network_names.specs.declared.names.Names.{Names as NamesOfFile}
 use Rattle.saved_sessions.specs.Opening.{opened}
-use Rattle.study_session.specs.Answers.{Study, study_by}
+use Rattle.study_session.specs.Studies.{Study, study_by}
 use Rattle.whole_run.specs.Inputs.{IsAccepted}
 use Rattle.whole_study.specs.Begin.{AreAccepted, Begins, IsBaseline, names_of}
 use Rattle.whole_study.specs.Calls.{MayEndRun}

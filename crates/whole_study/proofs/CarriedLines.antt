@@ -8,7 +8,7 @@ use Rattle.std.proofs.lemmas.Grind.{flat_map-append}
 use Rattle.std.proofs.lemmas.List.Folds.{list_all-append}
 use Rattle.host_io.specs.WholeText.{AppendsPrefix}
 use Rattle.host_io.proofs.PrefixLemmas.{AppendsPrefix-after, starts_with_front}
-use Rattle.study_session.specs.Answers.{Study}
+use Rattle.study_session.specs.Studies.{Study}
 use Rattle.study_session.specs.Lines.{IsAnswerTo, after_line}
 use Rattle.whole_study.specs.Lines.{Line}
 use Rattle.whole_study.specs.Run.{Answered, AreAnswered, StopsAtLast, answered_line, error_line, errors_of, goes_on, is_accepted, replies_of, study_after, summary_of}

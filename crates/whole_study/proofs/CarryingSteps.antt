@@ -4,7 +4,8 @@ use Rattle.std.specs.Prelude.{◌||◌, All}
 use Rattle.std.proofs.Math.Seq.{drop-cons}
 use Rattle.std.specs.Io.KnownBytes.{Appends}
 use Rattle.host_io.specs.WholeText.{AppendsPrefix}
-use Rattle.study_session.specs.Answers.{AnswerValue, Study}
+use Rattle.study_answers.specs.Answers.{AnswerValue}
+use Rattle.study_session.specs.Studies.{Study}
 use Rattle.study_session.specs.Lines.{IsAnswerTo, after_line}
 use Rattle.whole_study.specs.Lines.{Line, study_lines}
 use Rattle.whole_study.specs.Run.{Answered, AreAnswered, error_line, is_accepted, study_after, summary_of, was_accepted}

@@ -10,9 +10,9 @@ use Rattle.std.proofs.lemmas.List.{length-map}
 use Rattle.std.proofs.lemmas.List.Sums.{sum_by-cons}
 use Rattle.std.proofs.lemmas.List.Folds.{list_all-append}
 use Rattle.host_io.specs.WholeText.{AppendsPrefix}
-use Rattle.study_session.specs.declared.answer.Outcome.{Outcome}
-use Rattle.study_session.specs.declared.answer.Outcome.TheVariants.{Accepted, Refused, Failed}
-use Rattle.study_session.specs.Answers.{Study}
+use Rattle.study_answers.specs.declared.answer.Outcome.{Outcome}
+use Rattle.study_answers.specs.declared.answer.Outcome.TheVariants.{Accepted, Refused, Failed}
+use Rattle.study_session.specs.Studies.{Study}
 use Rattle.whole_study.specs.Begin.{AreAccepted, Begins}
 use Rattle.whole_study.specs.Calls.{Ends, FitsInputs, HasLonger, IsBeforeReplies, IsTooMuch, MayEndRun, WritesPrefix, most, of_all}
 use Rattle.whole_study.specs.Given.{Given}

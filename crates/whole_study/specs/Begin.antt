@@ -6,7 +6,7 @@ use Rattle.saved_sessions.specs.Opening.{opened}
 use Rattle.branches.specs.Branches.{resumed}
 use Rattle.network_names.specs.File.{names_in}
 use Rattle.network_names.specs.Names.{Named, address_in, name_in}
-use Rattle.study_session.specs.Answers.{Study}
+use Rattle.study_session.specs.Studies.{Study}
 use Rattle.whole_run.specs.Inputs.{IsAccepted}
 use Rattle.whole_study.specs.Given.{Given}
 

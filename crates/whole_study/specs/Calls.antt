@@ -5,7 +5,7 @@ use Rattle.std.specs.Io.KnownBytes.{Appends}
 use Rattle.host_io.specs.WholeText.{AppendsPrefix}
 use Rattle.lsdb.specs.declared.fault.DumpFaultKind.TheVariants as kind
 use Rattle.network_names.specs.File.{names_in}
-use Rattle.study_session.specs.Answers.{Study}
+use Rattle.study_session.specs.Studies.{Study}
 use Rattle.whole_run.specs.Inputs.{IsAccepted, IsRefusedDump}
 use Rattle.whole_study.specs.Begin.{AreAccepted, names_of}
 use Rattle.whole_study.specs.Given.{Given, NamedText}

@@ -2,9 +2,10 @@
 use Rattle.std.specs.Prelude.{◌≡◌, ◌⊎◌, ℕ, ◌==◌, ◌&&◌, ◌||◌, Bool, true, false, if◌then◌else◌, List, [], ◌∷◌, ◌++◌, length, count_by, Option, None, Some, codes, decimal}
 use Rattle.std.specs.List.{flat_map, list_all}
 use Rattle.lsdb.specs.Text.{text}
-use Rattle.study_session.specs.declared.answer.Outcome.{Outcome}
-use Rattle.study_session.specs.declared.answer.Outcome.TheVariants.{Accepted, Refused, Failed}
-use Rattle.study_session.specs.Answers.{AnswerValue, Study, database_in}
+use Rattle.study_answers.specs.declared.answer.Outcome.{Outcome}
+use Rattle.study_answers.specs.declared.answer.Outcome.TheVariants.{Accepted, Refused, Failed}
+use Rattle.study_answers.specs.Answers.{AnswerValue}
+use Rattle.study_session.specs.Studies.{Study, database_in}
 use Rattle.study_session.specs.Lines.{IsAnswerTo, after_line}
 use Rattle.whole_study.specs.Lines.{Line, place_text}
 use Rattle.whole_study.specs.declared.summary.Summary.{Summary}

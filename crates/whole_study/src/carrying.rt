@@ -2,7 +2,7 @@
 
 ghost use Rattle.std.specs.Prelude.{◌≡◌, ◌+◌, ◌*◌, ◌≤◌, ◌∷◌, ◌||◌, ◌↔◌, [], All, IfErr, IfOk, OnOk, false, length, map, true};
 ghost use Rattle.host_io.specs.Watched.{has_failed, is_flushed};
-ghost use Rattle.study_session.specs.Answers.{study_of};
+ghost use Rattle.study_session.specs.Studies.{study_of};
 ghost use Rattle.whole_study.specs.Calls.{most};
 ghost use Rattle.whole_study.specs.Lines.{study_lines};
 ghost use Rattle.whole_study.specs.Run.{summary_of, was_accepted};
@@ -18,7 +18,8 @@ use crate::output::{Line, Output, was_accepted, write_answer};
 use crate::summary::Summary;
 use std::alloc::Allocator;
 use std::io::Write;
-use study_session::{Answer, StudySession};
+use study_answers::Answer;
+use study_session::StudySession;
 use text_words::cut_at;
 
 /// Whether a run goes on after an answer.

@@ -5,7 +5,7 @@ ghost use Rattle.lsdb.specs.Slots.{lists_of};
 ghost use Rattle.edit_history.specs.Session.{Session, state};
 ghost use Rattle.saved_sessions.specs.Opening.{opened};
 ghost use Rattle.network_names.specs.File.{Taken, names_in};
-ghost use Rattle.study_session.specs.Answers.{study_of};
+ghost use Rattle.study_session.specs.Studies.{study_of};
 ghost use Rattle.whole_run.specs.Inputs.{IsRefusedDump};
 ghost use Rattle.whole_study.specs.Begin.{Begins, IsBaseline};
 ghost use Rattle.whole_study.specs.Calls.{MayEndRun};

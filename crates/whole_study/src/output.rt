@@ -15,7 +15,7 @@ use crate::summary::{Summary, summary_line};
 use host_io::{Watched, WriteFault, write_and_flush, write_whole};
 use std::alloc::{AllocError, Allocator};
 use std::io::Write;
-use study_session::{Answer, Outcome};
+use study_answers::{Answer, Outcome};
 use study_text::push_number;
 
 /// The writers of a run.

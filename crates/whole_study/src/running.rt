@@ -2,7 +2,7 @@
 
 ghost use Rattle.std.specs.Prelude.{◌≡◌, ◌&&◌, ◌||◌, ◌⊎◌, ◌↔◌, ◌≤◌, All, IfErr, IfOk, None, OnOk, Some, false, if◌then◌else◌, length, true};
 ghost use Rattle.host_io.specs.Watched.{inner_of, has_failed, is_flushed};
-ghost use Rattle.study_session.specs.Answers.{Study, study_of};
+ghost use Rattle.study_session.specs.Studies.{Study, study_of};
 ghost use Rattle.whole_study.specs.Begin.{Begins};
 ghost use Rattle.whole_study.specs.Calls.{Ends, FitsInputs, IsBeforeReplies, WritesPrefix, most};
 ghost use Rattle.whole_study.specs.Given.{Given};

@@ -6,7 +6,7 @@ ghost use Rattle.whole_study.specs.Run.{Answered, counts_text, has_passed, resul
 ghost use Rattle.whole_study.specs.steps.Counting.{Grows, HasRoom};
 
 use std::alloc::{AllocError, Allocator};
-use study_session::{Answer, Outcome};
+use study_answers::{Answer, Outcome};
 use study_text::push_number;
 
 /// How many lines had an answer, and what became of them.

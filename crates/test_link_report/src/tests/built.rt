@@ -6,6 +6,7 @@ use link_report::{
     router_lsa_of_any_age,
 };
 use lsa_codec::{AreaId, RouterId};
+use lsa_differences::difference_lines;
 use lsdb::Database;
 use network_names::{Names, read_names};
 use routing_table::routers;
@@ -59,6 +60,15 @@ pub(super) fn links_text(alloc: Global, text: &str) -> Result<String, Fail> {
 pub(super) fn networks_text(alloc: Global, text: &str) -> Result<String, Fail> {
     let mut reply = Vec::new(alloc);
     let lines = network_lines(alloc, &database(alloc, text)?)?;
+    push_lines(&mut reply, &names(alloc)?, &lines)?;
+    text_of(reply)
+}
+
+/// The lines of what differs between two databases.
+pub(super) fn differences_text(alloc: Global, baseline: &str, now: &str) -> Result<String, Fail> {
+    let mut reply = Vec::new(alloc);
+    let (baseline, now) = (database(alloc, baseline)?, database(alloc, now)?);
+    let lines = difference_lines(alloc, &baseline, &now)?;
     push_lines(&mut reply, &names(alloc)?, &lines)?;
     text_of(reply)
 }

@@ -98,6 +98,7 @@ const QUESTIONS: &[(&str, &str)] = &[
     ),
     ("changes", "0 See(Changes(None))"),
     ("changes r1", "0 See(Changes(Some(RouterId(16843009))))"),
+    ("differences", "0 See(Differences)"),
     ("lost", "0 See(Lost)"),
     ("gone", "0 See(Gone)"),
     ("loops", "0 See(Loops)"),

@@ -37,7 +37,6 @@ const LINES: &[(&str, &str)] = &[
     ("microloops 1x", "S5 BadNumber 1x"),
     ("audit", "S2 UnknownWord audit"),
     ("explain r1 10.7.0.0/16", "S2 UnknownWord explain"),
-    ("differences", "S2 UnknownWord differences"),
     ("help r1", "S9 BadWord r1"),
     ("log all", "S4 ExtraWord all"),
 ];

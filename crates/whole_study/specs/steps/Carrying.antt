@@ -3,7 +3,7 @@ use Rattle.std.specs.Prelude.{◌≡◌, ℕ, Bool, true, false, List, [], ◌++
 use Rattle.std.specs.Io.KnownBytes.{Appends}
 use Rattle.host_io.specs.Watched.{inner_of}
 use Rattle.host_io.specs.WholeText.{AppendsPrefix}
-use Rattle.study_session.specs.Answers.{Study}
+use Rattle.study_session.specs.Studies.{Study}
 use Rattle.whole_study.specs.Lines.{Line}
 use Rattle.whole_study.specs.Run.{Answered, AreAnswered, GivesFirst, StopsAtLast, errors_of, goes_on, replies_of, study_after, summary_of}
 use Rattle.whole_study.specs.declared.output.Line.{Line as PlacedLine}

@@ -1,11 +1,12 @@
 use Rattle.std.proofs.Common.{Some, ap, subst, ◌∙◌}
 use Rattle.branches.specs.Replies.{reply_to}
-use Rattle.study_session.specs.Answers.{AnswerValue}
-use Rattle.study_session.specs.Lines.{IsAnswerBy, sessions_by}
+use Rattle.study_answers.specs.Answers.{AnswerValue}
+use Rattle.study_session.specs.Lines.{IsAnswerBy, IsAnswerIn, IsAnswerTo, after_line, sessions_by, sessions_in}
 use Rattle.study_session.proofs.PlanText.{plan_text}
 use Rattle.study_session.proofs.laws.plan_lines_are_answered_alike.Goals as goal
 
 pub returns : goal.returns
+unfolding IsAnswerTo IsAnswerIn after_line sessions_in
 returns c = record {
   text = λ s line branch command answer is_plan is_answer.
       ap (λ (a : AnswerValue). a.text)

@@ -1,7 +1,7 @@
 use Rattle.std.proofs.Common.{◌≡◌, IfOk, OnOk, subst}
 use Rattle.network_names.specs.Names.{called}
 use Rattle.branches.specs.Branches.{Sessions, sessions_of}
-use Rattle.study_session.specs.Answers.{AnswerValue}
+use Rattle.study_answers.specs.Answers.{AnswerValue}
 use Rattle.study_session.proofs.LinkEdits.{found_answer, found_stepped, if_ok, several_answer, several_stepped}
 use Rattle.study_session.proofs.named.edit_link.Goals as goal
 

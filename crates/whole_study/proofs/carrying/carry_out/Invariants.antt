@@ -1,5 +1,5 @@
 use Rattle.std.proofs.Common.{◌≡◌, ◌*◌, ◌≤◌, false, drop}
-use Rattle.study_session.specs.Answers.{study_of}
+use Rattle.study_session.specs.Studies.{study_of}
 use Rattle.whole_study.specs.Streams.{has_writer_failed}
 use Rattle.whole_study.specs.steps.Carrying.{written}
 use Rattle.whole_study.specs.steps.Counting.{AreCounts}

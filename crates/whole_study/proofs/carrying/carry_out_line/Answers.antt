@@ -1,5 +1,5 @@
 use Rattle.std.proofs.Common.{[], ◌∷◌}
-use Rattle.study_session.specs.Answers.{study_of}
+use Rattle.study_session.specs.Studies.{study_of}
 use Rattle.whole_study.specs.steps.Carrying.{line_at}
 use Rattle.whole_study.proofs.CarriedLines.{no_answer, part_none}
 use Rattle.whole_study.proofs.CarryingSteps.{one_answer, one_part}

@@ -1,7 +1,7 @@
 use Rattle.std.proofs.Common.{◌+◌, ◌==◌, [], ℕ, List, ap, arith, length, rules}
 use Rattle.std.proofs.lemmas.Result.{IfOk-weaker}
 use Rattle.std.specs.List.{slice_split}
-use Rattle.study_session.specs.Answers.{study_of}
+use Rattle.study_session.specs.Studies.{study_of}
 use Rattle.whole_study.specs.Lines.{numbered, study_lines}
 use Rattle.whole_study.specs.steps.Texts.{named_text}
 use Rattle.whole_study.proofs.CarryingSteps.{course_last, course_more, course_none, course_part, course_stop}

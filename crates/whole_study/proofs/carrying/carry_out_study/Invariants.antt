@@ -1,6 +1,6 @@
 use Rattle.std.proofs.Common.{◌≡◌, ◌+◌, ◌≤◌, ◌==◌, false, length}
 use Rattle.std.specs.List.{slice_split}
-use Rattle.study_session.specs.Answers.{study_of}
+use Rattle.study_session.specs.Studies.{study_of}
 use Rattle.whole_study.specs.Lines.{numbered, study_lines}
 use Rattle.whole_study.specs.Streams.{has_writer_failed}
 use Rattle.whole_study.specs.steps.Carrying.{written}

@@ -1,5 +1,5 @@
 use Rattle.std.proofs.Common.{◌≡◌, ap}
-use Rattle.study_session.specs.Answers.{study_of}
+use Rattle.study_session.specs.Studies.{study_of}
 use Rattle.whole_study.specs.steps.Texts.{given_in, lines_in}
 use Rattle.whole_study.proofs.RunEnds.{ended_for, inputs_for, prefix_for, untouched_after}
 use Rattle.whole_study.proofs.running.run.Goals as goal

@@ -1,0 +1,5 @@
+pub mod MemberCounts
+pub mod FirstLinks
+pub mod Numbers
+pub mod ByType
+pub mod SameLsaLemmas

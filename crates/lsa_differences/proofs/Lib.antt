@@ -1,0 +1,3 @@
+pub mod LiveParts
+pub mod LiveLsas
+pub mod NoDifferences

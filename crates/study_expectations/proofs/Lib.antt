@@ -1,0 +1,3 @@
+pub mod FoundIn
+pub mod Microloops
+pub mod RouteConditions

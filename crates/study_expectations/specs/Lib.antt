@@ -1,0 +1,6 @@
+pub mod Verdicts
+pub mod RouteVerdicts
+pub mod LoopVerdicts
+pub mod ChangeVerdicts
+pub mod Expectations
+pub mod steps

@@ -1,0 +1,46 @@
+//! What is found of a condition.
+
+ghost use Rattle.std.specs.Prelude.{◌≡◌, IfOk};
+ghost use Rattle.study_expectations.specs.Verdicts.{verdict_answer};
+ghost use Rattle.study_expectations.specs.steps.Verdicts.{verdict_of};
+
+use std::alloc::{AllocError, Allocator};
+use study_answers::{Answer, no_router};
+
+/// What is found of a condition.
+#[derive(Drop)]
+pub(crate) enum Verdict<A: Allocator> {
+    /// Nothing: it names a router that is not there.
+    NoRouter,
+    /// Nothing: fewer edits are done than it names.
+    TooFewDone,
+    /// Whether it holds, and what was found.
+    Found {
+        /// Whether the condition holds.
+        holds: bool,
+        /// The text of what was found.
+        text: Vec<u8, A>,
+    },
+}
+
+impl<A: Allocator + Copy> Verdict<A> {
+    /// The answer to an expectation with the condition, which must hold, or, where it is turned
+    /// around, must not.
+    #[tactic(auto, unfolding(crate::specs::Verdicts::verdict_answer))]
+    pub(crate) fn answer(&self, alloc: A, branch: u8, is_not: bool) -> Result<Answer<A>, AllocError>
+        ensures { IfOk result
+            (λ answer. answer ≡ verdict_answer branch is_not (verdict_of self.now)) }
+    {
+        match self {
+            Verdict::NoRouter => no_router(alloc, branch),
+            Verdict::TooFewDone => Answer::refused(alloc, branch, "U1", "NothingToUndo"),
+            Verdict::Found { holds, text } => {
+                if *holds == is_not {
+                    Answer::failed(alloc, branch, text.as_slice())
+                } else {
+                    Answer::held(alloc, branch)
+                }
+            }
+        }
+    }
+}

@@ -1,0 +1,9 @@
+pub mod Texts
+pub mod Listings
+pub mod LinkAnswers
+pub mod RouteAnswers
+pub mod ChangeAnswers
+pub mod LoopAnswers
+pub mod OwnAnswers
+pub mod Questions
+pub mod steps

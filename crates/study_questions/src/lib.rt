@@ -1,0 +1,23 @@
+//! What questions of a study are answered.
+#![tactic(auto)]
+
+// Replies that list lines.
+mod listing;
+mod text;
+
+// Routers, links, networks and routes.
+mod links;
+mod routes;
+
+// What differs from the baseline, and what loops.
+mod changes;
+mod loops;
+
+// Edits and the language.
+mod help;
+mod log;
+
+// Each question.
+mod questions;
+
+pub use questions::question;
