@@ -1,0 +1,9 @@
+pub mod Rules
+pub mod Drafts
+pub mod InOrder
+pub mod Views
+pub mod Within
+pub mod Between
+pub mod Outside
+pub mod Candidates
+pub mod Targets
