@@ -1,6 +1,6 @@
-mod Pushed
-mod RisingLists
-mod Numbered
+pub mod PushedLemmas
+mod Rising
+pub mod NumberedLemmas
 mod Takings
 mod LinkLengths
 mod AreaIds

@@ -81,7 +81,7 @@ pub fn area_ids<A: Allocator + Copy>(
 ) -> Result<Vec<AreaId, A>, AllocError>
     ensures { IfOk result (λ areas. areas.items ≡ area_ids (lists_of database.now)) }
 {
-    let mut areas = Vec::with_capacity(alloc, database.area_count())?;
+    let mut areas = Vec::new(alloc);
     for i in 0..database.area_count() {
         let (area, _is_stub) = database.area(i);
         areas.push(area)?;

@@ -1,5 +1,4 @@
 pub mod MemberCounts
 pub mod FirstLinks
 pub mod Numbers
-pub mod ByType
 pub mod SameLsaLemmas

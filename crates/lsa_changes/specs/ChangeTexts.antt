@@ -14,14 +14,14 @@ use Rattle.lsa_changes.specs.Fields.{field_text}
 abbrev pub link_name : Called → NumberedLink → List ℕ
 link_name called link = numbered_text called link.number link.link
 
--- a word, the name of a link and its cost
-abbrev pub with_cost : Called → List ℕ → NumberedLink → List ℕ
-with_cost called word link = word ++ link_name called link ++ codes ", cost " ++ decimal link.link.metric
+-- the name of a link and its cost
+abbrev pub with_cost : Called → NumberedLink → List ℕ
+with_cost called link = link_name called link ++ codes ", cost " ++ decimal link.link.metric
 
 abbrev pub link_text : Called → LinkChange → List ℕ
 link_text called (link.Cost now before) = link_name called now ++ codes ": cost " ++ decimal before ++ codes " -> " ++ decimal now.link.metric
-link_text called (link.New now) = with_cost called (codes "new ") now
-link_text called (link.Gone before) = with_cost called (codes "gone ") before
+link_text called (link.New now) = codes "new " ++ with_cost called now
+link_text called (link.Gone before) = codes "gone " ++ with_cost called before
 
 abbrev pub content_text : ℕ → ℕ → List ℕ
 content_text before now = codes "content of " ++ decimal before ++ codes " -> " ++ decimal now ++ codes " bytes"

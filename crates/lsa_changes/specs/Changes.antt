@@ -1,6 +1,6 @@
 -- How an LSA differs from what it was (RFC 2328, A.4.2 to A.4.5). LS age, options, LS sequence number and LS checksum mean nothing, nor do
 -- the order of links and routers, TOS metrics, and bits that are not used.
-use Rattle.std.specs.Prelude.{ℕ, ◌==◌, ◌&&◌, ◌||◌, not, Bool, true, false, if◌then◌else◌, List, [], ◌∷◌, ◌++◌, length, drop, filter, map, Option, None, Some}
+use Rattle.std.specs.Prelude.{ℕ, ◌==◌, ◌&&◌, ◌||◌, not, Bool, if◌then◌else◌, List, [], ◌∷◌, ◌++◌, length, drop, filter, map, Option, None, Some}
 use Rattle.std.specs.List.{list_any}
 use Rattle.std.specs.Ordering.{eq_by_cmp}
 use Rattle.std.specs.Str.{bytes_eq}
@@ -42,14 +42,11 @@ is_member routers router = list_any (eq_by_cmp router_cmp router) routers
 abbrev pub only_in : List RouterId → List RouterId → List RouterId
 only_in routers others = filter (λ router. not (is_member others router)) (rising router_cmp routers)
 
-abbrev pub member_change : Bool → RouterId → LsaChange
-member_change is_new router = if is_new then change.NewMember router else change.GoneMember router
-
 -- the mask and the members of a network-LSA
 abbrev pub network_changes : List ℕ → List ℕ → List LsaChange
 network_changes before now =
-    field_changes field.Mask (net_of_lsa before).len (net_of_lsa now).len ++ map (member_change true) (only_in (attached_of now) (attached_of before))
-    ++ map (member_change false) (only_in (attached_of before) (attached_of now))
+    field_changes field.Mask (net_of_lsa before).len (net_of_lsa now).len ++ map change.NewMember (only_in (attached_of now) (attached_of before))
+    ++ map change.GoneMember (only_in (attached_of before) (attached_of now))
 
 -- the mask of a summary-LSA, which those of type 4 do not have, and its metric
 abbrev pub summary_changes : List ℕ → List ℕ → List LsaChange

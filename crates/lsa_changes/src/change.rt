@@ -2,7 +2,7 @@
 
 ghost use Rattle.std.specs.Prelude.{◌≡◌, ◌≤◌, ◌++◌, IfOk, OnOk, length, map};
 ghost use Rattle.lsa_changes.specs.declared.change.LsaChange.TheVariants as variant;
-ghost use Rattle.lsa_changes.specs.Changes.{content_changes, external_changes, field_changes, is_same_content, lsa_changes, mask_changes, member_change, network_changes, router_changes, summary_changes};
+ghost use Rattle.lsa_changes.specs.Changes.{content_changes, external_changes, field_changes, is_same_content, lsa_changes, mask_changes, network_changes, router_changes, summary_changes};
 ghost use Rattle.lsa_changes.specs.Fields.{bits_of};
 ghost use Rattle.lsa_changes.specs.Links.{link_changes, numbered_links};
 
@@ -76,13 +76,14 @@ fn push_links<A: Allocator + Copy>(
 /// Adds how a router-LSA differs.
 fn push_router<A: Allocator + Copy>(
     changes: &mut Vec<LsaChange, A>,
+    alloc: A,
     before: &RouterView<'_>,
     now: &RouterView<'_>,
 ) -> Result<(), AllocError>
     ensures { OnOk result
         (changes.new.items ≡ changes.old.items ++ router_changes before.now now.now) }
 {
-    let links = link_changes(*changes.allocator(), before, now)?;
+    let links = link_changes(alloc, before, now)?;
     push_field(changes, Field::Bits, bits_of(before), bits_of(now))?;
     push_links(changes, &links)
 }
@@ -106,28 +107,30 @@ fn push_masks<A: Allocator + Copy>(
     }
 }
 
-/// That a network-LSA lists a router now alone, or listed it before alone.
-fn member_change(router: RouterId, is_new: bool) -> LsaChange
-    ensures { result ≡ member_change is_new router }
-{
-    if is_new {
-        LsaChange::NewMember(router)
-    } else {
-        LsaChange::GoneMember(router)
-    }
-}
-
-/// Adds routers that are listed now alone, or were listed before alone.
-fn push_members<A: Allocator + Copy>(
+/// Adds routers that are listed now alone.
+fn push_new_members<A: Allocator + Copy>(
     changes: &mut Vec<LsaChange, A>,
     routers: &[RouterId],
-    is_new: bool,
 ) -> Result<(), AllocError>
     ensures { OnOk result
-        (changes.new.items ≡ changes.old.items ++ map (member_change is_new) routers.now) }
+        (changes.new.items ≡ changes.old.items ++ map variant.NewMember routers.now) }
 {
     for router in routers {
-        changes.push(member_change(*router, is_new))?;
+        changes.push(LsaChange::NewMember(*router))?;
+    }
+    Ok(())
+}
+
+/// Adds routers that were listed before alone.
+fn push_gone_members<A: Allocator + Copy>(
+    changes: &mut Vec<LsaChange, A>,
+    routers: &[RouterId],
+) -> Result<(), AllocError>
+    ensures { OnOk result
+        (changes.new.items ≡ changes.old.items ++ map variant.GoneMember routers.now) }
+{
+    for router in routers {
+        changes.push(LsaChange::GoneMember(*router))?;
     }
     Ok(())
 }
@@ -145,8 +148,8 @@ fn push_network<A: Allocator + Copy>(
     let earlier = members_of(alloc, before)?;
     let present = members_of(alloc, now)?;
     push_masks(changes, Some(before.net()), Some(now.net()))?;
-    push_members(changes, &only_in(alloc, &present, &earlier)?, true)?;
-    push_members(changes, &only_in(alloc, &earlier, &present)?, false)
+    push_new_members(changes, &only_in(alloc, &present, &earlier)?)?;
+    push_gone_members(changes, &only_in(alloc, &earlier, &present)?)
 }
 
 /// Adds how a summary-LSA differs.
@@ -218,7 +221,7 @@ fn push_changes<A: Allocator + Copy>(
         (changes.new.items ≡ changes.old.items ++ lsa_changes before.now now.now) }
 {
     if let (Some(before), Some(now)) = (before.router(), now.router()) {
-        return push_router(changes, &before, &now);
+        return push_router(changes, alloc, &before, &now);
     }
     if let (Some(before), Some(now)) = (before.network(), now.network()) {
         return push_network(changes, alloc, &before, &now);
@@ -248,8 +251,8 @@ pub fn lsa_changes<A: Allocator + Copy>(
     ensures { IfOk result (λ changes. changes.items ≡ lsa_changes before.now now.now) }
 {
     let mut changes = Vec::new(alloc);
-    // Most LSAs have the same content: then nothing differs, and it is not searched link by link.
-    if !is_same_content(before.bytes(), now.bytes()) {
+    // The same bytes have no changes, which takes longer to find link by link.
+    if before.bytes() != now.bytes() {
         push_changes(&mut changes, alloc, before, now)?;
     }
     Ok(changes)

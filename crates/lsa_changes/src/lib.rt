@@ -17,12 +17,8 @@ mod members;
 mod change_text;
 mod link_text;
 
-// What holds of the definitions.
-mod laws;
-
 pub use change::{LsaChange, lsa_changes};
 pub use change_text::{push_change, push_front};
 pub use detail::{Detail, External, push_detail};
 pub use field::{Field, FieldChange};
-pub use laws::same_content_does_not_differ;
 pub use link::{LinkChange, NumberedLink};

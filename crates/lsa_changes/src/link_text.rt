@@ -2,7 +2,7 @@
 
 ghost use Rattle.std.specs.Prelude.{◌≡◌, ◌++◌, OnOk};
 ghost use Rattle.network_names.specs.Names.{called};
-ghost use Rattle.lsa_changes.specs.ChangeTexts.{link_text, with_cost};
+ghost use Rattle.lsa_changes.specs.ChangeTexts.{link_name, link_text, with_cost};
 
 use crate::link::{LinkChange, NumberedLink};
 use link_report::push_numbered;
@@ -10,17 +10,15 @@ use network_names::Names;
 use std::alloc::{AllocError, Allocator};
 use study_text::{push_number_after, push_word};
 
-/// Adds a word, the name of a link and its cost.
+/// Adds the name of a link and its cost.
 fn push_with_cost<A: Allocator + Copy>(
     text: &mut Vec<u8, A>,
     names: &Names<'_, A>,
-    word: &str,
     link: NumberedLink,
 ) -> Result<(), AllocError>
     ensures { OnOk result
-        (text.new.items ≡ text.old.items ++ with_cost (called names.now) word.now link) }
+        (text.new.items ≡ text.old.items ++ with_cost (called names.now) link) }
 {
-    push_word(text, word)?;
     push_numbered(text, names, link.number, link.link)?;
     push_number_after(text, ", cost ", u64::from(link.link.metric))
 }
@@ -41,7 +39,13 @@ pub(crate) fn push_link<A: Allocator + Copy>(
             push_number_after(text, ": cost ", u64::from(before))?;
             push_number_after(text, " -> ", u64::from(link.link.metric))
         }
-        LinkChange::New(link) => push_with_cost(text, names, "new ", link),
-        LinkChange::Gone(link) => push_with_cost(text, names, "gone ", link),
+        LinkChange::New(link) => {
+            push_word(text, "new ")?;
+            push_with_cost(text, names, link)
+        }
+        LinkChange::Gone(link) => {
+            push_word(text, "gone ")?;
+            push_with_cost(text, names, link)
+        }
     }
 }

@@ -1,7 +1,7 @@
 //! Routers that network-LSAs list.
 
-ghost use Rattle.std.specs.Prelude.{◌≡◌, IfOk, filter, not};
-ghost use Rattle.std.specs.BTreeSet.{IsFromIterResult, contains};
+ghost use Rattle.std.specs.Prelude.{◌≡◌, IfOk};
+ghost use Rattle.std.specs.BTreeSet.{IsFromIterResult};
 ghost use Rattle.lsa_codec.specs.Order.{router_cmp};
 ghost use Rattle.lsa_codec.specs.Views.{attached_of};
 ghost use Rattle.lsa_changes.specs.Changes.{only_in};
@@ -21,30 +21,14 @@ pub(crate) fn members_of<A: Allocator + Copy>(
     lsa.attached().collect(alloc)
 }
 
-/// The set of some items.
-fn set_of<T: Ord + Copy, A: Allocator + Copy>(
-    alloc: A,
-    items: &[T],
-) -> Result<BTreeSet<T, A>, AllocError>
-    ensures { IfOk result (λ set. IsFromIterResult T.cmp items.now set) }
-{
-    items.iter().copied().collect(alloc)
-}
-
-/// The routers that are not in a set.
-fn without<A: Allocator + Copy>(
+/// The set of some routers.
+fn set_of<A: Allocator + Copy>(
     alloc: A,
     routers: &[RouterId],
-    others: &BTreeSet<RouterId, A>,
-) -> Result<Vec<RouterId, A>, AllocError>
-    ensures { IfOk result (λ left. left.items
-        ≡ filter (λ router. not (contains router_cmp others.now router)) routers.now) }
+) -> Result<BTreeSet<RouterId, A>, AllocError>
+    ensures { IfOk result (λ set. IsFromIterResult router_cmp routers.now set) }
 {
-    routers
-        .iter()
-        .copied()
-        .filter(|router| !others.contains(router))
-        .collect(alloc)
+    routers.iter().copied().collect(alloc)
 }
 
 /// The routers of one list that are not in the other, in rising order, each once.
@@ -57,5 +41,9 @@ pub(crate) fn only_in<A: Allocator + Copy>(
 {
     let routers = rising(alloc, routers)?;
     let others = set_of(alloc, others)?;
-    without(alloc, &routers, &others)
+    routers
+        .iter()
+        .copied()
+        .filter(|router| !others.contains(router))
+        .collect(alloc)
 }

@@ -1,12 +1,12 @@
 -- The live LSA of a key: no two LSAs of a section have one key.
-use Rattle.std.proofs.Common.{◌≡◌, ◌≢◌, ℕ, Bool, true, false, cond, List, [], ◌∷◌, filter, map, Some, None, refl, sym, ap, ◌∙◌, arith, subst}
-use Rattle.std.specs.Prelude.{All}
+use Rattle.std.proofs.Common.{◌≡◌, ◌≢◌, ℕ, Bool, true, false, cond, not, List, [], ◌∷◌, filter, map, Option, Some, None, refl, sym, ap, ◌∙◌, arith, subst}
+use Rattle.std.specs.Prelude.{All, AllPairs}
 use Rattle.std.specs.List.{find}
 use Rattle.std.proofs.lemmas.List.Elements.{All-head, All-tail}
 use Rattle.lsa_codec.specs.declared.key.Key.{Key}
 use Rattle.lsa_codec.specs.Key.{key_of}
 use Rattle.lsdb.specs.declared.section.Section.{Section}
-use Rattle.lsdb.specs.Lists.{AreDistinct, IsDatabase, IsSection, Lists, has_key, is_section, lsas_of, lsas_or_none}
+use Rattle.lsdb.specs.Lists.{AreDistinct, IsDatabase, IsSection, Lists, SectionLsas, has_key, is_section, lsas_of, lsas_or_none}
 use Rattle.lsdb.proofs.KeyLemmas.{other_key, same_key_true}
 use Rattle.lsdb.proofs.ListLemmas.{pairs_head, pairs_tail}
 use Rattle.area_graph.specs.Area.{is_live}

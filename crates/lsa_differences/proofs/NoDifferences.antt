@@ -1,7 +1,8 @@
 -- Databases with the same live part do not differ.
-use Rattle.std.proofs.Common.{◌≡◌, ℕ, Bool, true, false, List, [], ◌∷◌, ◌++◌, map, Option, Some, None, refl, ap, ◌∙◌}
+use Rattle.std.proofs.Common.{◌≡◌, ℕ, Bool, true, false, List, [], ◌∷◌, ◌++◌, map, Option, Some, None, refl, sym, ap, ◌∙◌}
 use Rattle.std.specs.List.{flat_map}
 use Rattle.lsa_codec.specs.declared.address.AreaId.{AreaId}
+use Rattle.lsa_codec.specs.declared.key.Key.{Key}
 use Rattle.lsa_codec.specs.Order.{area_cmp, key_cmp}
 use Rattle.lsdb.specs.declared.section.Section.{Section}
 use Rattle.lsdb.specs.declared.section.Section.TheVariants.{Area, AsWide}
@@ -10,8 +11,9 @@ use Rattle.area_graph.specs.Rising.{rising}
 use Rattle.link_report.specs.Areas.{area_ids}
 use Rattle.lsa_names.specs.LsaNames.{lsa_name}
 use Rattle.lsa_changes.proofs.SameLsaLemmas.{no_changes}
+use Rattle.lsa_differences.specs.declared.line.DifferenceLine.{DifferenceLine}
 use Rattle.lsa_differences.specs.declared.line.DifferenceLine.TheVariants as line
-use Rattle.lsa_differences.specs.Differences.{area_changes, area_lines, area_of, differences, keys_in, kind_of_area, lines_between, live_of, lsa_in, lsa_lines, section_lines}
+use Rattle.lsa_differences.specs.Differences.{area_changes, area_lines, area_of, differences, keys_in, kind_changes, kind_of_area, lines_between, live_of, lsa_in, lsa_lines, section_lines}
 
 none_of_each : {X Y : Type 0} (f : X → List Y) → ((x : X) → f x ≡ []) → (xs : List X) → flat_map f xs ≡ []
 none_of_each f none [] = refl

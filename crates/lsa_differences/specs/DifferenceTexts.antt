@@ -1,5 +1,5 @@
 -- The lines of `differences`.
-use Rattle.std.specs.Prelude.{ℕ, Bool, not, if◌then◌else◌, List, ◌++◌, codes}
+use Rattle.std.specs.Prelude.{ℕ, Bool, not, if◌then◌else◌, List, [], ◌++◌, codes}
 use Rattle.lsa_codec.specs.declared.address.AreaId.{AreaId}
 use Rattle.lsa_codec.specs.Spelling.{address_text}
 use Rattle.lsa_names.specs.LsaNames.{name_text}

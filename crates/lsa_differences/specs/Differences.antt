@@ -8,7 +8,7 @@ use Rattle.lsa_codec.specs.Key.{key_of}
 use Rattle.lsa_codec.specs.Order.{area_cmp, key_cmp}
 use Rattle.lsdb.specs.declared.section.Section.{Section}
 use Rattle.lsdb.specs.declared.section.Section.TheVariants.{Area, AsWide}
-use Rattle.lsdb.specs.Lists.{Lists, has_key, is_section, lsas_of}
+use Rattle.lsdb.specs.Lists.{Lists, SectionLsas, has_key, is_section, lsas_of}
 use Rattle.area_graph.specs.Area.{is_live}
 use Rattle.area_graph.specs.Rising.{rising}
 use Rattle.link_report.specs.Areas.{area_ids}

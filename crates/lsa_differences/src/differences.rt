@@ -6,7 +6,7 @@ ghost use Rattle.lsa_codec.specs.Order.{key_cmp};
 ghost use Rattle.lsdb.specs.Slots.{lists_of};
 ghost use Rattle.area_graph.specs.Rising.{rising};
 ghost use Rattle.lsa_differences.specs.declared.line.DifferenceLine.TheVariants as variant;
-ghost use Rattle.lsa_differences.specs.Differences.{area_of, differences, keys_in, live_of, lsa_lines, section_lines};
+ghost use Rattle.lsa_differences.specs.Differences.{area_lines, area_of, differences, keys_in, live_of, lsa_lines, section_lines};
 
 use crate::areas::{areas_of_both, push_area};
 use crate::line::DifferenceLine;
@@ -108,6 +108,26 @@ fn push_section<A: Allocator + Copy>(
     Ok(())
 }
 
+/// Adds how an area and its live LSAs differ.
+fn push_area_lines<A: Allocator + Copy>(
+    lines: &mut Vec<DifferenceLine, A>,
+    alloc: A,
+    before: &Database<A>,
+    now: &Database<A>,
+    area: AreaId,
+) -> Result<(), AllocError>
+    ensures { OnOk result (lines.new.items ≡ lines.old.items
+        ++ area_lines (live_of (lists_of before.now)) (live_of (lists_of now.now)) area) }
+{
+    push_area(
+        lines,
+        area,
+        kind_of_area(before, area),
+        kind_of_area(now, area),
+    )?;
+    push_section(lines, alloc, before, now, Section::Area(area))
+}
+
 /// How a database differs from a baseline by meaning: for each area of either in order whether it
 /// came, went or is of another kind, and then its live LSAs by type, Link State ID and Advertising
 /// Router; at the end those of AS scope. An LSA that only one of the two has is new or gone; one
@@ -130,10 +150,7 @@ pub fn difference_lines<A: Allocator + Copy>(
     let areas = areas_of_both(alloc, baseline, now)?;
     let mut lines = Vec::new(alloc);
     for area in &areas {
-        let earlier = kind_of_area(baseline, *area);
-        let present = kind_of_area(now, *area);
-        push_area(&mut lines, *area, earlier, present)?;
-        push_section(&mut lines, alloc, baseline, now, Section::Area(*area))?;
+        push_area_lines(&mut lines, alloc, baseline, now, *area)?;
     }
     push_section(&mut lines, alloc, baseline, now, Section::AsWide)?;
     Ok(lines)

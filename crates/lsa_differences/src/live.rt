@@ -27,7 +27,7 @@ pub(crate) fn kind_of_area<A: Allocator + Copy>(
 
 /// The keys of those of some LSAs that are not at MaxAge.
 fn keys_of_live<A: Allocator + Copy>(alloc: A, lsas: Lsas<'_, A>) -> Result<Vec<Key, A>, AllocError>
-    ensures { IfOk result (λ keys. keys.items ≡ map key_of (filter is_live lsas.entry)) }
+    ensures { IfOk result (λ keys. keys.items ≡ map key_of (filter is_live lsas)) }
 {
     lsas.filter(|lsa| !lsa.at_max_age())
         .map(|lsa| lsa.key())

@@ -14,6 +14,7 @@ use host_io::{ReplaceFault, Watched, replace_file};
 use std::alloc::Alloc;
 use std::fs::{self, File, Files};
 use std::io::{self, BufWriter, Input, Read, Write};
+use study_answers::Format;
 use whole_study::{Ended, Manner, Output, RunFault, RunFiles, StudyFile, run};
 
 /// A folder that is there on every system.
@@ -155,6 +156,7 @@ fn run_studies<'a, S: Read + Drop>(
     let mut output = Output {
         replies: Watched::new(buffered(rt, io::writer(rt))?),
         errors: Watched::new(io::writer(&stderr)),
+        format: format_of(options.format),
     };
     let names = options.names.unwrap_or("");
     match run(rt.alloc(), manner, files, studies, &mut output) {
@@ -178,6 +180,14 @@ fn buffered<'a, W: Write + Drop>(
     match BufWriter::with_capacity(rt.alloc(), REPLY_ROOM, writer) {
         Ok(replies) => Ok(replies),
         Err(_) => Err(ExitFault::Run("", RunFault::OutOfMemory)),
+    }
+}
+
+/// The format that an option names; clap takes no other word than these two.
+fn format_of(word: Option<&str>) -> Format {
+    match word {
+        Some("json") => Format::Json,
+        _ => Format::Text,
     }
 }
 

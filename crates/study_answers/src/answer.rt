@@ -13,7 +13,8 @@ use network_names::Names;
 use std::alloc::{AllocError, Allocator, Global};
 use std::marker::Model;
 use study_arguments::Fault;
-use study_hints::push_fault;
+use study_documents::{push_fault as push_fault_members, push_faulty, push_refused};
+use study_hints::{push_escaped, push_fault, push_fault_hint};
 use study_text::push_word;
 
 /// What became of a line.
@@ -32,6 +33,9 @@ pub enum Outcome {
 pub struct Answer<A: Allocator = Global> {
     /// The text of the reply.
     pub text: Vec<u8, A>,
+    /// The members of its JSON document after what became of the line, with the end of the object.
+    /// Of a question they are there where documents are asked for.
+    pub document: Vec<u8, A>,
     /// What became of the line.
     pub outcome: Outcome,
     /// Why the line is not accepted; empty where it is.
@@ -61,6 +65,7 @@ impl<A: Allocator + Copy> Answer<A> {
     {
         Answer {
             text,
+            document: Vec::new(alloc),
             outcome: Outcome::Accepted,
             error: Vec::new(alloc),
             is_expectation: false,
@@ -80,8 +85,11 @@ impl<A: Allocator + Copy> Answer<A> {
         let mut text = Vec::new(alloc);
         push_mark(&mut text, branch)?;
         push_reported(&mut text, "refused ", code, name)?;
+        let mut document = Vec::new(alloc);
+        push_refused(&mut document, code, name)?;
         Ok(Answer {
             text,
+            document,
             outcome: Outcome::Refused,
             error: reason(alloc, "refused ", code, name)?,
             is_expectation: false,
@@ -94,7 +102,7 @@ impl<A: Allocator + Copy> Answer<A> {
     ///
     /// Memory ran out.
     #[tactic(auto, unfolding(crate::specs::Answers::held_answer))]
-    pub fn held(alloc: A, branch: u8) -> Result<Answer<A>, AllocError>
+    pub fn held(alloc: A, branch: u8, document: Vec<u8, A>) -> Result<Answer<A>, AllocError>
         ensures { IfOk result (λ answer. answer ≡ held_answer branch) }
     {
         let mut text = Vec::new(alloc);
@@ -102,6 +110,7 @@ impl<A: Allocator + Copy> Answer<A> {
         push_word(&mut text, "ok\n")?;
         Ok(Answer {
             text,
+            document,
             outcome: Outcome::Accepted,
             error: Vec::new(alloc),
             is_expectation: true,
@@ -114,7 +123,12 @@ impl<A: Allocator + Copy> Answer<A> {
     ///
     /// Memory ran out.
     #[tactic(auto, unfolding(crate::specs::Answers::failed_answer))]
-    pub fn failed(alloc: A, branch: u8, found: &[u8]) -> Result<Answer<A>, AllocError>
+    pub fn failed(
+        alloc: A,
+        branch: u8,
+        found: &[u8],
+        document: Vec<u8, A>,
+    ) -> Result<Answer<A>, AllocError>
         ensures { IfOk result (λ answer. answer ≡ failed_answer branch found.now) }
     {
         let mut text = Vec::new(alloc);
@@ -127,6 +141,7 @@ impl<A: Allocator + Copy> Answer<A> {
         error.extend_from_slice(found)?;
         Ok(Answer {
             text,
+            document,
             outcome: Outcome::Failed,
             error,
             is_expectation: true,
@@ -152,11 +167,55 @@ impl<A: Allocator + Copy> Answer<A> {
         push_reported(&mut text, "script ", fault.kind.code(), fault.kind.name())?;
         Ok(Answer {
             text,
+            document: fault_document(alloc, names, line, &fault)?,
             outcome: Outcome::Refused,
             error: fault_text(alloc, names, line, &fault)?,
             is_expectation: false,
         })
     }
+}
+
+impl<A: Allocator> Answer<A> {
+    /// The same answer with these members of its document.
+    pub fn with_document(self, document: Vec<u8, A>) -> Answer<A> {
+        let Answer {
+            text,
+            document: _,
+            outcome,
+            error,
+            is_expectation,
+        } = self;
+        Answer {
+            text,
+            document,
+            outcome,
+            error,
+            is_expectation,
+        }
+    }
+}
+
+/// The members of the document of a line that has a fault.
+fn fault_document<A: Allocator + Copy>(
+    alloc: A,
+    names: &Names<'_, A>,
+    line: &[u8],
+    fault: &Fault<'_>,
+) -> Result<Vec<u8, A>, AllocError> {
+    let known = names.all(alloc)?;
+    let (mut at, mut hint) = (Vec::new(alloc), Vec::new(alloc));
+    push_escaped(&mut at, fault.word)?;
+    push_fault_hint(&mut hint, names, &known, line, fault)?;
+    let mut document = Vec::new(alloc);
+    push_faulty(&mut document)?;
+    push_fault_members(
+        &mut document,
+        fault.kind.code(),
+        fault.kind.name(),
+        &at,
+        &hint,
+    )?;
+    Ok(document)
 }
 
 /// A word, and after it a code and a name.

@@ -1,5 +1,5 @@
 -- Conditions about a route or a path are of four kinds.
-use Rattle.std.proofs.Common.{◌≡◌, ◌⊎◌, Option, Vec, inl, inr, refl, subst, sym}
+use Rattle.std.proofs.Common.{◌≡◌, Option, Vec, refl}
 use Rattle.lsa_codec.specs.Prefix.{Net}
 use Rattle.lsa_codec.specs.declared.address.Addr.{Addr}
 use Rattle.lsa_codec.specs.declared.address.RouterId.{RouterId}
@@ -21,14 +21,3 @@ one_of_four (condition.NoRoute router net) is route no_route hops path = no_rout
 one_of_four (condition.Hops router net bound) is route no_route hops path = hops router net bound refl
 one_of_four (condition.Path router address passing) is route no_route hops path = path router address passing refl
 one_of_four _ is route no_route hops path = is
-
-pub is_one : {A : Type 0} (c : Condition A)
-    → ((router : RouterId) × (net : Net) × (kind : Option RouteKind) × (via : Option (Vec RouterId A)) × (cost : Option Bound)
-    × (c ≡ condition.Route router net kind via cost))
-    ⊎ (((router : RouterId) × (net : Net) × (c ≡ condition.NoRoute router net))
-    ⊎ (((router : RouterId) × (net : Net) × (bound : Bound) × (c ≡ condition.Hops router net bound))
-    ⊎ ((router : RouterId) × (address : Addr) × (passing : Passing) × (c ≡ condition.Path router address passing)))) → IsOfRoutes c
-is_one c (inl (router, net, kind, via, cost, is)) = subst IsOfRoutes (sym is) tt
-is_one c (inr (inl (router, net, is))) = subst IsOfRoutes (sym is) tt
-is_one c (inr (inr (inl (router, net, bound, is)))) = subst IsOfRoutes (sym is) tt
-is_one c (inr (inr (inr (router, address, passing, is)))) = subst IsOfRoutes (sym is) tt

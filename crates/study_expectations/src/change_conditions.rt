@@ -36,7 +36,10 @@ fn found_pairs<A: Allocator + Copy>(
     let holds = are_allowed(allowed, pairs);
     let mut text = Vec::new(alloc);
     push_found(alloc, &mut text, names, word, allowed, pairs)?;
-    Ok(Verdict::Found { holds, text })
+    let no_names = Names::new(alloc);
+    let mut plain = Vec::new(alloc);
+    push_found(alloc, &mut plain, &no_names, word, allowed, pairs)?;
+    Ok(Verdict::Found { holds, text, plain })
 }
 
 /// `lost` or `gone`: what is found of it.
@@ -69,7 +72,10 @@ fn changes<A: Allocator + Copy>(
 {
     let mut text = Vec::new(alloc);
     push_changes_found(&mut text, names, &changes.names)?;
-    Ok(Verdict::Found { holds, text })
+    let no_names = Names::new(alloc);
+    let mut plain = Vec::new(alloc);
+    push_changes_found(&mut plain, &no_names, &changes.names)?;
+    Ok(Verdict::Found { holds, text, plain })
 }
 
 /// Whether a router, if one is named, is attached in a database or in the baseline.

@@ -35,7 +35,10 @@ fn found<A: Allocator + Copy>(
 {
     let mut text = Vec::new(alloc);
     push_found_route(&mut text, names, route)?;
-    Ok(Verdict::Found { holds, text })
+    let no_names = Names::new(alloc);
+    let mut plain = Vec::new(alloc);
+    push_found_route(&mut plain, &no_names, route)?;
+    Ok(Verdict::Found { holds, text, plain })
 }
 
 /// `route`: what is found of it, by its kind, neighbors and cost.
@@ -99,8 +102,10 @@ pub(crate) fn hops<A: Allocator + Copy>(
     let mut text = Vec::new(alloc);
     push_word(&mut text, "hops ")?;
     push_number(&mut text, count)?;
+    let mut plain = Vec::new(alloc);
+    plain.extend_from_slice(text.as_slice())?;
     let holds = meets(bound, count);
-    Ok(Verdict::Found { holds, text })
+    Ok(Verdict::Found { holds, text, plain })
 }
 
 /// What is found of walks that begin at a router.
@@ -118,7 +123,10 @@ fn path_found<A: Allocator + Copy>(
     let (holds, path) = path_holds(alloc, database, router, address, passing, &mut Meter::new())?;
     let mut text = Vec::new(alloc);
     path.push_to(&mut text, names)?;
-    Ok(Verdict::Found { holds, text })
+    let no_names = Names::new(alloc);
+    let mut plain = Vec::new(alloc);
+    path.push_to(&mut plain, &no_names)?;
+    Ok(Verdict::Found { holds, text, plain })
 }
 
 /// `path`: what is found of it.

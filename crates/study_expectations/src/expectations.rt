@@ -10,6 +10,7 @@ ghost use Rattle.study_expectations.specs.Expectations.{IsExpectationAnswer, IsV
 ghost use Rattle.study_expectations.specs.steps.Conditions.{IsOfRoutes};
 ghost use Rattle.study_expectations.specs.steps.Verdicts.{verdict_of};
 
+use crate::audit_conditions::{clean_audit, only_findings};
 use crate::change_conditions::{few, pairs, same};
 use crate::conditions::{hops, no_route, path, route};
 use crate::loop_conditions::{no_blackholes, no_loops, no_microloops};
@@ -21,6 +22,7 @@ use network_names::Names;
 use std::alloc::{AllocError, Allocator};
 use study_answers::{Answer, Missing};
 use study_script::{Condition, Expectation};
+use study_words::ConditionWord;
 
 /// Neighbors, if some are given.
 fn neighbors<A: Allocator>(given: &Option<Vec<RouterId, A>>) -> Option<&[RouterId]>
@@ -103,6 +105,28 @@ fn verdict<A: Allocator + Copy>(
         Condition::NoBlackholes => no_blackholes(alloc, names, baseline, now),
         Condition::Same(router) => same(alloc, names, baseline, now, *router),
         Condition::AtMostChanges(most) => few(alloc, names, baseline, now, *most),
+        Condition::CleanAudit => clean_audit(alloc, branches, names, branch),
+        Condition::OnlyFindings(kinds) => {
+            only_findings(alloc, branches, names, branch, kinds.as_slice())
+        }
+    }
+}
+
+/// The word of a condition.
+fn word_of<A: Allocator>(condition: &Condition<A>) -> ConditionWord {
+    match condition {
+        Condition::Route { .. } => ConditionWord::Route,
+        Condition::NoRoute { .. } => ConditionWord::NoRoute,
+        Condition::Hops { .. } => ConditionWord::Hops,
+        Condition::Path { .. } => ConditionWord::Path,
+        Condition::Lost(_) => ConditionWord::Lost,
+        Condition::Gone(_) => ConditionWord::Gone,
+        Condition::NoLoops => ConditionWord::Loops,
+        Condition::NoMicroloops(_) => ConditionWord::Microloops,
+        Condition::NoBlackholes => ConditionWord::Blackholes,
+        Condition::Same(_) => ConditionWord::Same,
+        Condition::AtMostChanges(_) => ConditionWord::Changes,
+        Condition::CleanAudit | Condition::OnlyFindings(_) => ConditionWord::Audit,
     }
 }
 
@@ -128,5 +152,5 @@ pub fn expectation<A: Allocator + Copy>(
 {
     let condition = &expectation.condition;
     let verdict = verdict(alloc, branches, baseline, names, branch, condition)?;
-    verdict.answer(alloc, branch, expectation.is_not)
+    verdict.answer(alloc, branch, expectation.is_not, word_of(condition))
 }

@@ -34,9 +34,13 @@ fn none<T: Shown, A: Allocator + Copy>(
 {
     let mut text = Vec::new(alloc);
     push_found(&mut text, names, word, items)?;
+    let no_names = Names::new(alloc);
+    let mut plain = Vec::new(alloc);
+    push_found(&mut plain, &no_names, word, items)?;
     Ok(Verdict::Found {
         holds: items.is_empty(),
         text,
+        plain,
     })
 }
 

@@ -6,6 +6,8 @@ ghost use Rattle.study_expectations.specs.steps.Verdicts.{verdict_of};
 
 use std::alloc::{AllocError, Allocator};
 use study_answers::{Answer, no_router};
+use study_documents::push_expectation;
+use study_words::ConditionWord;
 
 /// What is found of a condition.
 #[derive(Drop)]
@@ -20,6 +22,8 @@ pub(crate) enum Verdict<A: Allocator> {
         holds: bool,
         /// The text of what was found.
         text: Vec<u8, A>,
+        /// The same with Router IDs in place of names.
+        plain: Vec<u8, A>,
     },
 }
 
@@ -27,18 +31,26 @@ impl<A: Allocator + Copy> Verdict<A> {
     /// The answer to an expectation with the condition, which must hold, or, where it is turned
     /// around, must not.
     #[tactic(auto, unfolding(crate::specs::Verdicts::verdict_answer))]
-    pub(crate) fn answer(&self, alloc: A, branch: u8, is_not: bool) -> Result<Answer<A>, AllocError>
+    pub(crate) fn answer(
+        &self,
+        alloc: A,
+        branch: u8,
+        is_not: bool,
+        condition: ConditionWord,
+    ) -> Result<Answer<A>, AllocError>
         ensures { IfOk result
             (λ answer. answer ≡ verdict_answer branch is_not (verdict_of self.now)) }
     {
         match self {
             Verdict::NoRouter => no_router(alloc, branch),
             Verdict::TooFewDone => Answer::refused(alloc, branch, "U1", "NothingToUndo"),
-            Verdict::Found { holds, text } => {
+            Verdict::Found { holds, text, plain } => {
+                let mut document = Vec::new(alloc);
+                push_expectation(&mut document, condition, plain)?;
                 if *holds == is_not {
-                    Answer::failed(alloc, branch, text.as_slice())
+                    Answer::failed(alloc, branch, text.as_slice(), document)
                 } else {
-                    Answer::held(alloc, branch)
+                    Answer::held(alloc, branch, document)
                 }
             }
         }

@@ -1,5 +1,5 @@
 -- What would have been right in place of one word.
-use Rattle.std.specs.Prelude.{ℕ, ◌==◌, List, [], ◌∷◌, ◌++◌, codes, decimal, Option, Some, None, if◌then◌else◌}
+use Rattle.std.specs.Prelude.{ℕ, ◌==◌, List, [], ◌∷◌, ◌++◌, map, codes, decimal, Option, Some, None, if◌then◌else◌}
 use Rattle.std.specs.List.{slice_split}
 use Rattle.lsa_codec.specs.Prefix.{Net, masked}
 use Rattle.lsa_codec.specs.Spelling.{prefix_text}
@@ -9,6 +9,7 @@ use Rattle.text_words.specs.Numbers.{number_up_to}
 use Rattle.text_words.specs.Addresses.{address_of}
 use Rattle.edit_script.specs.Arguments.{two_parts}
 use Rattle.study_arguments.specs.Values.{Lookup}
+use Rattle.study_words.specs.AuditKinds.{audit_kind_text, audit_kinds}
 use Rattle.study_hints.specs.declared.role.Role.{Role}
 use Rattle.study_hints.specs.declared.role.Role.TheVariants as role
 use Rattle.study_hints.specs.Help.{command_texts}
@@ -19,6 +20,10 @@ use Rattle.study_hints.specs.Roles.{fits}
 abbrev pub or_near : Option Word → List ℕ → List ℕ
 or_near (Some word) otherwise = codes "did you mean " ++ word
 or_near None otherwise = otherwise
+
+-- in place of a word that is no kind of audit findings: the kind that is most like it
+abbrev pub kind_hint : Word → List ℕ
+kind_hint word = or_near (near word (map audit_kind_text audit_kinds)) (codes "see help")
 
 -- ---- addresses and prefixes
 
@@ -77,6 +82,7 @@ argument_hint known role.Neighbor word = name_hint known word
 argument_hint known role.Address word = name_hint known word
 argument_hint known role.Prefix word = prefix_hint word
 argument_hint known role.Word word = or_near (near word command_texts) (codes "see help")
+argument_hint known role.Kind word = kind_hint word
 argument_hint known role.Link word = range_hint role.Link
 argument_hint known role.Cost word = range_hint role.Cost
 argument_hint known role.Metric word = range_hint role.Metric

@@ -5,7 +5,7 @@ ghost use Rattle.std.specs.List.{slice_split};
 ghost use Rattle.edit_script.specs.Arguments.{two_parts};
 ghost use Rattle.edit_script.specs.Words.{words};
 ghost use Rattle.network_names.specs.Names.{stands_for};
-ghost use Rattle.study_hints.specs.ArgumentHints.{argument_hint, first_hint, name_hint, or_near, prefix_hint, range_hint, range_of, without_host_bits};
+ghost use Rattle.study_hints.specs.ArgumentHints.{argument_hint, first_hint, kind_hint, name_hint, or_near, prefix_hint, range_hint, range_of, without_host_bits};
 ghost use Rattle.study_hints.specs.Near.{near};
 
 use crate::help::commands;
@@ -16,6 +16,7 @@ use network_names::Names;
 use std::alloc::{AllocError, Allocator};
 use study_arguments::first_word;
 use study_text::{push_number, push_prefix};
+use study_words::{AuditKind, Word};
 use text_words::{address_of, cut_at, number_up_to};
 
 /// Adds the candidate that is most like a word, or else something more general.
@@ -33,6 +34,16 @@ pub(crate) fn push_near<T: Candidate, A: Allocator + Copy>(
     };
     text.extend_from_slice(b"did you mean ")?;
     text.extend_from_slice(found.bytes())
+}
+
+/// Adds the kind of audit findings that is most like a word, or else where the kinds are listed.
+pub(crate) fn push_kind_hint<A: Allocator + Copy>(
+    text: &mut Vec<u8, A>,
+    word: &[u8],
+) -> Result<(), AllocError>
+    ensures { OnOk result (text.new.items ≡ text.old.items ++ kind_hint word.now) }
+{
+    push_near(text, word, AuditKind::all(), "see help")
 }
 
 /// Adds what an address is.
@@ -143,6 +154,7 @@ fn push_argument_hint<A: Allocator + Copy>(
         Role::Router | Role::Neighbor | Role::Address => push_name_hint(text, known, word),
         Role::Prefix => push_prefix_hint(text, word),
         Role::Word => push_near(text, word, commands(), "see help"),
+        Role::Kind => push_kind_hint(text, word),
         _ => push_range(text, role),
     }
 }

@@ -50,6 +50,7 @@ fn see_command_text(word: SeeWord) -> &'static str
         SeeWord::Gone => "gone",
         SeeWord::Loops => "loops",
         SeeWord::Microloops => "microloops [COUNT]",
+        SeeWord::Audit => "audit [KIND]",
         SeeWord::Log => "log",
         SeeWord::Help => "help [WORD]",
     }
@@ -57,7 +58,7 @@ fn see_command_text(word: SeeWord) -> &'static str
 
 /// A command word and its arguments; brackets stand around one that may be left out.
 #[tactic(auto, unfolding(crate::specs::Grammar::command_text))]
-pub(crate) fn command_text(word: StudyWord) -> &'static str
+pub fn command_text(word: StudyWord) -> &'static str
     ensures { result.now ≡ command_text word }
 {
     match word {
@@ -117,6 +118,7 @@ fn see_roles_of(word: SeeWord) -> &'static [Role]
         SeeWord::Gone => &[],
         SeeWord::Loops => &[],
         SeeWord::Microloops => &[Role::Count],
+        SeeWord::Audit => &[Role::Kind],
         SeeWord::Log => &[],
         SeeWord::Help => &[Role::Word],
     }
@@ -137,7 +139,7 @@ pub(crate) fn roles_of(word: StudyWord) -> &'static [Role]
 
 /// A condition after `expect`, and its words.
 #[tactic(auto, unfolding(crate::specs::Grammar::expectation_text))]
-pub(crate) fn expectation_text(word: ConditionWord) -> &'static str
+pub fn expectation_text(word: ConditionWord) -> &'static str
     ensures { result.now ≡ expectation_text word }
 {
     match word {
@@ -153,5 +155,6 @@ pub(crate) fn expectation_text(word: ConditionWord) -> &'static str
         ConditionWord::Blackholes => "expect blackholes none",
         ConditionWord::Same => "expect same [ROUTER]",
         ConditionWord::Changes => "expect changes <= NUMBER",
+        ConditionWord::Audit => "expect audit clean | only KIND..",
     }
 }

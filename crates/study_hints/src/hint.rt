@@ -135,3 +135,18 @@ pub fn push_fault<A: Allocator + Copy>(
     push_hint(text, names, known, command_at(line), fault)?;
     text.extend_from_slice(b")")
 }
+
+/// Adds the hint alone: `did you mean drop-link`.
+///
+/// # Errors
+///
+/// Memory ran out.
+pub fn push_fault_hint<A: Allocator + Copy>(
+    text: &mut Vec<u8, A>,
+    names: &Names<'_, A>,
+    known: &[&[u8]],
+    line: &[u8],
+    fault: &Fault<'_>,
+) -> Result<(), AllocError> {
+    push_hint(text, names, known, command_at(line), fault)
+}

@@ -21,5 +21,6 @@ mod condition_hint;
 mod hint;
 
 pub use escape::push_escaped;
-pub use help::{count_help, push_help};
-pub use hint::push_fault;
+pub use help::{command_meaning, commands, count_help, push_help};
+pub use grammar::{command_text, expectation_text};
+pub use hint::{push_fault, push_fault_hint};

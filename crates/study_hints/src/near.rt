@@ -3,7 +3,7 @@
 ghost use Rattle.std.specs.Prelude.{◌≡◌, ◌≤◌, length, map, option_map, reverse};
 ghost use Rattle.study_hints.specs.Near.{common, likeness, near};
 
-use study_words::{ConditionWord, StudyWord, Word};
+use study_words::{AuditKind, ConditionWord, StudyWord, Word};
 
 /// The length of the common front of two words.
 #[tactic(auto, using(crate::proofs::CommonFront::one_more, crate::proofs::CommonFront::ends_here, crate::proofs::CommonFront::all_common))]
@@ -69,6 +69,16 @@ impl Candidate for ConditionWord {
     ghost use Rattle.study_words.specs.ConditionWords.{condition_text};
 
     ghost written = { condition_text };
+
+    fn bytes(&self) -> &[u8] {
+        self.text().as_bytes()
+    }
+}
+
+impl Candidate for AuditKind {
+    ghost use Rattle.study_words.specs.AuditKinds.{audit_kind_text};
+
+    ghost written = { audit_kind_text };
 
     fn bytes(&self) -> &[u8] {
         self.text().as_bytes()

@@ -7,7 +7,7 @@ ghost use Rattle.lsdb.specs.Slots.{lists_of};
 ghost use Rattle.study_questions.specs.ChangeAnswers.{changes_answer, changes_of, changes_reply, differences_answer};
 ghost use Rattle.study_questions.specs.steps.Missing.{missing_answer};
 
-use crate::listing::listed;
+use crate::listing::{listed, push_counted};
 use crate::text::{head, push_number_after, push_router_after};
 use change_lines::{ChangeLine, Changes, push_counts};
 use change_report::lines_of_changes;
@@ -18,7 +18,8 @@ use lsdb::Database;
 use network_names::Names;
 use spf::Meter;
 use std::alloc::{AllocError, Allocator};
-use study_answers::{Answer, Missing, is_known, no_router};
+use study_answers::{Answer, Format, Missing, is_known, no_router};
+use study_documents::push_changes;
 use study_text::{push_lines, push_word};
 use study_words::SeeWord;
 
@@ -46,6 +47,7 @@ fn changes_reply<A: Allocator + Copy>(
 /// The answer to `changes`, by what differs.
 fn changes_of<A: Allocator + Copy>(
     alloc: A,
+    format: Format,
     names: &Names<'_, A>,
     branch: u8,
     both: &Comparison<'_, A>,
@@ -57,12 +59,19 @@ fn changes_of<A: Allocator + Copy>(
 {
     let lines = lines_of_changes(alloc, both, &changes.names)?;
     let text = changes_reply(alloc, names, branch, router, changes, &lines)?;
-    Ok(Answer::accepted(alloc, text))
+    let answer = Answer::accepted(alloc, text);
+    if format == Format::Text {
+        return Ok(answer);
+    }
+    let mut document = Vec::new(alloc);
+    push_changes(&mut document, router, changes, &lines)?;
+    Ok(answer.with_document(document))
 }
 
 /// The answer to `changes`.
 pub(crate) fn changes_answer<A: Allocator + Copy>(
     alloc: A,
+    format: Format,
     names: &Names<'_, A>,
     branch: u8,
     baseline: &Database<A>,
@@ -78,11 +87,11 @@ pub(crate) fn changes_answer<A: Allocator + Copy>(
         }
         let both = Comparison::of(alloc, baseline, database, &mut Meter::new())?;
         let changes = both.changes_of(alloc, one)?;
-        return changes_of(alloc, names, branch, &both, router, &changes);
+        return changes_of(alloc, format, names, branch, &both, router, &changes);
     }
     let both = Comparison::of(alloc, baseline, database, &mut Meter::new())?;
     let changes = both.changes(alloc)?;
-    changes_of(alloc, names, branch, &both, None, &changes)
+    changes_of(alloc, format, names, branch, &both, None, &changes)
 }
 
 /// The answer to `differences`.
@@ -97,12 +106,15 @@ pub(crate) fn differences_answer<A: Allocator + Copy>(
         (lists_of baseline.now) (lists_of database.now)) }
 {
     let lines = difference_lines(alloc, baseline, database)?;
-    listed(alloc, names, branch, SeeWord::Differences, &lines)
+    let mut text = head(alloc, branch, SeeWord::Differences)?;
+    push_counted(&mut text, names, &lines)?;
+    Ok(Answer::accepted(alloc, text))
 }
 
 /// The answer to `lost` or `gone`.
 pub(crate) fn missing_answer<A: Allocator + Copy>(
     alloc: A,
+    format: Format,
     names: &Names<'_, A>,
     branch: u8,
     baseline: &Database<A>,
@@ -114,5 +126,13 @@ pub(crate) fn missing_answer<A: Allocator + Copy>(
 {
     let both = Comparison::of(alloc, baseline, database, &mut Meter::new())?;
     let lines = missing.lines(alloc, &both)?;
-    listed(alloc, names, branch, missing.word(), &lines)
+    listed(
+        alloc,
+        format,
+        names,
+        branch,
+        missing.word(),
+        "pairs",
+        &lines,
+    )
 }

@@ -14,12 +14,15 @@ use lsdb::Database;
 use network_names::Names;
 use routing_table::routers;
 use std::alloc::{AllocError, Allocator};
-use study_answers::{Answer, is_attached, no_router};
+use study_answers::{Answer, Format, is_attached, no_router};
+use study_documents::push_listing;
+use study_json::NamedRouter;
 use study_words::SeeWord;
 
 /// The answer to `routers`.
 pub(crate) fn routers_answer<A: Allocator + Copy>(
     alloc: A,
+    format: Format,
     names: &Names<'_, A>,
     branch: u8,
     database: &Database<A>,
@@ -28,12 +31,26 @@ pub(crate) fn routers_answer<A: Allocator + Copy>(
         ≡ routers_answer (called names.now) branch (lists_of database.now)) }
 {
     let lines = router_lines(alloc, database)?;
-    listed(alloc, names, branch, SeeWord::Routers, &lines)
+    let mut text = head(alloc, branch, SeeWord::Routers)?;
+    push_counted(&mut text, names, &lines)?;
+    let answer = Answer::accepted(alloc, text);
+    if format == Format::Text {
+        return Ok(answer);
+    }
+    let mut named = Vec::new(alloc);
+    for line in &lines {
+        let name = names.name_of(line.router);
+        named.push(NamedRouter { line, name })?;
+    }
+    let mut document = Vec::new(alloc);
+    push_listing(&mut document, "routers", &named)?;
+    Ok(answer.with_document(document))
 }
 
 /// The answer to `networks`.
 pub(crate) fn networks_answer<A: Allocator + Copy>(
     alloc: A,
+    format: Format,
     names: &Names<'_, A>,
     branch: u8,
     database: &Database<A>,
@@ -42,7 +59,15 @@ pub(crate) fn networks_answer<A: Allocator + Copy>(
         answer ≡ networks_answer (called names.now) branch (lists_of database.now)) }
 {
     let lines = network_lines(alloc, database)?;
-    listed(alloc, names, branch, SeeWord::Networks, &lines)
+    listed(
+        alloc,
+        format,
+        names,
+        branch,
+        SeeWord::Networks,
+        "networks",
+        &lines,
+    )
 }
 
 /// The text of `links`.
@@ -65,6 +90,7 @@ fn links_text<A: Allocator + Copy>(
 /// The answer to `links`.
 pub(crate) fn links_answer<A: Allocator + Copy>(
     alloc: A,
+    format: Format,
     names: &Names<'_, A>,
     branch: u8,
     database: &Database<A>,
@@ -83,5 +109,11 @@ pub(crate) fn links_answer<A: Allocator + Copy>(
         None => link_lines(alloc, database, &routers(alloc, database)?)?,
     };
     let text = links_text(alloc, names, branch, router, &lines)?;
-    Ok(Answer::accepted(alloc, text))
+    let answer = Answer::accepted(alloc, text);
+    if format == Format::Text {
+        return Ok(answer);
+    }
+    let mut document = Vec::new(alloc);
+    push_listing(&mut document, "links", &lines)?;
+    Ok(answer.with_document(document))
 }

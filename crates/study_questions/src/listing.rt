@@ -8,7 +8,9 @@ ghost use Rattle.study_questions.specs.Listings.{counted, listed};
 use crate::text::{head, push_number_after};
 use network_names::Names;
 use std::alloc::{AllocError, Allocator};
-use study_answers::Answer;
+use study_answers::{Answer, Format};
+use study_documents::push_listing;
+use study_json::Document;
 use study_text::{Line, push_lines, push_word};
 use study_words::SeeWord;
 
@@ -27,11 +29,13 @@ pub(crate) fn push_counted<T: Line, A: Allocator + Copy>(
 }
 
 /// The answer with some lines to a question that names nothing.
-pub(crate) fn listed<T: Line, A: Allocator + Copy>(
+pub(crate) fn listed<T: Line + Document, A: Allocator + Copy>(
     alloc: A,
+    format: Format,
     names: &Names<'_, A>,
     branch: u8,
     word: SeeWord,
+    key: &str,
     lines: &[T],
 ) -> Result<Answer<A>, AllocError>
     ensures { IfOk result (λ answer. answer
@@ -39,5 +43,11 @@ pub(crate) fn listed<T: Line, A: Allocator + Copy>(
 {
     let mut text = head(alloc, branch, word)?;
     push_counted(&mut text, names, lines)?;
-    Ok(Answer::accepted(alloc, text))
+    let answer = Answer::accepted(alloc, text);
+    if format == Format::Text {
+        return Ok(answer);
+    }
+    let mut document = Vec::new(alloc);
+    push_listing(&mut document, key, lines)?;
+    Ok(answer.with_document(document))
 }

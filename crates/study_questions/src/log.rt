@@ -7,10 +7,12 @@ ghost use Rattle.study_questions.specs.OwnAnswers.{log_answer};
 
 use crate::text::{head, push_number_after};
 use edit_history::Record;
+use edit_script::print;
 use recalculate::Planner;
 use saved_sessions::put_line;
 use std::alloc::{AllocError, Allocator};
-use study_answers::Answer;
+use study_answers::{Answer, Format};
+use study_documents::push_listing;
 use study_text::push_word;
 use study_words::SeeWord;
 
@@ -41,6 +43,7 @@ fn done_records<A: Allocator + Copy>(planner: &Planner<A>) -> &[Record<A>]
 #[tactic(auto, unfolding(crate::specs::OwnAnswers::log_answer))]
 pub(crate) fn log<A: Allocator + Copy>(
     alloc: A,
+    format: Format,
     branch: u8,
     planner: &Planner<A>,
 ) -> Result<Answer<A>, AllocError>
@@ -50,5 +53,15 @@ pub(crate) fn log<A: Allocator + Copy>(
     push_number_after(&mut text, planner.done() as u64)?;
     push_word(&mut text, "\n")?;
     push_edits(alloc, &mut text, done_records(planner))?;
-    Ok(Answer::accepted(alloc, text))
+    let answer = Answer::accepted(alloc, text);
+    if format == Format::Text {
+        return Ok(answer);
+    }
+    let mut lines = Vec::new(alloc);
+    for record in done_records(planner) {
+        lines.push(print(alloc, &record.edit())?)?;
+    }
+    let mut document = Vec::new(alloc);
+    push_listing(&mut document, "lines", &lines)?;
+    Ok(answer.with_document(document))
 }

@@ -18,7 +18,8 @@ use lsdb::Database;
 use network_names::Names;
 use spf::Meter;
 use std::alloc::{AllocError, Allocator};
-use study_answers::{Answer, microloops_of};
+use study_answers::{Answer, Format, microloops_of};
+use study_documents::{push_loops, push_microloops};
 use study_text::{push_lines, push_word};
 use study_words::SeeWord;
 
@@ -48,6 +49,7 @@ fn loops_reply<A: Allocator + Copy>(
 /// The answer to `loops`.
 pub(crate) fn loops_answer<A: Allocator + Copy>(
     alloc: A,
+    format: Format,
     names: &Names<'_, A>,
     branch: u8,
     baseline: &Database<A>,
@@ -58,7 +60,13 @@ pub(crate) fn loops_answer<A: Allocator + Copy>(
 {
     let report = LoopReport::between(alloc, baseline, database, &mut Meter::new())?;
     let text = loops_reply(alloc, names, branch, &report)?;
-    Ok(Answer::accepted(alloc, text))
+    let answer = Answer::accepted(alloc, text);
+    if format == Format::Text {
+        return Ok(answer);
+    }
+    let mut document = Vec::new(alloc);
+    push_loops(&mut document, &report)?;
+    Ok(answer.with_document(document))
 }
 
 /// The text of `microloops`.
@@ -81,6 +89,7 @@ fn microloops_reply<A: Allocator + Copy>(
 /// The answer to `microloops`, by what may loop; there is nothing where fewer edits are done.
 fn microloops_answer<A: Allocator + Copy>(
     alloc: A,
+    format: Format,
     names: &Names<'_, A>,
     branch: u8,
     count: u32,
@@ -92,7 +101,13 @@ fn microloops_answer<A: Allocator + Copy>(
     match loops {
         Some(loops) => {
             let text = microloops_reply(alloc, names, branch, count, &loops)?;
-            Ok(Answer::accepted(alloc, text))
+            let answer = Answer::accepted(alloc, text);
+            if format == Format::Text {
+                return Ok(answer);
+            }
+            let mut document = Vec::new(alloc);
+            push_microloops(&mut document, count, &loops)?;
+            Ok(answer.with_document(document))
         }
         None => Answer::refused(alloc, branch, "U1", "NothingToUndo"),
     }
@@ -101,6 +116,7 @@ fn microloops_answer<A: Allocator + Copy>(
 /// The answer to `microloops`, with the number of edits that the line names. All sessions stay.
 pub(crate) fn microloops<A: Allocator + Copy>(
     alloc: A,
+    format: Format,
     branches: &mut Branches<A>,
     names: &Names<'_, A>,
     branch: u8,
@@ -114,5 +130,5 @@ pub(crate) fn microloops<A: Allocator + Copy>(
 {
     let count = count.unwrap_or(1);
     let loops = microloops_of(alloc, branches, branch, count)?;
-    microloops_answer(alloc, names, branch, count, loops)
+    microloops_answer(alloc, format, names, branch, count, loops)
 }

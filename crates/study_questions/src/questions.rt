@@ -6,6 +6,7 @@ ghost use Rattle.lsdb.specs.Slots.{lists_of};
 ghost use Rattle.branches.specs.Branches.{sessions_of};
 ghost use Rattle.study_questions.specs.Questions.{IsQuestionAnswer};
 
+use crate::audit::audit;
 use crate::changes::{changes_answer, differences_answer, missing_answer};
 use crate::help::help_answer;
 use crate::links::{links_answer, networks_answer, routers_answer};
@@ -16,7 +17,7 @@ use branches::Branches;
 use lsdb::Database;
 use network_names::Names;
 use std::alloc::{AllocError, Allocator};
-use study_answers::{Answer, Missing};
+use study_answers::{Answer, Format, Missing};
 use study_script::Question;
 
 /// The answer to a question in a branch. All sessions stay.
@@ -27,6 +28,7 @@ use study_script::Question;
 #[tactic(auto, unfolding(crate::specs::Questions::IsQuestionAnswer))]
 pub fn question<A: Allocator + Copy>(
     alloc: A,
+    format: Format,
     branches: &mut Branches<A>,
     baseline: &Database<A>,
     names: &Names<'_, A>,
@@ -42,22 +44,41 @@ pub fn question<A: Allocator + Copy>(
     let planner = branches.planner(branch);
     let now = planner.database();
     match *question {
-        Question::Routers => routers_answer(alloc, names, branch, now),
-        Question::Links(router) => links_answer(alloc, names, branch, now, router),
-        Question::Networks => networks_answer(alloc, names, branch, now),
+        Question::Routers => routers_answer(alloc, format, names, branch, now),
+        Question::Links(router) => links_answer(alloc, format, names, branch, now, router),
+        Question::Networks => networks_answer(alloc, format, names, branch, now),
         Question::Routes { router, address } => {
-            routes_answer(alloc, names, branch, now, (router, address))
+            routes_answer(alloc, format, names, branch, now, (router, address))
         }
         Question::Path { router, address } => {
-            path_answer(alloc, names, branch, now, (router, address))
+            path_answer(alloc, format, names, branch, now, (router, address))
         }
-        Question::Changes(router) => { changes_answer(alloc, names, branch, baseline, now, router) }
+        Question::Changes(router) => {
+            changes_answer(alloc, format, names, branch, baseline, now, router)
+        }
         Question::Differences => differences_answer(alloc, names, branch, baseline, now),
-        Question::Lost => missing_answer(alloc, names, branch, baseline, now, Missing::Lost),
-        Question::Gone => missing_answer(alloc, names, branch, baseline, now, Missing::Gone),
-        Question::Loops => loops_answer(alloc, names, branch, baseline, now),
-        Question::Microloops(count) => microloops(alloc, branches, names, branch, count),
-        Question::Log => log(alloc, branch, planner),
-        Question::Help(word) => help_answer(alloc, branch, word),
+        Question::Lost => missing_answer(
+            alloc,
+            format,
+            names,
+            branch,
+            baseline,
+            now,
+            Missing::Lost,
+        ),
+        Question::Gone => missing_answer(
+            alloc,
+            format,
+            names,
+            branch,
+            baseline,
+            now,
+            Missing::Gone,
+        ),
+        Question::Loops => loops_answer(alloc, format, names, branch, baseline, now),
+        Question::Microloops(count) => microloops(alloc, format, branches, names, branch, count),
+        Question::Audit(kind) => audit(alloc, names, branches, branch, kind),
+        Question::Log => log(alloc, format, branch, planner),
+        Question::Help(word) => help_answer(alloc, format, branch, word),
     }
 }

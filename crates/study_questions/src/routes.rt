@@ -16,7 +16,8 @@ use route_lines::{Path, RouteLine, push_ends, push_path};
 use route_report::{path_of, routes_of};
 use spf::Meter;
 use std::alloc::{AllocError, Allocator};
-use study_answers::{Answer, is_attached, no_router};
+use study_answers::{Answer, Format, is_attached, no_router};
+use study_documents::{push_path as push_path_members, push_routes};
 use study_text::push_word;
 use study_words::SeeWord;
 
@@ -42,6 +43,7 @@ fn routes_reply<A: Allocator + Copy>(
 /// The answer to `routes`.
 pub(crate) fn routes_answer<A: Allocator + Copy>(
     alloc: A,
+    format: Format,
     names: &Names<'_, A>,
     branch: u8,
     database: &Database<A>,
@@ -56,7 +58,13 @@ pub(crate) fn routes_answer<A: Allocator + Copy>(
     }
     let lines = routes_of(alloc, database, router, address, &mut Meter::new())?;
     let text = routes_reply(alloc, names, branch, place, &lines)?;
-    Ok(Answer::accepted(alloc, text))
+    let answer = Answer::accepted(alloc, text);
+    if format == Format::Text {
+        return Ok(answer);
+    }
+    let mut document = Vec::new(alloc);
+    push_routes(&mut document, place, &lines)?;
+    Ok(answer.with_document(document))
 }
 
 /// The text of `path`.
@@ -85,6 +93,7 @@ fn path_reply<A: Allocator + Copy>(
 /// The answer to `path`.
 pub(crate) fn path_answer<A: Allocator + Copy>(
     alloc: A,
+    format: Format,
     names: &Names<'_, A>,
     branch: u8,
     database: &Database<A>,
@@ -99,5 +108,11 @@ pub(crate) fn path_answer<A: Allocator + Copy>(
     }
     let path = path_of(alloc, database, router, address, &mut Meter::new())?;
     let text = path_reply(alloc, names, branch, place, &path)?;
-    Ok(Answer::accepted(alloc, text))
+    let answer = Answer::accepted(alloc, text);
+    if format == Format::Text {
+        return Ok(answer);
+    }
+    let mut document = Vec::new(alloc);
+    push_path_members(&mut document, place, &path)?;
+    Ok(answer.with_document(document))
 }

@@ -6,6 +6,8 @@
 #![tactic(auto)]
 
 // Commands.
+mod compared;
+mod front;
 mod link_edit;
 mod named;
 mod plan;

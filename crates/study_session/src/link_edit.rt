@@ -9,6 +9,7 @@ use link_report::{LinkLine, push_link, push_link_name};
 use lsa_codec::{AreaId, RouterId};
 use network_names::Names;
 use std::alloc::{AllocError, Allocator};
+use study_documents::{push_cost, push_single};
 use study_text::{push_number, push_word};
 
 /// How a link is edited.
@@ -80,4 +81,19 @@ pub(crate) fn change_text<A: Allocator + Copy>(
         edit.push_to(&mut text, names, line)?;
     }
     Ok(text)
+}
+
+/// The members of the document of an edit of a link, if it is there.
+pub(crate) fn change_document<A: Allocator + Copy>(
+    alloc: A,
+    edit: LinkEdit,
+    line: Option<&LinkLine<A>>,
+) -> Result<Vec<u8, A>, AllocError> {
+    let mut document = Vec::new(alloc);
+    match (edit, line) {
+        (LinkEdit::Cost(metric), Some(line)) => push_cost(&mut document, line, metric)?,
+        (LinkEdit::Drop, Some(line)) => push_single(&mut document, "link", line)?,
+        (_, None) => {}
+    }
+    Ok(document)
 }

@@ -7,7 +7,7 @@ ghost use Rattle.network_names.specs.Names.{called};
 ghost use Rattle.branches.specs.Branches.{sessions_of};
 ghost use Rattle.study_session.specs.NamedCommands.{change_text, link_answer, link_stepped, named_answer, named_number, named_stepped, number_found, one_of};
 
-use crate::link_edit::{LinkEdit, change_text};
+use crate::link_edit::{LinkEdit, change_document, change_text};
 use crate::plan::{changing, plan};
 use branches::Branches;
 use link_report::{link_line_at, link_numbers, router_lsa_of_any_age};
@@ -15,7 +15,7 @@ use lsa_codec::{AreaId, RouterId};
 use network_names::Names;
 use recalculate::Planner;
 use std::alloc::{AllocError, Allocator};
-use study_answers::Answer;
+use study_answers::{Answer, Format};
 use study_arguments::LinkName;
 use study_script::NamedCommand;
 
@@ -83,7 +83,7 @@ fn found<A: Allocator + Copy>(
     names: &Names<'_, A>,
     place: (AreaId, RouterId, LinkName),
     edit: LinkEdit,
-) -> Result<Option<(u16, Vec<u8, A>)>, AllocError>
+) -> Result<Option<(u16, Vec<u8, A>, Vec<u8, A>)>, AllocError>
     ensures number { IfOk result (λ found. option_map (λ f. f.0) found
         ≡ named_number planner.now.session place.0 place.1 place.2) }
     ensures change { IfOk result (λ found. IfSome found (λ f. f.1.items
@@ -96,13 +96,15 @@ fn found<A: Allocator + Copy>(
     };
     let line = link_line_at(alloc, planner.database(), area, router, number)?;
     let change = change_text(alloc, names, edit, line.as_ref())?;
-    Ok(Some((number, change)))
+    let document = change_document(alloc, edit, line.as_ref())?;
+    Ok(Some((number, change, document)))
 }
 
 /// Carries out an edit of a link that is named, and says what it changed; refused where several
 /// links are named.
 fn edit_link<A: Allocator + Copy>(
     alloc: A,
+    format: Format,
     branches: &mut Branches<A>,
     names: &Names<'_, A>,
     branch: u8,
@@ -121,9 +123,9 @@ fn edit_link<A: Allocator + Copy>(
     let (area, router, _) = place;
     branches.prepare(branch)?;
     match found(alloc, branches.planner(branch), names, place, edit)? {
-        Some((number, change)) => {
+        Some((number, change, document)) => {
             let command = edit.command(area, router, number);
-            changing(alloc, branches, branch, &command, &change)
+            changing(alloc, format, branches, branch, &command, &change, document)
         }
         None => Answer::refused(alloc, branch, "E14", "ManyLinks"),
     }
@@ -133,6 +135,7 @@ fn edit_link<A: Allocator + Copy>(
 #[tactic(auto, unfolding(crate::specs::NamedCommands::named_answer, crate::specs::NamedCommands::named_stepped))]
 pub(crate) fn named<A: Allocator + Copy>(
     alloc: A,
+    format: Format,
     branches: &mut Branches<A>,
     names: &Names<'_, A>,
     branch: u8,
@@ -145,7 +148,7 @@ pub(crate) fn named<A: Allocator + Copy>(
         ≡ named_stepped branch command.now (sessions_of branches.old)) }
 {
     match *command {
-        NamedCommand::Command(command) => plan(alloc, branches, branch, &command),
+        NamedCommand::Command(command) => plan(alloc, format, branches, branch, &command),
         NamedCommand::Cost {
             area,
             router,
@@ -155,6 +158,7 @@ pub(crate) fn named<A: Allocator + Copy>(
             let place = (area, router, link);
             edit_link(
                 alloc,
+                format,
                 branches,
                 names,
                 branch,
@@ -164,7 +168,15 @@ pub(crate) fn named<A: Allocator + Copy>(
         }
         NamedCommand::DropLink { area, router, link } => {
             let place = (area, router, link);
-            edit_link(alloc, branches, names, branch, place, LinkEdit::Drop)
+            edit_link(
+                alloc,
+                format,
+                branches,
+                names,
+                branch,
+                place,
+                LinkEdit::Drop,
+            )
         }
     }
 }

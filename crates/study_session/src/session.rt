@@ -7,13 +7,14 @@ ghost use Rattle.study_script.specs.Line.{asked};
 ghost use Rattle.study_session.specs.Studies.{database_in, study_by, study_of};
 ghost use Rattle.study_session.specs.Lines.{IsAnswerIn, IsAnswerTo, after_line, sessions_in};
 
+use crate::front::with_front;
 use crate::named::named;
 use crate::plan::plan;
 use branches::Branches;
 use lsdb::Database;
 use network_names::Names;
 use std::alloc::{AllocError, Allocator, Global};
-use study_answers::Answer;
+use study_answers::{Answer, Format};
 use study_arguments::ParseError;
 use study_expectations::expectation;
 use study_questions::question;
@@ -26,11 +27,13 @@ pub struct StudySession<'n, A: Allocator = Global> {
     branches: Branches<A>,
     baseline: Database<A>,
     names: Names<'n, A>,
+    format: Format,
 }
 
 /// Carries out what a line asks for in a branch.
 fn carry_out<A: Allocator + Copy>(
     alloc: A,
+    format: Format,
     branches: &mut Branches<A>,
     baseline: &Database<A>,
     names: &Names<'_, A>,
@@ -45,9 +48,11 @@ fn carry_out<A: Allocator + Copy>(
         ≡ sessions_in branch (asked command.now) (sessions_of branches.old)) }
 {
     match command {
-        StudyCommand::Plan(command) => plan(alloc, branches, branch, command),
-        StudyCommand::Named(command) => named(alloc, branches, names, branch, command),
-        StudyCommand::See(asked) => question(alloc, branches, baseline, names, branch, asked),
+        StudyCommand::Plan(command) => plan(alloc, format, branches, branch, command),
+        StudyCommand::Named(command) => named(alloc, format, branches, names, branch, command),
+        StudyCommand::See(asked) => question(
+            alloc, format, branches, baseline, names, branch, asked,
+        ),
         StudyCommand::Expect(what) => expectation(alloc, branches, baseline, names, branch, what),
     }
 }
@@ -59,6 +64,7 @@ impl<'n, A: Allocator + Copy> StudySession<'n, A> {
         branches: Branches<A>,
         baseline: Database<A>,
         names: Names<'n, A>,
+        format: Format,
     ) -> StudySession<'n, A>
         ensures { study_of result ≡ study_by (sessions_of branches) baseline names.entry }
     {
@@ -66,6 +72,7 @@ impl<'n, A: Allocator + Copy> StudySession<'n, A> {
             branches,
             baseline,
             names,
+            format,
         }
     }
 
@@ -84,8 +91,12 @@ impl<'n, A: Allocator + Copy> StudySession<'n, A> {
             Ok(None) => Ok(None),
             Ok(Some((branch, command))) => {
                 let (branches, baseline, names) = (&mut self.branches, &self.baseline, &self.names);
-                let answer = carry_out(alloc, branches, baseline, names, branch, &command)?;
-                Ok(Some(answer))
+                let format = self.format;
+                let answer = carry_out(alloc, format, branches, baseline, names, branch, &command)?;
+                if format == Format::Text {
+                    return Ok(Some(answer));
+                }
+                Ok(Some(with_front(alloc, answer, branch, line)?))
             }
             Err(ParseError::Fault(fault)) => {
                 Ok(Some(Answer::faulty(alloc, &self.names, line, fault)?))

@@ -19,6 +19,7 @@ use network_names::{Names, NamesError, read_names};
 use recalculate::Planner;
 use saved_sessions::open;
 use std::alloc::Allocator;
+use study_answers::Format;
 use study_session::StudySession;
 
 /// Opens the dump.
@@ -105,6 +106,7 @@ fn names_text<A: Allocator>(names: &Option<Vec<u8, A>>) -> &[u8]
 pub(crate) fn load<'t, A: Allocator + Copy>(
     alloc: A,
     texts: &'t Texts<'_, A>,
+    format: Format,
 ) -> Result<StudySession<'t, A>, RunFault<A>>
     ensures begins { IfOk result (λ session. Begins (given_in texts.now) (study_of session)) }
     ensures end { IfErr result (MayEndRun (given_in texts.now)) }
@@ -113,5 +115,6 @@ pub(crate) fn load<'t, A: Allocator + Copy>(
     let mut planner = open_dump(alloc, &texts.dump)?;
     let baseline = baseline_of(alloc, &mut planner, &texts.baseline)?;
     let names = load_names(alloc, names_text(&texts.names))?;
-    Ok(StudySession::new(Branches::resume(alloc, planner), baseline, names))
+    let branches = Branches::resume(alloc, planner);
+    Ok(StudySession::new(branches, baseline, names, format))
 }

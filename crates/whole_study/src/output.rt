@@ -15,7 +15,8 @@ use crate::summary::{Summary, summary_line};
 use host_io::{Watched, WriteFault, write_and_flush, write_whole};
 use std::alloc::{AllocError, Allocator};
 use std::io::Write;
-use study_answers::{Answer, Outcome};
+use study_answers::{Answer, Format, Outcome};
+use study_documents::push_place;
 use study_text::push_number;
 
 /// The writers of a run.
@@ -25,6 +26,8 @@ pub struct Output<W, E> {
     pub replies: Watched<W>,
     /// Where a line goes for each line that is not accepted.
     pub errors: Watched<E>,
+    /// How replies are written.
+    pub format: Format,
 }
 
 /// A line of a study.
@@ -77,6 +80,38 @@ fn flush<W: Write>(writer: &mut Watched<W>) -> Result<(), WriteFault>
     writer.flush().map_err(|_| WriteFault)
 }
 
+/// The JSON document of a line, with the end of the line: its place, and what it is answered.
+fn document_text<A: Allocator + Copy>(
+    alloc: A,
+    line: Line<'_>,
+    answer: &Answer<A>,
+) -> Result<Vec<u8, A>, AllocError> {
+    let mut text = Vec::new(alloc);
+    push_place(&mut text, line.file, line.number)?;
+    text.extend_from_slice(&answer.document)?;
+    text.push(b'\n')?;
+    Ok(text)
+}
+
+/// Writes the reply to a line.
+fn write_reply<A: Allocator + Copy, W: Write, E: Write>(
+    alloc: A,
+    line: Line<'_>,
+    answer: &Answer<A>,
+    output: &mut Output<W, E>,
+) -> Result<(), RunFault<A>>
+    requires { has_writer_failed output.old ≡ false }
+{
+    match output.format {
+        Format::Text => write_whole(&mut output.replies, answer.text.as_slice())?,
+        Format::Json => {
+            let text = document_text(alloc, line, answer)?;
+            write_whole(&mut output.replies, text.as_slice())?;
+        }
+    }
+    Ok(())
+}
+
 /// Writes the reply to a line, and where the line is not accepted the line for standard error,
 /// before which the replies are flushed.
 pub(crate) fn write_answer<A: Allocator + Copy, W: Write, E: Write>(
@@ -100,7 +135,7 @@ pub(crate) fn write_answer<A: Allocator + Copy, W: Write, E: Write>(
     ensures ended { IfErr result MayEndWriting }
     ensures order { has_failed output.new.errors ≡ true → is_flushed output.new.replies ≡ true }
 {
-    write_whole(&mut output.replies, answer.text.as_slice())?;
+    write_reply(alloc, line, answer, output)?;
     if was_accepted(answer.outcome) {
         return Ok(());
     }
@@ -149,7 +184,7 @@ pub(crate) fn write_summary<A: Allocator + Copy, W: Write, E: Write>(
     ensures ended { IfErr result MayEndWriting }
     ensures flushed { OnOk result (is_flushed output.new.replies ≡ true) }
 {
-    let text = summary_line(alloc, summary)?;
+    let text = summary_line(alloc, output.format, summary)?;
     write_and_flush(&mut output.replies, text.as_slice())?;
     Ok(())
 }

@@ -88,7 +88,7 @@ pub fn run<A: Allocator + Copy, R: Read, S: Read, W: Write, E: Write>(
     ensures order { has_failed output.new.errors ≡ true → is_flushed output.new.replies ≡ true }
 {
     let texts = read_all(alloc, files, studies)?;
-    let mut session = load(alloc, &texts)?;
+    let mut session = load(alloc, &texts, output.format)?;
     run_studies(alloc, manner, &mut session, &texts.studies, output)
 }
 

@@ -6,7 +6,8 @@ ghost use Rattle.whole_study.specs.Run.{Answered, counts_text, has_passed, resul
 ghost use Rattle.whole_study.specs.steps.Counting.{Grows, HasRoom};
 
 use std::alloc::{AllocError, Allocator};
-use study_answers::{Answer, Outcome};
+use study_answers::{Answer, Format, Outcome};
+use study_documents::{Counted, push_summary};
 use study_text::push_number;
 
 /// How many lines had an answer, and what became of them.
@@ -94,14 +95,31 @@ fn push_counts<A: Allocator + Copy>(
     push_count(text, " failed ", summary.failed)
 }
 
+/// What the last document of a run counts.
+fn counted(summary: &Summary) -> Counted {
+    Counted {
+        has_passed: summary.has_passed(),
+        lines: summary.lines,
+        refused: summary.refused,
+        expectations: summary.expectations,
+        failed: summary.failed,
+    }
+}
+
 /// The last line of a run: `study RESULT lines N refused N expectations N failed N`.
 pub(crate) fn summary_line<A: Allocator + Copy>(
     alloc: A,
+    format: Format,
     summary: &Summary,
 ) -> Result<Vec<u8, A>, AllocError>
     ensures { IfOk result (λ text. text.items ≡ summary_text summary.now) }
 {
     let mut text = Vec::new(alloc);
+    if format == Format::Json {
+        push_summary(&mut text, counted(summary))?;
+        text.push(b'\n')?;
+        return Ok(text);
+    }
     text.extend_from_slice(b"study ")?;
     text.extend_from_slice(result_word(summary.has_passed()).as_bytes())?;
     push_counts(&mut text, summary)?;

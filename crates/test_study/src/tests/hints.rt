@@ -113,6 +113,12 @@ const LINES: &[(&str, &str)] = &[
     ),
     ("help rout", "script S9 BadWord rout (did you mean routers)"),
     ("help 1", "script S9 BadWord 1 (see help)"),
+    ("audit nasa", "script S9 BadWord nasa (did you mean nssa)"),
+    ("audit 1", "script S9 BadWord 1 (see help)"),
+    (
+        "audit nssa opaque",
+        "script S4 ExtraWord opaque (audit [KIND])",
+    ),
     (
         "expect",
         "script S3 MissingWord expect (expect [not] CONDITION)",
@@ -128,7 +134,7 @@ const LINES: &[(&str, &str)] = &[
     (
         "expect xyz",
         "script S2 UnknownWord xyz (one of route no-route hops path lost gone loops microloops \
-         blackholes same changes)",
+         blackholes same changes audit)",
     ),
     (
         "expect route r1",
@@ -176,6 +182,19 @@ const LINES: &[(&str, &str)] = &[
         "script S9 BadWord no (one of none <= only)",
     ),
     ("expect changes none", "script S9 BadWord none (<=)"),
+    (
+        "expect audit",
+        "script S3 MissingWord audit (expect audit clean | only KIND..)",
+    ),
+    (
+        "expect audit nssa",
+        "script S9 BadWord nssa (one of clean only)",
+    ),
+    (
+        "expect audit only nssa rfc158",
+        "script S9 BadWord rfc158 (did you mean rfc1583)",
+    ),
+    ("expect audit only 1", "script S9 BadWord 1 (see help)"),
     (
         "expect microloops 1x none",
         "script S5 BadNumber 1x (COUNT is 0 to 4294967295)",

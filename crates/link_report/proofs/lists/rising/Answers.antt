@@ -2,7 +2,7 @@ use Rattle.std.proofs.Common.{◌-◌, ◌∙◌, arith}
 use Rattle.std.proofs.lemmas.Iterator.{items_from_collect}
 use Rattle.std.proofs.lemmas.Iterator.Consumers.{YieldsList-from_rest}
 use Rattle.std.proofs.lemmas.Result.{IfOk-weaker}
-use Rattle.link_report.proofs.RisingLists.{rising_all, rising_more}
+use Rattle.link_report.proofs.Rising.{rising_all, rising_more}
 use Rattle.link_report.proofs.lists.rising.Goals as goal
 
 pub loop-i-preserved : goal.loop-i-preserved

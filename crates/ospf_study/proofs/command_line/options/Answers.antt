@@ -6,9 +6,9 @@ use Rattle.ospf_study.proofs.command_line.options.Goals as goal
 
 pub returns-clause-given : goal.returns-clause-given
 returns-clause-given c =
-    IsGiven-from_read _ c.in_ok-matches.matches _
-    (matches_by ospf_study _ (map string_bytes c.args.words.now) c.in_ok-matches.matches c.in_ok-command.ensures c.in_ok-matches.ensures.matches)
+    IsGiven-from_read _ _ c.in_ok-matches.matches _
+    (matches_by (ospf_study _) _ (map string_bytes c.args.words.now) c.in_ok-matches.matches c.in_ok-command.ensures c.in_ok-matches.ensures.matches)
     c.in_ok-named_files.ensures
 
 pub returns-clause-accepted : goal.returns-clause-accepted
-returns-clause-accepted c = no_fault_by ospf_study _ (map string_bytes c.args.words.now) c.in_ok-command.ensures c.in_ok-matches.ensures.kinds refl
+returns-clause-accepted c = no_fault_by (ospf_study _) _ (map string_bytes c.args.words.now) c.in_ok-command.ensures c.in_ok-matches.ensures.kinds refl

@@ -42,6 +42,6 @@ returns-in-Path g c = λ s at.
     (λ called baseline db verdict. IsPathVerdict called baseline db c.in-Path.router c.in-Path.address c.in-Path.passing verdict)
     c.in-Path.is at (λ verdict is. is) c.path.ensures
 
-pub unreachable-requires : goal.unreachable-requires
-unreachable-requires g c =
+pub prove-unreachable-requires : goal.prove-unreachable-requires
+prove-unreachable-requires g c =
     one_of_four c.args.condition.now c.requires c.in_default.not-Route c.in_default.not-NoRoute c.in_default.not-Hops c.in_default.not-Path

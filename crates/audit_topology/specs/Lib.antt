@@ -1,0 +1,4 @@
+pub mod RouterTests
+pub mod Backbone
+pub mod Parts
+pub mod Networks

@@ -1,0 +1,4 @@
+pub mod Documents
+pub mod Replies
+pub mod Outcomes
+pub mod Summary
