@@ -13,7 +13,3 @@ pub mod WaysBack
 pub mod LoopLists
 pub mod OffLoops
 pub mod TableRoutes
-pub mod Insertions
-pub mod SameWalkLemmas
-pub mod PartKnown
-pub mod OnTheWayLemmas

@@ -17,14 +17,11 @@ ids_of : (db : Lists) (routers : List RouterId) → map (λ (r : RouterValue). r
 ids_of db [] = refl
 ids_of db (router ∷ routers) = ap (λ (rs : List RouterId). router ∷ rs) (ids_of db routers)
 
-pub sorted_attached : (db : Lists) → IsStrictlySortedBy router_cmp (attached_routers db)
-sorted_attached db = sorted_rising router_total (filter_map live_router (area_lsas db))
-
 pub sorted_routers : (db : Lists) (rs : List RouterValue) → rs ≡ routers_of db → IsStrictlySortedBy router_cmp (map (λ (r : RouterValue). r.router) rs)
 sorted_routers db rs is =
     subst (λ (xs : List RouterId). IsStrictlySortedBy router_cmp xs)
     (sym (ap (λ (xs : List RouterValue). map (λ (r : RouterValue). r.router) xs) is ∙ ids_of db (attached_routers db)))
-    (sorted_attached db)
+    (sorted_rising router_total (filter_map live_router (area_lsas db)))
 
 -- ---- one router more
 

@@ -63,19 +63,6 @@ module _ (graph : List StepValue) where
   abbrev pub next_in : RouterId → List RouterId
   next_in router = routers_over (ways_at router)
 
--- ---- on the way of packets
-
--- what is calculated of a database for the packets from a router to an address: the graphs of its areas, and what the entries
--- come from of each router that walks reach
-pub record IsForwardingFrom (db : Lists) (start : RouterId) (address : Addr) (forwarding : ForwardingValue) : Type 0 where
-  pub graphs : AreGraphsOf db forwarding.graphs
-  pub reached : (router : RouterId) → Reaches (next_in (graph_of db address)) start router
-      → routes_at forwarding.routers router ≡ routes_at (routers_of db) router
-
--- the forwarding graph of an address, of these routers alone
-abbrev pub graph_over : Lists → Addr → List RouterValue → List StepValue
-graph_over db address routers = map (step_of db address) routers
-
 -- ---- how walks end
 
 -- packets are delivered: on a network of the router itself

@@ -12,7 +12,6 @@ ghost use Rattle.forwarding.specs.Owners.{AreGraphsOf};
 use crate::area_graphs::AreaGraphs;
 use crate::graph::{ForwardingGraph, RouterStep};
 use crate::router_routes::RouterRoutes;
-use crate::table_basis::TableBasis;
 use lsa_codec::{Addr, RouterId};
 use lsdb::Database;
 use routing_table::routers;
@@ -24,8 +23,8 @@ use std::marker::Model;
 /// attached router its table and the external prefixes that it announces.
 #[derive(Drop)]
 pub struct Forwarding<A: Allocator = Global> {
-    pub(crate) graphs: AreaGraphs<A>,
-    pub(crate) routers: Vec<RouterRoutes<A>, A>,
+    graphs: AreaGraphs<A>,
+    routers: Vec<RouterRoutes<A>, A>,
 }
 
 impl<A: Allocator> Model for Forwarding<A> {
@@ -42,7 +41,7 @@ impl<A: Allocator> Model for Forwarding<A> {
 }
 
 /// A router and its match of an address.
-pub(crate) fn step_of<A: Allocator + Copy>(
+fn step_of<A: Allocator + Copy>(
     alloc: A,
     graphs: &AreaGraphs<A>,
     routes: &RouterRoutes<A>,
@@ -75,10 +74,9 @@ impl<A: Allocator + Copy> Forwarding<A> {
     {
         let graphs = AreaGraphs::of(alloc, database)?;
         let attached = routers(alloc, database)?;
-        let mut basis = TableBasis::new(alloc);
         let mut routers = Vec::new(alloc);
         for router in &attached {
-            routers.push(RouterRoutes::over(alloc, database, *router, &mut basis, meter)?)?;
+            routers.push(RouterRoutes::of(alloc, database, *router, meter)?)?;
         }
         Ok(Forwarding { graphs, routers })
     }

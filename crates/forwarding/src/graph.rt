@@ -34,7 +34,7 @@ impl<A: Allocator> Model for RouterStep<A> {
 /// router to those that the ways of its match lead to. Contracts see it as the list of routers.
 #[derive(Drop)]
 pub struct ForwardingGraph<A: Allocator = Global> {
-    pub(crate) steps: Vec<RouterStep<A>, A>,
+    steps: Vec<RouterStep<A>, A>,
 }
 
 impl<A: Allocator> Model for ForwardingGraph<A> {

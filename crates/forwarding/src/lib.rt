@@ -22,7 +22,6 @@ mod ways;
 mod entry;
 mod own_externals;
 mod router_routes;
-mod table_basis;
 
 // Forwarding graphs and walks in them.
 mod ends;
@@ -30,7 +29,6 @@ mod forwarding;
 mod graph;
 mod loop_free;
 mod loops;
-mod on_the_way;
 mod reached;
 
 // What holds of the definitions.

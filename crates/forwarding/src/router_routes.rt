@@ -5,19 +5,17 @@ ghost use Rattle.std.specs.Option.{option_copied, option_map_or};
 ghost use Rattle.std.specs.List.{list_any};
 ghost use Rattle.lsdb.specs.Lists.{Lists};
 ghost use Rattle.lsdb.specs.Slots.{lists_of};
-ghost use Rattle.forwarding.specs.Matches.{entry_for, is_intra, is_own_hop, is_own_network, match_of, router_in};
-ghost use Rattle.forwarding.specs.steps.Bases.{IsBasisOf};
+ghost use Rattle.forwarding.specs.Matches.{entry_for, is_intra, is_own_hop, is_own_network, match_of, router_in, routes_in};
 ghost use Rattle.forwarding.specs.Owners.{AreGraphsOf};
 
 use crate::area_graphs::AreaGraphs;
 use crate::entry::Match;
 use crate::own_externals::own_externals;
-use crate::table_basis::TableBasis;
 use area_routes::{PathType, Route, Routes};
 use lsa_codec::{Addr, Prefix, RouterId};
 use lsdb::Database;
 use next_hops::Hop;
-use routing_table::Table;
+use routing_table::{Table, TableFault, table_of};
 use spf::Meter;
 use std::alloc::{AllocError, Allocator, Global};
 use std::collections::BTreeSet;
@@ -69,6 +67,24 @@ fn is_own_network<A: Allocator + Copy>(route: Option<&Route<A>>) -> bool
     }
 }
 
+/// The table of a router, without routes where it is attached to no area.
+fn table_or_empty<A: Allocator + Copy>(
+    alloc: A,
+    database: &Database<A>,
+    router: RouterId,
+    meter: &mut Meter,
+) -> Result<Table<A>, AllocError>
+    ensures router { IfOk result (λ table. table.router ≡ router) }
+    ensures routes { IfOk result
+        (λ table. table.routes ≡ routes_in (lists_of database.now) router) }
+{
+    match table_of(alloc, database, router, meter) {
+        Ok(table) => Ok(table),
+        Err(TableFault::NoRouter) => Ok(Table::empty(alloc, router)),
+        Err(TableFault::OutOfMemory) => Err(AllocError),
+    }
+}
+
 impl<A: Allocator + Copy> RouterRoutes<A> {
     /// The table of a router in a database, which is without routes where the router is attached to
     /// no area, and the prefixes of its own AS-external-LSAs. The meter counts the trees.
@@ -84,22 +100,7 @@ impl<A: Allocator + Copy> RouterRoutes<A> {
     ) -> Result<RouterRoutes<A>, AllocError>
         ensures { IfOk result (λ routes. routes ≡ router_in (lists_of database.now) router) }
     {
-        RouterRoutes::over(alloc, database, router, &mut TableBasis::new(alloc), meter)
-    }
-
-    /// The same over what other tables of the database were calculated from.
-    pub(crate) fn over(
-        alloc: A,
-        database: &Database<A>,
-        router: RouterId,
-        basis: &mut TableBasis<A>,
-        meter: &mut Meter,
-    ) -> Result<RouterRoutes<A>, AllocError>
-        requires { IsBasisOf (lists_of database.now) basis.old }
-        ensures routes { IfOk result (λ routes. routes ≡ router_in (lists_of database.now) router) }
-        ensures basis { IsBasisOf (lists_of database.now) basis.new }
-    {
-        let table = basis.table_or_empty(alloc, database, router, meter)?;
+        let table = table_or_empty(alloc, database, router, meter)?;
         let own = own_externals(alloc, database, router)?;
         Ok(RouterRoutes { table, own })
     }

@@ -13,8 +13,8 @@ use either::{Either, Left, Right};
 use host_io::{ReplaceFault, Watched, replace_file};
 use std::alloc::Alloc;
 use std::fs::{self, File, Files};
-use std::io::{self, BufWriter, Input, Read, Write};
-use whole_study::{Ended, Manner, Output, RunFault, RunFiles, StudyFile, run};
+use std::io::{self, BufWriter, Input, IsTerminal, Read, Write};
+use whole_study::{Ended, Manner, Output, RunFault, RunFiles, StudyFile, Terminal, converse, run};
 
 /// A folder that is there on every system.
 const ROOT: &str = "/";
@@ -34,6 +34,9 @@ pub(crate) fn run_files<'a>(
     let _place = fs::open(rt, ROOT);
     let mut files = open_inputs(rt, options)?;
     let names = options.studies.as_slice();
+    if are_typed(names) && rt.stdin().is_terminal() {
+        return converse_with(rt, options, &mut files);
+    }
     let mut studies = if names.is_empty() {
         standard_input(rt)?
     } else {
@@ -102,10 +105,10 @@ fn standard_input<'a, 'n, H: Files + Input + Alloc>(
 }
 
 /// Opens the studies, or standard input in place of one.
-fn open_studies<'a, 'n, H: Files + Input + Alloc>(
+fn open_studies<'a, H: Files + Input + Alloc>(
     rt: &H,
-    names: &[&'n str],
-) -> Result<Vec<StudyFile<'n, Either<H::File, H::Reader>>, H::A>, ExitFault<'a>>
+    names: &[&'a str],
+) -> Result<Vec<StudyFile<'a, Either<H::File, H::Reader>>, H::A>, ExitFault<'a>>
     ensures { IfOk result
         (λ studies. All (λ study. has_failed study.reader ≡ false) studies.items) }
 {
@@ -124,14 +127,16 @@ fn open_studies<'a, 'n, H: Files + Input + Alloc>(
 /// Opens a study, or standard input.
 fn open_study<'a, H: Files + Input>(
     rt: &H,
-    name: &str,
-) -> Result<Either<H::File, H::Reader>, ExitFault<'a>> {
+    name: &'a str,
+) -> Result<Either<H::File, H::Reader>, ExitFault<'a>>
+    ensures { IfErr result (λ fault. fault ≡ ExitFault.OpenStudy name.entry) }
+{
     if name == STANDARD_INPUT {
         return Ok(Right(rt.reader()));
     }
     match fs::open(rt, name) {
         Ok(file) => Ok(Left(file)),
-        Err(_) => Err(ExitFault::Open(FileArg::Study)),
+        Err(_) => Err(ExitFault::OpenStudy(name)),
     }
 }
 
@@ -150,6 +155,7 @@ fn run_studies<'a, S: Read + Drop>(
     let manner = Manner {
         keep_going: options.keep_going,
         wants_dump: options.out.is_some(),
+        is_verbose: options.verbose,
     };
     let stderr = rt.stderr();
     let mut output = Output {
@@ -158,6 +164,48 @@ fn run_studies<'a, S: Read + Drop>(
     };
     let names = options.names.unwrap_or("");
     match run(rt.alloc(), manner, files, studies, &mut output) {
+        Ok(ended) => {
+            write_out(rt, options.out, &ended)?;
+            Ok(ended.summary.has_passed())
+        }
+        Err(fault) => Err(ExitFault::Run(names, fault)),
+    }
+}
+
+/// Whether the only study is standard input.
+fn are_typed(names: &[&str]) -> bool {
+    match names {
+        [] => true,
+        [name] => *name == STANDARD_INPUT,
+        _ => false,
+    }
+}
+
+/// Answers the lines that are typed at a terminal, one after another. Replies and prompts go to
+/// standard output.
+fn converse_with<'a>(
+    rt: &HostRuntime,
+    options: &Options<'a>,
+    files: &mut RunFiles<File>,
+) -> Result<bool, ExitFault<'a>>
+    requires { has_file_failed files.old ≡ false }
+{
+    let manner = Manner {
+        keep_going: true,
+        wants_dump: options.out.is_some(),
+        is_verbose: options.verbose,
+    };
+    let mut terminal = Terminal {
+        input: Watched::new(rt.reader()),
+        prompts: Watched::new(io::writer(rt)),
+    };
+    let stderr = rt.stderr();
+    let mut output = Output {
+        replies: Watched::new(buffered(rt, io::writer(rt))?),
+        errors: Watched::new(io::writer(&stderr)),
+    };
+    let names = options.names.unwrap_or("");
+    match converse(rt.alloc(), manner, files, &mut terminal, &mut output) {
         Ok(ended) => {
             write_out(rt, options.out, &ended)?;
             Ok(ended.summary.has_passed())

@@ -2,4 +2,3 @@ pub mod Deciding
 pub mod Finding
 pub mod Grown
 pub mod SureSteps
-pub mod OnTheWay

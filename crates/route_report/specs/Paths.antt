@@ -21,13 +21,12 @@ use Rattle.route_report.specs.StepsOver.{step_down, step_out, step_over}
 
 -- ---- a router
 
--- where the entry of a router for a prefix comes from
+-- where the entry of an attached router for a prefix comes from
 abbrev pub source_by : Lists → Net → RouterValue → Option RouteSource
 source_by db net r = option_map (source_of db r.router net) (entry_for r net)
 
--- where that of one of these routers does
-abbrev pub source_in : Lists → List RouterValue → RouterId → Net → Option RouteSource
-source_in db routers router net = option_and_then (source_by db net) (routes_at routers router)
+abbrev pub source_in : Lists → RouterId → Net → Option RouteSource
+source_in db router net = option_and_then (source_by db net) (routes_at (routers_of db) router)
 
 -- the steps by a match, whose entry comes from here
 abbrev pub steps_over : Lists → RouterId → MatchValue → Option RouteSource → List PathStep
@@ -36,16 +35,16 @@ steps_over db router found (Some source) =
     if found.is_own then step_out router found.net source ∷ [] else map (step_over db router found.net source) found.ways
 
 -- the steps of a router
-abbrev pub steps_by : Lists → List RouterValue → RouterId → Option MatchValue → List PathStep
-steps_by db routers router None = step_down router ∷ []
-steps_by db routers router (Some found) = steps_over db router found (source_in db routers router found.net)
+abbrev pub steps_by : Lists → RouterId → Option MatchValue → List PathStep
+steps_by db router None = step_down router ∷ []
+steps_by db router (Some found) = steps_over db router found (source_in db router found.net)
 
-abbrev pub steps_of : Lists → List RouterValue → StepValue → List PathStep
-steps_of db routers step = steps_by db routers step.router step.matched
+abbrev pub steps_of : Lists → StepValue → List PathStep
+steps_of db step = steps_by db step.router step.matched
 
 -- those of a router of a forwarding graph
-abbrev pub steps_in : Lists → List RouterValue → List StepValue → RouterId → List PathStep
-steps_in db routers graph router = option_map_or (steps_of db routers) (step_at graph router) []
+abbrev pub steps_in : Lists → List StepValue → RouterId → List PathStep
+steps_in db graph router = option_map_or (steps_of db) (step_at graph router) []
 
 -- ---- a path
 
@@ -63,13 +62,13 @@ abbrev pub is_some_loop : List (List RouterId) → Bool
 is_some_loop [] = false
 is_some_loop (loop ∷ loops) = true
 
--- what becomes of packets at a router: over all walks in a forwarding graph, where the entries of these routers are known
-pub record IsPathIn (db : Lists) (routers : List RouterValue) (graph : List StepValue) (start : RouterId) (path : PathValue) : Type 0 where
-  pub reached : AreReached (next_in graph) start path.routers
-  pub steps : path.steps ≡ flat_map (steps_in db routers graph) path.routers
+-- what becomes of packets at a router: over all walks in a forwarding graph of a database
+pub record IsPathIn (db : Lists) (graph : List StepValue) (start : RouterId) (path : PathValue) : Type 0 where
+  pub routers : AreReached (next_in graph) start path.routers
+  pub steps : path.steps ≡ flat_map (steps_in db graph) path.routers
   pub ends : (ends : Ends) × AreEnds graph start ends × (path.ends ≡ ends_of ends (is_some_loop path.loops))
   pub loops : AreLoops (next_in graph) path.routers path.loops
 
 -- what becomes of packets to an address
 abbrev pub IsPath : Lists → RouterId → Addr → PathValue → Type 0
-IsPath db start address path = IsPathIn db (routers_of db) (graph_of db address) start path
+IsPath db start address path = IsPathIn db (graph_of db address) start path

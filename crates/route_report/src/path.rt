@@ -3,7 +3,8 @@
 ghost use Rattle.std.specs.Prelude.{◌≡◌, ◌++◌, IfOk, OnOk, Some};
 ghost use Rattle.std.specs.List.{flat_map};
 ghost use Rattle.lsdb.specs.Slots.{lists_of};
-ghost use Rattle.route_report.specs.Paths.{IsPath, IsPathIn, end_if, ends_of, source_by, source_in, steps_in, steps_of, steps_over};
+ghost use Rattle.forwarding.specs.Graphs.{IsForwardingOf};
+ghost use Rattle.route_report.specs.Paths.{IsPath, IsPathIn, end_if, ends_of, source_by, source_in, steps_by, steps_in, steps_over};
 
 use crate::line::source_of;
 use crate::step::{push_step_down, push_step_out, push_steps_over};
@@ -27,14 +28,15 @@ fn source_by<A: Allocator + Copy>(
     Some(source_of(database, routes.router(), net, &entry))
 }
 
-/// Where the entry of a router that is known for a prefix comes from, if there is one.
+/// Where the entry of an attached router for a prefix comes from, if there is one.
 fn source_in<A: Allocator + Copy>(
     database: &Database<A>,
     forwarding: &Forwarding<A>,
     router: RouterId,
     net: Prefix,
 ) -> Option<RouteSource>
-    ensures { result ≡ source_in (lists_of database.now) forwarding.now.routers router net }
+    requires { IsForwardingOf (lists_of database.now) forwarding.now }
+    ensures { result ≡ source_in (lists_of database.now) router net }
 {
     let routes = forwarding.routes_of(router)?;
     source_by(database, net, routes)
@@ -74,8 +76,9 @@ fn push_steps_of<A: Allocator + Copy>(
     step: &RouterStep<A>,
     steps: &mut Vec<PathStep, A>,
 ) -> Result<(), AllocError>
+    requires { IsForwardingOf (lists_of database.now) forwarding.now }
     ensures { OnOk result (steps.new.items ≡ steps.old.items
-        ++ steps_of (lists_of database.now) forwarding.now.routers step.now) }
+        ++ steps_by (lists_of database.now) step.now.router step.now.matched) }
 {
     let Some(found) = &step.matched else {
         return push_step_down(step.router, steps);
@@ -94,9 +97,9 @@ fn steps_of<A: Allocator + Copy>(
     graph: &ForwardingGraph<A>,
     routers: &[RouterId],
 ) -> Result<Vec<PathStep, A>, AllocError>
+    requires { IsForwardingOf (lists_of database.now) forwarding.now }
     ensures { IfOk result (λ steps. steps.items
-        ≡ flat_map (steps_in (lists_of database.now) forwarding.now.routers graph.now)
-        routers.now) }
+        ≡ flat_map (steps_in (lists_of database.now) graph.now) routers.now) }
 {
     let mut steps = Vec::new(alloc);
     for router in routers {
@@ -152,7 +155,7 @@ fn loops_of<A: Allocator + Copy>(
     Ok(shown)
 }
 
-/// The path in a forwarding graph, where these routers are known.
+/// The path in a forwarding graph of a database.
 pub(crate) fn path_in<A: Allocator + Copy>(
     alloc: A,
     database: &Database<A>,
@@ -160,8 +163,8 @@ pub(crate) fn path_in<A: Allocator + Copy>(
     graph: &ForwardingGraph<A>,
     start: RouterId,
 ) -> Result<Path<A>, AllocError>
-    ensures { IfOk result
-        (IsPathIn (lists_of database.now) forwarding.now.routers graph.now start) }
+    requires { IsForwardingOf (lists_of database.now) forwarding.now }
+    ensures { IfOk result (IsPathIn (lists_of database.now) graph.now start) }
 {
     let routers = graph.reached(alloc, start)?;
     let loops = loops_of(alloc, &graph.loops(alloc, &routers)?)?;
@@ -176,7 +179,7 @@ pub(crate) fn path_in<A: Allocator + Copy>(
 }
 
 /// The answer of `path`: what becomes of packets that begin at a router and are sent to an address.
-/// The meter counts a tree for each router that packets pass and area that it is attached to.
+/// The meter counts a tree for each router and area that it is attached to.
 ///
 /// # Errors
 ///
@@ -190,6 +193,7 @@ pub fn path_of<A: Allocator + Copy>(
 ) -> Result<Path<A>, AllocError>
     ensures { IfOk result (IsPath (lists_of database.now) start address) }
 {
-    let (forwarding, graph) = Forwarding::from_router(alloc, database, start, address, meter)?;
+    let forwarding = Forwarding::of(alloc, database, meter)?;
+    let graph = forwarding.graph(alloc, address)?;
     path_in(alloc, database, &forwarding, &graph, start)
 }

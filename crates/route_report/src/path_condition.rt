@@ -61,8 +61,8 @@ fn holds_in<A: Allocator + Copy>(
 }
 
 /// Whether walks of packets that begin at a router and are sent to an address do what they have to,
-/// and what becomes of the packets. The meter counts a tree for each router that packets pass and
-/// area that it is attached to.
+/// and what becomes of the packets. The meter counts a tree for each router and area that it is
+/// attached to.
 ///
 /// # Errors
 ///
@@ -79,7 +79,8 @@ pub fn path_holds<A: Allocator + Copy>(
     ensures holds { IfOk result (λ x. (x.0 ≡ true)
         ↔ Holds (lists_of database.now) start address x.1 passing) }
 {
-    let (forwarding, graph) = Forwarding::from_router(alloc, database, start, address, meter)?;
+    let forwarding = Forwarding::of(alloc, database, meter)?;
+    let graph = forwarding.graph(alloc, address)?;
     let path = path_in(alloc, database, &forwarding, &graph, start)?;
     let holds = holds_in(alloc, &graph, start, &path, passing)?;
     Ok((holds, path))

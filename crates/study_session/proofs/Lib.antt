@@ -1,3 +1,4 @@
 pub mod PlanText
+pub mod Explaining
 pub mod LinkEdits
 pub mod Carried

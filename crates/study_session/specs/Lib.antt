@@ -1,4 +1,6 @@
 pub mod Studies
+pub mod Contexts
+pub mod Explained
 pub mod PlanAnswers
 pub mod NamedCommands
 pub mod Lines

@@ -1,5 +1,5 @@
 -- Commands of `ospf-plan` in whose lines names stand, and what they are answered.
-use Rattle.std.specs.Prelude.{ℕ, nat_lt, if◌then◌else◌, List, [], ◌∷◌, ◌++◌, length, Option, None, Some, codes, decimal}
+use Rattle.std.specs.Prelude.{ℕ, Bool, true, false, nat_lt, if◌then◌else◌, List, [], ◌∷◌, ◌++◌, length, Option, None, Some, codes, decimal}
 use Rattle.std.specs.Option.{option_map_or}
 use Rattle.lsa_codec.specs.declared.address.RouterId.{RouterId}
 use Rattle.edit_history.specs.Session.{Session, most_edits, state}
@@ -10,8 +10,8 @@ use Rattle.branches.specs.Branches.{Sessions, stepped}
 use Rattle.lsa_codec.specs.declared.address.AreaId.{AreaId}
 use Rattle.edit_script.specs.declared.command.Command.{Command}
 use Rattle.edit_script.specs.declared.command.Command.TheVariants as command
+use Rattle.edit_script.specs.declared.edit.Edit.{Edit}
 use Rattle.edit_script.specs.declared.edit.Edit.TheVariants as edit
-use Rattle.branches.specs.Replies.{reply_to}
 use Rattle.study_arguments.specs.declared.link.LinkName.{LinkName}
 use Rattle.study_arguments.specs.declared.link.LinkName.TheVariants.{Address, Number, Prefix}
 use Rattle.study_script.specs.declared.named_command.NamedCommand.{NamedCommand}
@@ -21,7 +21,10 @@ use Rattle.link_report.specs.NamedLinks.{link_numbers}
 use Rattle.study_session.specs.declared.link_edit.LinkEdit.{LinkEdit}
 use Rattle.study_session.specs.declared.link_edit.LinkEdit.TheVariants as link
 use Rattle.study_answers.specs.Answers.{AnswerValue, refused_answer}
-use Rattle.study_session.specs.PlanAnswers.{changed_answer, plan_answer}
+use Rattle.refusal_hints.specs.CommandHints.{many_links_hint}
+use Rattle.study_session.specs.Contexts.{ContextValue, situation}
+use Rattle.study_session.specs.Explained.{with_hint}
+use Rattle.study_session.specs.PlanAnswers.{change_answer, command_answer, differing_answer}
 
 -- ---- which link is named
 
@@ -58,25 +61,37 @@ edited_text (link.Cost metric) called v =
     codes " " ++ name_text called v ++ codes ": " ++ decimal v.link.metric ++ codes " -> " ++ decimal metric
 edited_text link.Drop called v = codes " gone " ++ description called v
 
--- if there is such a link
+-- if there is such a link; then the line ends
 unfoldable pub change_text : LinkEdit → Called → Option LinkValue → List ℕ
-change_text edit called v = option_map_or (edited_text edit called) v []
+change_text edit called v = option_map_or (edited_text edit called) v [] ++ codes "\n"
 
 abbrev pub many_links : List ℕ × List ℕ
 many_links = (codes "E14", codes "ManyLinks")
 
-module _ (called : Called) (s : Session) (branch : ℕ) where
+module _ (x : ContextValue) (s : Session) where
   -- the answer to an edit of the link with a number, if not several are named
-  unfoldable pub link_answer : AreaId → RouterId → LinkEdit → Option ℕ → AnswerValue
-  link_answer area router edit None = refused_answer branch many_links
-  link_answer area router edit (Some number) =
-      changed_answer branch (change_text edit called (link_at (state s) area router number)) (reply_to s (link_edit edit area router number))
+  unfoldable pub link_answer : AreaId → RouterId → LinkName → LinkEdit → Option ℕ → AnswerValue
+  link_answer area router name edit None =
+      with_hint (many_links_hint (situation x s) x.words area router name) (refused_answer x.branch many_links)
+  link_answer area router name edit (Some number) =
+      change_answer x s (link_edit edit area router number) (change_text edit x.called (link_at (state s) area router number))
+
+  -- the answer to an edit that says what it changed: the link with a number, or how the database differs
+  unfoldable pub edit_answer : Edit → AnswerValue
+  edit_answer (edit.Cost area router number metric) = link_answer area router (Number number) (link.Cost metric) (Some number)
+  edit_answer (edit.DropLink area router number) = link_answer area router (Number number) link.Drop (Some number)
+  edit_answer other = differing_answer x s (command.Edit other)
+
+  -- the answer to a command: edits may say what they changed
+  unfoldable pub said_answer : Bool → Command → AnswerValue
+  said_answer true (command.Edit edit) = edit_answer edit
+  said_answer _ c = command_answer x s c
 
   -- the answer to a command with names
   unfoldable pub named_answer : NamedCommand → AnswerValue
-  named_answer (named_command.Command c) = plan_answer branch (reply_to s c)
-  named_answer (named_command.Cost area router name metric) = link_answer area router (link.Cost metric) (named_number s area router name)
-  named_answer (named_command.DropLink area router name) = link_answer area router link.Drop (named_number s area router name)
+  named_answer (named_command.Command c) = said_answer x.is_verbose c
+  named_answer (named_command.Cost area router name metric) = link_answer area router name (link.Cost metric) (named_number s area router name)
+  named_answer (named_command.DropLink area router name) = link_answer area router name link.Drop (named_number s area router name)
 
 -- ---- sessions
 

@@ -1,5 +1,6 @@
 pub mod Given
 pub mod Lines
+pub mod Typed
 pub mod Run
 pub mod Begin
 pub mod Streams

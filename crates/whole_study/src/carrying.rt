@@ -31,7 +31,7 @@ fn goes_on<A: Allocator>(keep_going: bool, answer: &Answer<A>) -> bool
 
 /// Carries out one line, writes its answer if it has one, and counts it. Returns whether the run
 /// goes on.
-fn carry_out_line<A: Allocator + Copy, W: Write, E: Write>(
+pub(crate) fn carry_out_line<A: Allocator + Copy, W: Write, E: Write>(
     alloc: A,
     session: &mut StudySession<'_, A>,
     line: Line<'_>,

@@ -18,6 +18,10 @@ mod summary;
 mod carrying;
 mod running;
 
+// A run whose lines are typed.
+mod dialog;
+
+pub use dialog::{Terminal, converse};
 pub use fault::{NamesRefusal, RunFault};
 pub use inputs::{RunFiles, StudyFile};
 pub use output::Output;

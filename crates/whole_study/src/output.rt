@@ -68,7 +68,7 @@ pub(crate) fn was_accepted(outcome: Outcome) -> bool
 }
 
 /// Flushes a writer.
-fn flush<W: Write>(writer: &mut Watched<W>) -> Result<(), WriteFault>
+pub(crate) fn flush<W: Write>(writer: &mut Watched<W>) -> Result<(), WriteFault>
     requires { has_failed writer.old ≡ false }
     ensures bytes { Keeps (W.contents (inner_of writer.old)) (W.contents (inner_of writer.new)) }
     ensures failed { IsErr result ↔ (has_failed writer.new ≡ true) }

@@ -54,18 +54,6 @@ pub(super) fn graph_of(alloc: Global, dump: &[u8], address: u32) -> Result<Forwa
     Ok(forwarding.graph(alloc, Addr(address))?)
 }
 
-/// The same graph of the routers that packets from one pass.
-fn graph_from(
-    alloc: Global,
-    dump: &[u8],
-    from: RouterId,
-    address: Addr,
-) -> Result<ForwardingGraph, Fail> {
-    let database = Database::load(alloc, dump)?;
-    let (_, graph) = Forwarding::from_router(alloc, &database, from, address, &mut Meter::new())?;
-    Ok(graph)
-}
-
 /// The graphs of the areas of the network.
 pub(super) fn area_graphs(alloc: Global) -> Result<AreaGraphs, Fail> {
     let database = Database::load(alloc, network_bytes())?;
@@ -79,8 +67,7 @@ pub(super) fn path(
     from: u32,
     address: u32,
 ) -> Result<String, Fail> {
-    let dump = dump_of(alloc, network)?;
-    let graph = graph_from(alloc, &dump, RouterId(from), Addr(address))?;
+    let graph = graph_of(alloc, &dump_of(alloc, network)?, address)?;
     let reached = graph.reached(alloc, RouterId(from))?;
     let mut path = String::new(alloc);
     push_routers(alloc, &mut path, &reached)?;

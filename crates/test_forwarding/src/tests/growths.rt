@@ -9,7 +9,7 @@ use forwarding::{AreaGraphs, Forwarding, ForwardingGraph, RouterRoutes};
 use lsa_codec::{Addr, Prefix, RouterId};
 use lsdb::Database;
 use spf::Meter;
-use std::alloc::{AllocError, Global};
+use std::alloc::Global;
 use std::test::*;
 use test_support::{
     Answer, CallOn, FailingAlloc, FallibleCall, Outcome, R1, R2, dump_of_text, first_wrong,
@@ -27,7 +27,6 @@ enum Call {
     Match,
     Forwarding,
     Graph,
-    FromRouter,
     Reached,
     LoopOf,
     Loops,
@@ -42,7 +41,6 @@ const CALLS: &[Call] = &[
     Call::Match,
     Call::Forwarding,
     Call::Graph,
-    Call::FromRouter,
     Call::Reached,
     Call::LoopOf,
     Call::Loops,
@@ -118,16 +116,6 @@ fn answer_by_graph<'a>(
     }
 }
 
-/// The forwarding graph of the routers that packets from one pass.
-fn on_the_way<'a>(
-    failing: &'a FailingAlloc,
-    lent: &Lent<'a>,
-) -> Result<ForwardingGraph<&'a FailingAlloc>, AllocError> {
-    let (database, meter) = (&lent.database, &mut Meter::new());
-    let (_, graph) = Forwarding::from_router(failing, database, ROUTER, ADDRESS, meter)?;
-    Ok(graph)
-}
-
 /// What a call that makes a graph answers, or one on it.
 fn answer_by_routes<'a>(
     alloc: Global,
@@ -143,7 +131,6 @@ fn answer_by_routes<'a>(
         }
         Call::Match => of_match(alloc, routes.match_of(failing, graphs, ADDRESS)),
         Call::Graph => of_graph(alloc, lent.forwarding.graph(failing, ADDRESS)),
-        Call::FromRouter => of_graph(alloc, on_the_way(failing, lent)),
         _ => answer_by_graph(alloc, failing, lent, call),
     }
 }

@@ -15,9 +15,9 @@ returns g c =
     let routers = c.in_ok-routers.routers.items in
     let found = c.in_ok-loops.field-0.items in
     record {
-      reached = c.in_ok-routers.ensures;
+      routers = c.in_ok-routers.ensures;
       steps = c.in_ok-steps.ensures
-          ∙ ap (λ (rs : List RouterId). flat_map (steps_in (lists_of c.args.database.now) c.args.forwarding.now.routers c.args.graph.now) rs)
+          ∙ ap (λ (rs : List RouterId). flat_map (steps_in (lists_of c.args.database.now) c.args.graph.now) rs)
           c.deref-4.ensures.value;
       ends = (
         c.ends.result,
