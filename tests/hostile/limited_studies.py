@@ -62,7 +62,7 @@ def chain(size: int) -> Study:
     lines = "".join(f"{line}\n" for line, _ in answers)
     replies = "".join("@0 " + "".join(f"{row}\n" for row in rows) for _, rows in answers)
     dump = large.chain(size).dump
-    return Study("a chain", dump, lines.encode(), replies.encode() + summary(7, 0, 3), dump, sizes(3.7, 56 / 55, 18))
+    return Study("a chain", dump, lines.encode(), replies.encode() + summary(7, 0, 3), dump, sizes(3.92, 56 / 55, 18))
 
 
 def differences(study: Study, size: int, program: str, folder: pathlib.Path) -> tuple[list[str], int]:

@@ -120,7 +120,10 @@ def error_of(reply: bytes, file: bytes, number: int, words: list[bytes]) -> byte
     if words[0].startswith(b"@") and words[0] != branch or not reply.startswith(branch + b" "):
         return None
     said = reply[len(branch) + 1:]
-    if re.fullmatch(rb"(refused [ENU]\d+ \w+|failed [ -~]+)\n", said):
+    if re.fullmatch(rb"refused [ENU]\d+ \w+\n", said):
+        at_fault = b"|".join(re.escape(shown(part)) for word in words for part in word.split(b","))
+        return place + re.escape(said[:-1]) + rb" (" + at_fault + rb") \([ -~]+\)\n"
+    if re.fullmatch(rb"failed [ -~]+\n", said):
         return place + re.escape(said)
     word = words[1] if words[0] == branch else words[0]
     is_question = re.match(re.escape(word) + rb"( [^\n]*)?\n", said)

@@ -54,11 +54,13 @@ NOT_ACCEPTED = [
         BAD_REPLY + b"@0 ok\n" + summary(2, 1), stdin=BAD + COST, old_out=b"a dump", out=b"a dump"),
     End("a line that is no command, and no such folder for --out, which is not opened", "--dump dump --out none/out", 1,
         BAD_ERROR, BAD_REPLY + summary(1, 1), stdin=BAD),
-    End("a refused line in the second study", "--dump dump script - script", 1, "-:2: refused E1 NoArea\n",
+    End("a refused line in the second study", "--dump dump script - script", 1, "-:2: refused E1 NoArea 0.0.0.1 (the database has 0.0.0.0)\n",
         b"@0 ok\n@0 refused E1 NoArea\n" + summary(2, 1), stdin=b"\ncost 0.0.0.1 1.1.1.1 1 7\n"),
-    End("a router that is not there", "--dump dump --out out", 1, "-:1: refused N1 NoRouter\n",
+    End("a router that is not there", "--dump dump --out out", 1,
+        "-:1: refused N1 NoRouter 9.9.9.9 (the database has 1.1.1.1)\n",
         b"@0 refused N1 NoRouter\n" + summary(1, 1), stdin=b"expect not path 9.9.9.9 10.2.0.1 delivered\n"),
-    End("nothing to undo", "--dump dump", 1, "-:1: refused U1 NothingToUndo\n",
+    End("nothing to undo", "--dump dump", 1,
+        "-:1: refused U1 NothingToUndo microloops (0 edits are done)\n",
         b"@0 refused U1 NothingToUndo\n" + summary(1, 1), stdin=b"expect microloops none\n"),
     End("an expectation that does not hold, and --out", "--dump dump --out out", 1, "-:2: failed lost 0\n",
         b"@0 ok\n@0 failed lost 0\n" + summary(2, 0, 1, 1), stdin=COST + b"expect not lost none\n", old_out=b"a dump",
@@ -104,14 +106,21 @@ INPUTS = {
     "names": "--dump dump --names X script",
     "study": "--dump dump script X script",
 }
+
+
+def not_opened(what: str, name: str) -> str:
+    """The line of a file that cannot be opened: of several studies it names the one, as it was given."""
+    return f"file: Open study {name}\n" if what == "study" else f"file: Open {what}\n"
+
+
 INPUT_FILES = [
     end
     for what, words in INPUTS.items()
     for end in (
-        End(f"no such {what}", "--out out " + words.replace("X", "none"), 4, f"file: Open {what}\n", old_out=b"a dump",
-            out=b"a dump"),
-        End(f"an empty path as {what}", words.replace("X", "EMPTY"), 4, f"file: Open {what}\n"),
-        End(f"a {what} that may not be read", words.replace("X", "locked"), 4, f"file: Open {what}\n", as_nobody=True),
+        End(f"no such {what}", "--out out " + words.replace("X", "none"), 4, not_opened(what, "none"),
+            old_out=b"a dump", out=b"a dump"),
+        End(f"an empty path as {what}", words.replace("X", "EMPTY"), 4, not_opened(what, "")),
+        End(f"a {what} that may not be read", words.replace("X", "locked"), 4, not_opened(what, "locked"), as_nobody=True),
         End(f"a folder as {what}", "--out out " + words.replace("X", "FOLDER"), 4, "file: Read\n", old_out=b"a dump",
             out=b"a dump"),
         End(f"no such {what}, and nobody hears", words.replace("X", "none"), 4, stderr="full"),
@@ -122,7 +131,7 @@ FILES = [
     End("no file is there", "--dump none --baseline none --names none none", 4, "file: Open dump\n"),
     End("only the dump is there", "--dump dump --baseline none --names none none", 4, "file: Open baseline\n"),
     End("no names and no study are there", "--dump dump --names none none", 4, "file: Open names\n"),
-    End("all files are opened before the dump is read", "--dump FOLDER script none", 4, "file: Open study\n"),
+    End("all files are opened before the dump is read", "--dump FOLDER script none", 4, "file: Open study none\n"),
     End("all files are read before the dump is loaded", "--dump long --names script FOLDER", 4, "file: Read\n"),
     End("an endless dump is refused before the study is read", "--dump /dev/zero script /dev/zero", 3, "dump: L13 TooLarge at 0\n"),
     End("an endless dump is refused before a folder is read", "--dump /dev/zero script FOLDER", 3, "dump: L13 TooLarge at 0\n"),

@@ -78,7 +78,7 @@ impl<A: Allocator + Copy> Changes<A> {
 }
 
 /// The number of changes of a group.
-fn count_of(names: &[ChangeName], group: ChangeGroup) -> usize
+pub fn count_of(names: &[ChangeName], group: ChangeGroup) -> usize
     ensures { result ≡ count_of group names.now }
 {
     names.iter().filter(|name| name.is_of(group)).count()

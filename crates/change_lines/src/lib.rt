@@ -20,7 +20,7 @@ mod found;
 
 pub use change_line::ChangeLine;
 pub use change_name::ChangeName;
-pub use changes::{Changes, push_counts};
+pub use changes::{Changes, count_of, push_counts};
 pub use found::{is_listed, push_changes_found, push_pairs_found, push_unlisted, unlisted};
 pub use group::ChangeGroup;
 pub use pair::Pair;

@@ -6,7 +6,7 @@ use Rattle.lsa_codec.specs.declared.address.AreaId.{AreaId}
 use Rattle.lsdb.specs.Lists.{AreaHead, Lists, areas_of}
 use Rattle.area_routes.proofs.AddsLemmas.{map_adds}
 use Rattle.area_routes.specs.Attached.{id_of}
-use Rattle.link_report.proofs.Pushed.{made_more}
+use Rattle.link_report.proofs.PushedLemmas.{made_more}
 
 -- one area more
 pub area_more : (db : Lists) (i : ℕ) (head : AreaHead) (before next : List AreaId) → slice_get (areas_of db) i ≡ Some head

@@ -1,6 +1,6 @@
-mod Pushed
+pub mod PushedLemmas
 mod RisingLists
-mod Numbered
+pub mod NumberedLemmas
 mod Takings
 mod LinkLengths
 mod AreaIds

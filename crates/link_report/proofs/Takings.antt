@@ -1,6 +1,6 @@
 -- What is taken of numbered items: all, or those that pass a test.
 use Rattle.std.proofs.Common.{◌≡◌, ℕ, Bool, true, false, cond, List, [], ◌∷◌, ◌++◌, filter, map, refl}
-use Rattle.link_report.proofs.Numbered.{Takes}
+use Rattle.link_report.proofs.NumberedLemmas.{Takes}
 
 module _ {X C : Type 0} where
   pub takes_all : (f : ℕ × X → C) → Takes (map f) (λ one. f one ∷ [])

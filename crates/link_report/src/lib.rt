@@ -32,5 +32,5 @@ pub use link_side::InterfaceStub;
 pub use link_text::{push_link, push_link_name, push_numbered};
 pub use lists::{links_of, rising};
 pub use named::link_numbers;
-pub use network_line::{NetworkLine, network_lines};
+pub use network_line::{NetworkLine, NetworkPlace, network_lines};
 pub use router_line::{RouterLine, router_lines};

@@ -22,24 +22,24 @@ use std::marker::Model;
 #[derive(Drop)]
 pub struct LinkLine<A: Allocator = Global> {
     /// The router.
-    pub(crate) router: RouterId,
+    pub router: RouterId,
     /// The area.
-    pub(crate) area: AreaId,
+    pub area: AreaId,
     /// The link's number in the router-LSA, counted from 1.
-    pub(crate) number: usize,
+    pub number: usize,
     /// The link.
-    pub(crate) link: Link,
+    pub link: Link,
     /// What it costs to come back over the link: the metrics of the far ends of a point-to-point
     /// link, in rising order; 0 from a transit network that lists the router.
-    pub(crate) back: Vec<u32, A>,
+    pub back: Vec<u32, A>,
     /// The addresses of the far ends of a point-to-point link, in rising order.
-    pub(crate) peers: Vec<Addr, A>,
+    pub peers: Vec<Addr, A>,
     /// The prefix of a transit or stub network, where it is known.
-    pub(crate) net: Option<Prefix>,
+    pub net: Option<Prefix>,
     /// The stub link of a point-to-point interface.
-    pub(crate) stub: Option<InterfaceStub>,
+    pub stub: Option<InterfaceStub>,
     /// Where the link is the stub link of an interface, the number of the link before it.
-    pub(crate) owner: Option<usize>,
+    pub owner: Option<usize>,
 }
 
 impl<A: Allocator> Model for LinkLine<A> {

@@ -16,26 +16,26 @@ use std::marker::Model;
 
 /// Where the line of a network stands: by prefix, then by Link State ID.
 #[derive(Clone, Copy, Debug, PartialEq, Eq, PartialOrd, Ord)]
-pub(crate) struct NetworkPlace {
+pub struct NetworkPlace {
     /// The prefix of the network.
-    pub(crate) net: Prefix,
+    pub net: Prefix,
     /// The address of its Designated Router, which is the Link State ID.
-    pub(crate) address: Addr,
+    pub address: Addr,
 }
 
 /// A transit network, by its network-LSA in use. Contracts see it as the record of its fields.
 #[derive(Drop)]
 pub struct NetworkLine<A: Allocator = Global> {
     /// The area.
-    pub(crate) area: AreaId,
+    pub area: AreaId,
     /// Its prefix, and the address of its Designated Router.
-    pub(crate) place: NetworkPlace,
+    pub place: NetworkPlace,
     /// The Designated Router, which originated the LSA.
-    pub(crate) router: RouterId,
+    pub router: RouterId,
     /// The routers that the LSA lists and that have a link to the network, in rising order.
-    pub(crate) members: Vec<RouterId, A>,
+    pub members: Vec<RouterId, A>,
     /// The others that the LSA lists, in rising order.
-    pub(crate) one_way: Vec<RouterId, A>,
+    pub one_way: Vec<RouterId, A>,
 }
 
 impl<A: Allocator> Model for NetworkLine<A> {

@@ -30,19 +30,19 @@ const BIT_E: u8 = 2;
 #[derive(Drop)]
 pub struct RouterLine<A: Allocator = Global> {
     /// The router.
-    pub(crate) router: RouterId,
+    pub router: RouterId,
     /// The areas that it is attached to, in rising order.
-    pub(crate) areas: Vec<AreaId, A>,
+    pub areas: Vec<AreaId, A>,
     /// Whether one of its LSAs has bit B: it is an area border router.
-    pub(crate) is_abr: bool,
+    pub is_abr: bool,
     /// Whether one of its LSAs has bit E: it is an AS boundary router.
-    pub(crate) is_asbr: bool,
+    pub is_asbr: bool,
     /// How many point-to-point links it has.
-    pub(crate) links: usize,
+    pub links: usize,
     /// How many links to transit networks it has.
-    pub(crate) transit: usize,
+    pub transit: usize,
     /// How many links to stub networks it has.
-    pub(crate) stubs: usize,
+    pub stubs: usize,
 }
 
 impl<A: Allocator> Model for RouterLine<A> {

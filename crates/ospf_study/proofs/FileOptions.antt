@@ -16,6 +16,7 @@ IsGiven-from_read words m o has read = record {
   baseline = read.baseline ∙ value_of-found ospf_study words m _ refl has;
   names = read.names ∙ value_of-found ospf_study words m _ refl has;
   keep_going = read.keep_going ∙ ap (nat_lt 0) (times_given-found ospf_study words m _ refl has);
+  verbose = read.verbose ∙ ap (nat_lt 0) (times_given-found ospf_study words m _ refl has);
   out = read.out ∙ value_of-found ospf_study words m _ refl has;
   studies = read.studies ∙ values_of-found ospf_study words m _ refl has;
 }

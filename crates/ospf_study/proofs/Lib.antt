@@ -1,1 +1,2 @@
 pub mod FileOptions
+pub mod Refusals

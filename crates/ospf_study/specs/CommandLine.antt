@@ -13,15 +13,17 @@ dump_rule = record (value_rule (codes "dump") Set) { required = true }
 abbrev pub studies_rule : Rule
 studies_rule = record (new_rule (codes "studies")) { action = Some Append; value_names = 1 }
 
--- `ospf-study --dump DUMP [--baseline DUMP] [--names FILE] [--keep-going] [--out DUMP] [STUDY..]`, and `--version`
+-- `ospf-study --dump DUMP [--baseline DUMP] [--names FILE] [--keep-going] [--verbose] [--out DUMP] [STUDY..]`, and `--version`
 abbrev pub ospf_study : App
 ospf_study = with_rule
+    (with_rule
     (with_rule
     (with_rule
     (with_rule
     (with_rule (with_rule (named (codes "ospf-study")) dump_rule) (value_rule (codes "baseline") Set))
     (value_rule (codes "names") Set))
     (flag_rule (codes "keep-going")))
+    (flag_rule (codes "verbose")))
     (value_rule (codes "out") Set))
     studies_rule
 
@@ -31,5 +33,6 @@ pub record IsGiven (words : List Text) (o : Options) : Type 0 where
   pub baseline : option_map (λ name. name.now) o.baseline ≡ value_of ospf_study words (codes "baseline")
   pub names : option_map (λ name. name.now) o.names ≡ value_of ospf_study words (codes "names")
   pub keep_going : o.keep_going ≡ nat_lt 0 (times_given ospf_study words (codes "keep-going"))
+  pub verbose : o.verbose ≡ nat_lt 0 (times_given ospf_study words (codes "verbose"))
   pub out : option_map (λ name. name.now) o.out ≡ value_of ospf_study words (codes "out")
   pub studies : map (λ name. name.now) o.studies.items ≡ values_of ospf_study words (codes "studies")

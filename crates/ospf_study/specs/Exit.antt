@@ -12,7 +12,7 @@ use Rattle.whole_study.specs.declared.fault.RunFault.TheVariants as «run»
 use Rattle.ospf_study.specs.declared.fault.FileArg.{FileArg}
 use Rattle.ospf_study.specs.declared.fault.FileArg.TheVariants as file
 use Rattle.ospf_study.specs.declared.fault.ExitFault.{ExitFault}
-use Rattle.ospf_study.specs.declared.fault.ExitFault.TheVariants.{Run, Open}
+use Rattle.ospf_study.specs.declared.fault.ExitFault.TheVariants.{Run, Open, OpenStudy}
 use Rattle.host_io.specs.declared.fault.ReplaceFault.{ReplaceFault}
 use Rattle.host_io.specs.declared.fault.ReplaceFault.TheVariants as replace
 
@@ -35,6 +35,7 @@ run_status run.OutOfMemory = 5
 abbrev pub exit_status : ExitFault → ℕ
 exit_status (Run names fault) = run_status fault
 exit_status (Open file) = 4
+exit_status (OpenStudy name) = 4
 
 -- ---- the line, its end included
 
@@ -65,12 +66,16 @@ abbrev pub open_text : FileArg → List ℕ
 open_text file.Dump = codes "file: Open dump\n"
 open_text file.Baseline = codes "file: Open baseline\n"
 open_text file.Names = codes "file: Open names\n"
-open_text file.Study = codes "file: Open study\n"
 open_text file.Out = codes "file: Open out\n"
+
+-- the study is named as it was given: `file: Open study r7.study`
+abbrev pub open_study_text : List ℕ → List ℕ
+open_study_text name = codes "file: Open study " ++ name ++ codes "\n"
 
 abbrev pub exit_text : ExitFault → List ℕ
 exit_text (Run names fault) = run_text names.now fault
 exit_text (Open file) = open_text file
+exit_text (OpenStudy name) = open_study_text name.now
 
 -- ---- the file of the dump
 
@@ -79,6 +84,7 @@ abbrev pub IsNotReplacedFor : ReplaceFault → ExitFault → Type 0
 IsNotReplacedFor replace.Open fault = fault ≡ Open file.Out
 IsNotReplacedFor replace.Write (Run names end) = end ≡ run.Write
 IsNotReplacedFor replace.Write (Open other) = ⊥
+IsNotReplacedFor replace.Write (OpenStudy name) = ⊥
 
 abbrev pub IsNotReplaced : ExitFault → Type 0
 IsNotReplaced fault = (why : ReplaceFault) × IsNotReplacedFor why fault

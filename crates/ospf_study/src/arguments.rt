@@ -12,6 +12,8 @@ pub(crate) struct Options<'a> {
     pub(crate) names: Option<&'a str>,
     /// Whether all lines are carried out, whatever becomes of each.
     pub(crate) keep_going: bool,
+    /// Whether each edit says what it changed.
+    pub(crate) verbose: bool,
     /// Where the dump after the studies goes. Without it none is written.
     pub(crate) out: Option<&'a str>,
     /// The studies; `-`, or none at all, is standard input.

@@ -53,6 +53,7 @@ fn command<'a>(alloc: Global) -> Result<Command<'a>, AllocError>
             "keep-going",
             "Carry out all lines, also after one that is refused or fails",
         ))?
+        .arg(flag_option(alloc, "verbose", "Say of each edit what it changed"))?
         .arg(file_option(
             alloc,
             "out",
@@ -104,6 +105,7 @@ fn named_files<'a>(alloc: Global, matches: &ArgMatches<'a>) -> Result<Options<'a
         baseline: matches.get_str("baseline"),
         names: matches.get_str("names"),
         keep_going: is_given(matches, "keep-going"),
+        verbose: is_given(matches, "verbose"),
         out: matches.get_str("out"),
         studies: values_found(alloc, matches, "studies")?,
     })

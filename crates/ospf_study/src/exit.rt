@@ -1,7 +1,7 @@
 //! How the program ends after a fault: its status, and the line on standard error.
 
 ghost use Rattle.std.specs.Prelude.{◌≡◌, IfOk, string_bytes};
-ghost use Rattle.ospf_study.specs.Exit.{dump_status, dump_text, exit_status, exit_text, names_text, open_text, run_status, run_text};
+ghost use Rattle.ospf_study.specs.Exit.{dump_status, dump_text, exit_status, exit_text, names_text, open_study_text, open_text, run_status, run_text};
 
 use crate::fault::{ExitFault, FileArg};
 use lsdb::{DumpFault, DumpFaultKind};
@@ -36,7 +36,7 @@ fn status_of(fault: &ExitFault<'_>) -> u8
 {
     match fault {
         ExitFault::Run(_, fault) => run_status(fault),
-        ExitFault::Open(_) => 4,
+        ExitFault::Open(_) | ExitFault::OpenStudy(_) => 4,
     }
 }
 
@@ -97,9 +97,18 @@ fn open_line(file: FileArg) -> &'static str
         FileArg::Dump => "file: Open dump\n",
         FileArg::Baseline => "file: Open baseline\n",
         FileArg::Names => "file: Open names\n",
-        FileArg::Study => "file: Open study\n",
         FileArg::Out => "file: Open out\n",
     }
+}
+
+/// The line of a study that cannot be opened.
+fn open_study_line(alloc: Global, name: &str) -> Result<Vec<u8>, AllocError>
+    ensures { IfOk result (λ line. line.items ≡ open_study_text name.now) }
+{
+    let mut line = Vec::from_slice(alloc, b"file: Open study ")?;
+    line.extend_from_slice(name.as_bytes())?;
+    line.push(b'\n')?;
+    Ok(line)
 }
 
 fn line_of(alloc: Global, fault: &ExitFault<'_>) -> Result<Vec<u8>, AllocError>
@@ -108,6 +117,7 @@ fn line_of(alloc: Global, fault: &ExitFault<'_>) -> Result<Vec<u8>, AllocError>
     match fault {
         ExitFault::Run(names, fault) => run_line(alloc, names, fault),
         ExitFault::Open(file) => Vec::from_slice(alloc, open_line(*file).as_bytes()),
+        ExitFault::OpenStudy(name) => open_study_line(alloc, name),
     }
 }
 

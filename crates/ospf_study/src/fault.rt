@@ -3,7 +3,7 @@
 use std::alloc::{AllocError, AllocFailed};
 use whole_study::RunFault;
 
-/// A file that the command line names.
+/// A file that the command line names, of which there is one.
 #[derive(Clone, Copy, Debug, PartialEq, Eq)]
 pub(crate) enum FileArg {
     /// The dump.
@@ -12,8 +12,6 @@ pub(crate) enum FileArg {
     Baseline,
     /// The names file.
     Names,
-    /// A study.
-    Study,
     /// The file for the dump after the studies.
     Out,
 }
@@ -25,6 +23,8 @@ pub(crate) enum ExitFault<'a> {
     Run(&'a str, RunFault),
     /// A file cannot be opened.
     Open(FileArg),
+    /// A study cannot be opened. The name is that of the study, as it was given.
+    OpenStudy(&'a str),
 }
 
 impl<'a> From<AllocError> for ExitFault<'a> {

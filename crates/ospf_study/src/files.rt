@@ -102,10 +102,10 @@ fn standard_input<'a, 'n, H: Files + Input + Alloc>(
 }
 
 /// Opens the studies, or standard input in place of one.
-fn open_studies<'a, 'n, H: Files + Input + Alloc>(
+fn open_studies<'a, H: Files + Input + Alloc>(
     rt: &H,
-    names: &[&'n str],
-) -> Result<Vec<StudyFile<'n, Either<H::File, H::Reader>>, H::A>, ExitFault<'a>>
+    names: &[&'a str],
+) -> Result<Vec<StudyFile<'a, Either<H::File, H::Reader>>, H::A>, ExitFault<'a>>
     ensures { IfOk result
         (λ studies. All (λ study. has_failed study.reader ≡ false) studies.items) }
 {
@@ -124,14 +124,16 @@ fn open_studies<'a, 'n, H: Files + Input + Alloc>(
 /// Opens a study, or standard input.
 fn open_study<'a, H: Files + Input>(
     rt: &H,
-    name: &str,
-) -> Result<Either<H::File, H::Reader>, ExitFault<'a>> {
+    name: &'a str,
+) -> Result<Either<H::File, H::Reader>, ExitFault<'a>>
+    ensures { IfErr result (λ fault. fault ≡ ExitFault.OpenStudy name.entry) }
+{
     if name == STANDARD_INPUT {
         return Ok(Right(rt.reader()));
     }
     match fs::open(rt, name) {
         Ok(file) => Ok(Left(file)),
-        Err(_) => Err(ExitFault::Open(FileArg::Study)),
+        Err(_) => Err(ExitFault::OpenStudy(name)),
     }
 }
 
@@ -150,6 +152,7 @@ fn run_studies<'a, S: Read + Drop>(
     let manner = Manner {
         keep_going: options.keep_going,
         wants_dump: options.out.is_some(),
+        is_verbose: options.verbose,
     };
     let stderr = rt.stderr();
     let mut output = Output {

@@ -23,6 +23,7 @@ of them, and `help` lists all of them with their arguments:
   routes ROUTER, path ROUTER ADDR   how packets go
   changes, differences, lost, gone  what differs from the baseline
   loops, microloops                 where packets would go round, also while routers change over
+  audit                             what the answers may not be trusted for
   expect CONDITION                  says what must hold
 A line may be preceded by its branch, @0 to @7. A line that begins with # is a comment. Names of a
 names file stand for their addresses.

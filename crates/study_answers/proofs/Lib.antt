@@ -1,1 +1,2 @@
 pub mod JointLoops
+pub mod Beginnings

@@ -10,11 +10,13 @@ mod mark;
 
 // What questions and expectations are about.
 mod known;
+mod loaded;
 mod may_loop;
 mod missing;
 
 pub use answer::{Answer, Outcome};
 pub use known::{is_among, is_attached, is_known, no_router};
+pub use loaded::loaded_of;
 pub use mark::push_mark;
 pub use may_loop::microloops_of;
 pub use missing::Missing;

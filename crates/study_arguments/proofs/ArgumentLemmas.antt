@@ -13,9 +13,13 @@ use Rattle.text_words.specs.Words.{Word}
 use Rattle.text_words.proofs.PartLemmas.{Lacks, split_joined}
 use Rattle.text_words.proofs.NumberLemmas.{SparesDigits}
 use Rattle.text_words.proofs.AddressLemmas.{Lacks-address, address_again}
+use Rattle.study_words.specs.declared.audit_kind.AuditKind.{AuditKind}
+use Rattle.study_words.specs.AuditKinds.{audit_kind_text}
+use Rattle.study_words.specs.Written.{audit}
+use Rattle.study_words.proofs.TextLemmas.{word_found}
 use Rattle.study_arguments.specs.Arguments.{Read}
 use Rattle.study_arguments.specs.Positions.{At}
-use Rattle.study_arguments.specs.Values.{Lookup, addr, prefix, router_id}
+use Rattle.study_arguments.specs.Values.{Lookup, addr, audit_kind, prefix, router_id}
 use Rattle.study_arguments.specs.Lists.{each, neighbors, one_or_more}
 use Rattle.study_arguments.specs.Spelling.{neighbors_text, router_text}
 
@@ -27,6 +31,9 @@ router_again names id h = simp (address_again id.0 h)
 
 pub net_again : (names : Lookup) (net : Net) → IsPrefix net → prefix names (prefix_text net) ≡ Ok net
 net_again names net h = simp (prefix_again net h)
+
+pub kind_again : (names : Lookup) (kind : AuditKind) → audit_kind names (audit_kind_text kind) ≡ Ok kind
+kind_again names kind = simp (word_found (audit kind))
 
 -- ---- lists
 

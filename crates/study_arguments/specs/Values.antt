@@ -11,8 +11,10 @@ use Rattle.edit_script.specs.Arguments.{prefix_of}
 use Rattle.edit_script.specs.Reading as plan
 use Rattle.edit_script.specs.declared.edit.MetricType.{MetricType}
 use Rattle.edit_script.specs.declared.fault.ScriptFault.TheVariants.{BadAddress}
+use Rattle.study_words.specs.declared.audit_kind.AuditKind.{AuditKind}
 use Rattle.study_words.specs.declared.comparison.Comparison.{Comparison}
 use Rattle.study_words.specs.declared.study_word.StudyWord.{StudyWord}
+use Rattle.study_words.specs.AuditKinds.{audit_kind_of}
 use Rattle.study_words.specs.Comparisons.{comparison_of}
 use Rattle.study_words.specs.StudyWords.{study_word_of}
 use Rattle.study_arguments.specs.declared.addresses.Dotted.{Dotted}
@@ -81,6 +83,9 @@ unfoldable pub link : Means LinkName
 link names word = link_by names word (address_named names word) (prefix_of word)
 
 -- ---- words of the language
+
+abbrev pub audit_kind : Means AuditKind
+audit_kind names word = ok_or (audit_kind_of word) BadWord
 
 abbrev pub comparison : Means Comparison
 comparison names word = ok_or (comparison_of word) BadWord

@@ -4,7 +4,17 @@ use crate::argument::Argument;
 use crate::fault::FaultKind;
 use network_names::Names;
 use std::alloc::Allocator;
-use study_words::{Comparison, StudyWord, Word};
+use study_words::{AuditKind, Comparison, StudyWord, Word};
+
+impl Argument for AuditKind {
+    ghost use Rattle.study_arguments.specs.Values.{audit_kind};
+
+    ghost means = { audit_kind };
+
+    fn read<A: Allocator + Copy>(_names: &Names<'_, A>, word: &[u8]) -> Result<Self, FaultKind> {
+        AuditKind::of(word).ok_or(FaultKind::BadWord)
+    }
+}
 
 impl Argument for Comparison {
     ghost use Rattle.study_arguments.specs.Values.{comparison};

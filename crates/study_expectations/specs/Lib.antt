@@ -2,5 +2,6 @@ pub mod Verdicts
 pub mod RouteVerdicts
 pub mod LoopVerdicts
 pub mod ChangeVerdicts
+pub mod AuditVerdicts
 pub mod Expectations
 pub mod steps

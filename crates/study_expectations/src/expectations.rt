@@ -10,6 +10,7 @@ ghost use Rattle.study_expectations.specs.Expectations.{IsExpectationAnswer, IsV
 ghost use Rattle.study_expectations.specs.steps.Conditions.{IsOfRoutes};
 ghost use Rattle.study_expectations.specs.steps.Verdicts.{verdict_of};
 
+use crate::audit_conditions::{clean_audit, only_findings};
 use crate::change_conditions::{few, pairs, same};
 use crate::conditions::{hops, no_route, path, route};
 use crate::loop_conditions::{no_blackholes, no_loops, no_microloops};
@@ -103,6 +104,10 @@ fn verdict<A: Allocator + Copy>(
         Condition::NoBlackholes => no_blackholes(alloc, names, baseline, now),
         Condition::Same(router) => same(alloc, names, baseline, now, *router),
         Condition::AtMostChanges(most) => few(alloc, names, baseline, now, *most),
+        Condition::CleanAudit => clean_audit(alloc, branches, names, branch),
+        Condition::OnlyFindings(kinds) => {
+            only_findings(alloc, branches, names, branch, kinds.as_slice())
+        }
     }
 }
 

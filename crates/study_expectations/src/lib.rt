@@ -6,6 +6,7 @@ mod known;
 mod verdict;
 
 // Conditions, by what they are about.
+mod audit_conditions;
 mod change_conditions;
 mod conditions;
 mod loop_conditions;

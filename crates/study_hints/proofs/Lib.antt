@@ -1,5 +1,5 @@
 pub mod CommonFront
-pub mod Nearest
+pub mod MostLike
 pub mod Pieces
 pub mod Slash
 pub mod Roles

@@ -1,5 +1,5 @@
 -- What would have been right in an expectation.
-use Rattle.std.specs.Prelude.{ℕ, List, [], ◌∷◌, ◌++◌, map, flat_map, drop, bytes_eq, codes, Option, Some, None, if◌then◌else◌}
+use Rattle.std.specs.Prelude.{ℕ, Bool, false, List, [], ◌∷◌, ◌++◌, map, flat_map, drop, bytes_eq, codes, Option, Some, None, if◌then◌else◌}
 use Rattle.std.specs.Borrow.{Bor}
 use Rattle.std.specs.Option.{is_some}
 use Rattle.text_words.specs.Words.{Word}
@@ -15,7 +15,7 @@ use Rattle.study_words.specs.ConditionWords.{condition_text, condition_word_of, 
 use Rattle.study_words.specs.RouteKinds.{route_kind_of}
 use Rattle.study_hints.specs.declared.role.Role.{Role}
 use Rattle.study_hints.specs.declared.role.Role.TheVariants as role
-use Rattle.study_hints.specs.ArgumentHints.{name_hint, or_near, prefix_hint, range_hint}
+use Rattle.study_hints.specs.ArgumentHints.{kind_hint, name_hint, or_near, prefix_hint, range_hint}
 use Rattle.study_hints.specs.Grammar.{command_text, expectation_text}
 use Rattle.study_hints.specs.Near.{near}
 
@@ -74,6 +74,16 @@ allowed condition.Microloops words = codes "none" ∷ []
 allowed condition.Blackholes words = codes "none" ∷ []
 allowed condition.Same words = []
 allowed condition.Changes words = codes "<=" ∷ []
+allowed condition.Audit words = codes "clean" ∷ codes "only" ∷ []
+
+abbrev pub begins_with_only : List Word → Bool
+begins_with_only [] = false
+begins_with_only (word ∷ words) = bytes_eq word (codes "only")
+
+-- kinds of audit findings stand after the first word, `only`
+abbrev pub wants_kind : ConditionWord → List Word → Bool
+wants_kind condition.Audit words = begins_with_only words
+wants_kind _ words = false
 
 -- ---- hints
 
@@ -82,12 +92,16 @@ abbrev pub number_role : ConditionWord → Role
 number_role condition.Microloops = role.Count
 number_role _ = role.Number
 
+-- a word that is none of those that may stand at its place
+abbrev pub word_hint : ConditionWord → List Word → Word → List ℕ
+word_hint what words word = if wants_kind what words then kind_hint word else one_of (allowed what words)
+
 -- the words after that of a condition, and what is wrong with the word at fault
 unfoldable pub condition_hint : List Word → ConditionWord → List Word → FaultKind → Word → List ℕ
 condition_hint known what words (Script script.BadNumber) word = range_hint (number_role what)
 condition_hint known what words (Script script.BadAddress) word = name_hint known word
 condition_hint known what words (Script script.BadPrefix) word = prefix_hint word
-condition_hint known what words BadWord word = one_of (allowed what words)
+condition_hint known what words BadWord word = word_hint what words word
 condition_hint known what words _ word = expectation_text what
 
 abbrev pub condition_texts : List Word

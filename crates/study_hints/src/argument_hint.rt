@@ -1,11 +1,11 @@
 //! What would have been right in place of one word.
 
-ghost use Rattle.std.specs.Prelude.{◌≡◌, ◌==◌, ◌++◌, OnOk, codes, map, option_map};
+ghost use Rattle.std.specs.Prelude.{◌≡◌, ◌==◌, ◌&&◌, ◌++◌, OnOk, codes, map, option_map};
 ghost use Rattle.std.specs.List.{slice_split};
 ghost use Rattle.edit_script.specs.Arguments.{two_parts};
 ghost use Rattle.edit_script.specs.Words.{words};
 ghost use Rattle.network_names.specs.Names.{stands_for};
-ghost use Rattle.study_hints.specs.ArgumentHints.{argument_hint, first_hint, name_hint, or_near, prefix_hint, range_hint, range_of, without_host_bits};
+ghost use Rattle.study_hints.specs.ArgumentHints.{argument_hint, begins_with_digit, first_hint, has_byte, is_like_address, kind_hint, known_name, link_hint, name_hint, or_near, prefix_hint, range_hint, range_of, without_host_bits};
 ghost use Rattle.study_hints.specs.Near.{near};
 
 use crate::help::commands;
@@ -16,6 +16,7 @@ use network_names::Names;
 use std::alloc::{AllocError, Allocator};
 use study_arguments::first_word;
 use study_text::{push_number, push_prefix};
+use study_words::{AuditKind, Word};
 use text_words::{address_of, cut_at, number_up_to};
 
 /// Adds the candidate that is most like a word, or else something more general.
@@ -35,15 +36,73 @@ pub(crate) fn push_near<T: Candidate, A: Allocator + Copy>(
     text.extend_from_slice(found.bytes())
 }
 
+/// Adds the kind of audit findings that is most like a word, or else where the kinds are listed.
+pub(crate) fn push_kind_hint<A: Allocator + Copy>(
+    text: &mut Vec<u8, A>,
+    word: &[u8],
+) -> Result<(), AllocError>
+    ensures { OnOk result (text.new.items ≡ text.old.items ++ kind_hint word.now) }
+{
+    push_near(text, word, AuditKind::all(), "see help")
+}
+
+/// What an address is.
+const ADDRESS_FORM: &str = "an address is four numbers, 0 to 255";
+
+/// What the number of a link is.
+const LINK_RANGE: &str = "LINK is 1 to 65535";
+
 /// Adds what an address is.
 fn push_address_form<A: Allocator + Copy>(text: &mut Vec<u8, A>) -> Result<(), AllocError>
     ensures { OnOk result (text.new.items
         ≡ text.old.items ++ codes "an address is four numbers, 0 to 255") }
 {
-    text.extend_from_slice(b"an address is four numbers, 0 to 255")
+    text.extend_from_slice(ADDRESS_FORM.as_bytes())
 }
 
-/// Adds the name that is most like a word, or else what an address is.
+/// Whether a word begins with a digit.
+fn begins_with_digit(word: &[u8]) -> bool
+    ensures { result ≡ begins_with_digit word.now }
+{
+    match word.first() {
+        Some(byte) => b'0' <= *byte && *byte <= b'9',
+        None => false,
+    }
+}
+
+/// Whether a word has a byte.
+fn has_byte(byte: u8, word: &[u8]) -> bool
+    ensures { result ≡ has_byte byte word.now }
+{
+    word.iter().any(|other| *other == byte)
+}
+
+/// Whether a word is meant as an address.
+fn is_like_address(word: &[u8]) -> bool
+    ensures { result ≡ is_like_address word.now }
+{
+    begins_with_digit(word) && has_byte(b'.', word)
+}
+
+/// Adds the name that is most like a word, or else something more general.
+fn push_known_name<A: Allocator + Copy>(
+    text: &mut Vec<u8, A>,
+    known: &[&[u8]],
+    word: &[u8],
+    otherwise: &str,
+) -> Result<(), AllocError>
+    ensures { OnOk result (text.new.items ≡ text.old.items
+        ++ known_name (map (λ name. name.now) known.now) word.now otherwise.now) }
+{
+    let Some(name) = nearest(word, known) else {
+        return text.extend_from_slice(otherwise.as_bytes());
+    };
+    text.extend_from_slice(b"names have ")?;
+    text.extend_from_slice(*name)
+}
+
+/// Adds the name that is most like a word, or else what an address is. Only a part of a list is
+/// empty.
 pub(crate) fn push_name_hint<A: Allocator + Copy>(
     text: &mut Vec<u8, A>,
     known: &[&[u8]],
@@ -52,11 +111,13 @@ pub(crate) fn push_name_hint<A: Allocator + Copy>(
     ensures { OnOk result (text.new.items ≡ text.old.items
         ++ name_hint (map (λ name. name.now) known.now) word.now) }
 {
-    let Some(name) = nearest(word, known) else {
-        return push_address_form(text);
-    };
-    text.extend_from_slice(b"names have ")?;
-    text.extend_from_slice(*name)
+    if word.is_empty() {
+        text.extend_from_slice(b"a list has no spaces")
+    } else if is_like_address(word) {
+        push_address_form(text)
+    } else {
+        push_known_name(text, known, word, ADDRESS_FORM)
+    }
 }
 
 /// The parts of a word with one slash.
@@ -102,7 +163,6 @@ fn range_of(role: Role) -> (&'static str, u64, u64)
     ensures { (result.0.now, result.1, result.2) ≡ range_of role }
 {
     match role {
-        Role::Link => ("LINK", 0, 65_535),
         Role::Cost => ("METRIC", 0, 65_535),
         Role::Metric => ("METRIC", 0, 16_777_215),
         Role::MetricType => ("TYPE", 1, 2),
@@ -127,6 +187,26 @@ pub(crate) fn push_range<A: Allocator + Copy>(
     push_number(text, greatest)
 }
 
+/// Adds what would have been right in place of a word that names no link.
+fn push_link_hint<A: Allocator + Copy>(
+    text: &mut Vec<u8, A>,
+    known: &[&[u8]],
+    word: &[u8],
+) -> Result<(), AllocError>
+    ensures { OnOk result (text.new.items ≡ text.old.items
+        ++ link_hint (map (λ name. name.now) known.now) word.now) }
+{
+    if has_byte(b'/', word) {
+        push_prefix_hint(text, word)
+    } else if is_like_address(word) {
+        push_address_form(text)
+    } else if begins_with_digit(word) {
+        text.extend_from_slice(LINK_RANGE.as_bytes())
+    } else {
+        push_known_name(text, known, word, LINK_RANGE)
+    }
+}
+
 /// Adds what would have been right in place of a word that does not fit its role.
 #[tactic(auto, unfolding(crate::specs::ArgumentHints::argument_hint))]
 fn push_argument_hint<A: Allocator + Copy>(
@@ -141,8 +221,10 @@ fn push_argument_hint<A: Allocator + Copy>(
     match role {
         Role::Area | Role::Forward => push_address_form(text),
         Role::Router | Role::Neighbor | Role::Address => push_name_hint(text, known, word),
+        Role::Link => push_link_hint(text, known, word),
         Role::Prefix => push_prefix_hint(text, word),
         Role::Word => push_near(text, word, commands(), "see help"),
+        Role::Kind => push_kind_hint(text, word),
         _ => push_range(text, role),
     }
 }

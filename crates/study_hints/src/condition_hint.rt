@@ -3,11 +3,11 @@
 ghost use Rattle.std.specs.Prelude.{◌≡◌, ◌++◌, OnOk, drop, flat_map, map};
 ghost use Rattle.edit_script.specs.Words.{words};
 ghost use Rattle.study_arguments.specs.Fault.{fault_at};
-ghost use Rattle.study_hints.specs.ConditionHints.{after_space, allowed, at_cost, at_kind, at_via, condition_at, condition_hint, condition_texts, expectation_hint, number_role, one_of, texts, words_from};
+ghost use Rattle.study_hints.specs.ConditionHints.{after_space, allowed, at_cost, at_kind, at_via, begins_with_only, condition_at, condition_hint, condition_texts, expectation_hint, number_role, one_of, texts, wants_kind, word_hint, words_from};
 ghost use Rattle.study_hints.specs.ArgumentHints.{or_near};
 ghost use Rattle.study_hints.specs.Near.{near};
 
-use crate::argument_hint::{push_name_hint, push_prefix_hint, push_range};
+use crate::argument_hint::{push_kind_hint, push_name_hint, push_prefix_hint, push_range};
 use crate::grammar::{command_text, expectation_text};
 use crate::near::{Candidate, nearest};
 use crate::role::Role;
@@ -80,6 +80,27 @@ fn allowed(word: ConditionWord, line: &[u8]) -> &'static [&'static str]
         ConditionWord::Lost | ConditionWord::Gone => &["none", "<=", "only"],
         ConditionWord::Loops | ConditionWord::Microloops | ConditionWord::Blackholes => &["none"],
         ConditionWord::Changes => &["<="],
+        ConditionWord::Audit => &["clean", "only"],
+    }
+}
+
+/// Whether the first word of a line is `only`.
+fn begins_with_only(line: &[u8]) -> bool
+    ensures { result ≡ begins_with_only (words line.now) }
+{
+    match first_word(line) {
+        Some(at) => at.word == b"only".as_slice(),
+        None => false,
+    }
+}
+
+/// Whether kinds of audit findings stand after the first word after that of a condition.
+fn wants_kind(word: ConditionWord, line: &[u8]) -> bool
+    ensures { result ≡ wants_kind word (words line.now) }
+{
+    match word {
+        ConditionWord::Audit => begins_with_only(line),
+        _ => false,
     }
 }
 
@@ -125,6 +146,23 @@ fn number_role(word: ConditionWord) -> Role
     }
 }
 
+/// Adds the hint for a word that is none of those that may stand at its place.
+fn push_word_hint<A: Allocator + Copy>(
+    text: &mut Vec<u8, A>,
+    word: ConditionWord,
+    line: &[u8],
+    found: &[u8],
+) -> Result<(), AllocError>
+    ensures { OnOk result (text.new.items
+        ≡ text.old.items ++ word_hint word (words line.now) found.now) }
+{
+    if wants_kind(word, line) {
+        push_kind_hint(text, found)
+    } else {
+        push_one_of(text, allowed(word, line))
+    }
+}
+
 /// Adds the hint for a fault after the word of a condition.
 #[tactic(auto, unfolding(crate::specs::ConditionHints::condition_hint))]
 fn push_condition_hint<A: Allocator + Copy>(
@@ -142,7 +180,7 @@ fn push_condition_hint<A: Allocator + Copy>(
         FaultKind::Script(ScriptFault::BadNumber) => push_range(text, number_role(word)),
         FaultKind::Script(ScriptFault::BadAddress) => push_name_hint(text, known, fault.word),
         FaultKind::Script(ScriptFault::BadPrefix) => push_prefix_hint(text, fault.word),
-        FaultKind::BadWord => push_one_of(text, allowed(word, line)),
+        FaultKind::BadWord => push_word_hint(text, word, line, fault.word),
         _ => text.extend_from_slice(expectation_text(word).as_bytes()),
     }
 }

@@ -50,6 +50,7 @@ fn see_command_text(word: SeeWord) -> &'static str
         SeeWord::Gone => "gone",
         SeeWord::Loops => "loops",
         SeeWord::Microloops => "microloops [COUNT]",
+        SeeWord::Audit => "audit [KIND]",
         SeeWord::Log => "log",
         SeeWord::Help => "help [WORD]",
     }
@@ -117,6 +118,7 @@ fn see_roles_of(word: SeeWord) -> &'static [Role]
         SeeWord::Gone => &[],
         SeeWord::Loops => &[],
         SeeWord::Microloops => &[Role::Count],
+        SeeWord::Audit => &[Role::Kind],
         SeeWord::Log => &[],
         SeeWord::Help => &[Role::Word],
     }
@@ -153,5 +155,6 @@ pub(crate) fn expectation_text(word: ConditionWord) -> &'static str
         ConditionWord::Blackholes => "expect blackholes none",
         ConditionWord::Same => "expect same [ROUTER]",
         ConditionWord::Changes => "expect changes <= NUMBER",
+        ConditionWord::Audit => "expect audit clean | only KIND..",
     }
 }

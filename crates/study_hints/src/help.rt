@@ -42,6 +42,7 @@ pub(crate) fn commands() -> &'static [StudyWord]
         StudyWord::See(SeeWord::Gone),
         StudyWord::See(SeeWord::Loops),
         StudyWord::See(SeeWord::Microloops),
+        StudyWord::See(SeeWord::Audit),
         StudyWord::See(SeeWord::Log),
         StudyWord::See(SeeWord::Help),
         StudyWord::Expect,
@@ -91,6 +92,7 @@ fn see_command_meaning(word: SeeWord) -> &'static str
         SeeWord::Gone => "routes that are gone because nobody announces their prefix",
         SeeWord::Loops => "forwarding loops, and blackholes that the baseline does not have",
         SeeWord::Microloops => "what may loop while routers change over the last edits",
+        SeeWord::Audit => "what the answers may not be trusted for; with a kind each place",
         SeeWord::Log => "the edits that are done, as lines",
         SeeWord::Help => "the words, or what one means",
     }

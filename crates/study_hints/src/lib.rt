@@ -3,7 +3,8 @@
 //!
 //! [`push_fault`] adds what stands on standard error for the first fault of a line:
 //! `script S2 UnknownWord drian (did you mean drop-link)`. [`push_help`] adds the lines that
-//! `help` answers. No call takes memory but for the text.
+//! `help` answers. [`nearest`] finds the word that is most like another. No call takes memory but
+//! for the text.
 #![tactic(auto)]
 
 // Words, and what they are to be.
@@ -23,3 +24,4 @@ mod hint;
 pub use escape::push_escaped;
 pub use help::{count_help, push_help};
 pub use hint::push_fault;
+pub use near::{Candidate, nearest};

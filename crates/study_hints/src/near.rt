@@ -3,7 +3,8 @@
 ghost use Rattle.std.specs.Prelude.{◌≡◌, ◌≤◌, length, map, option_map, reverse};
 ghost use Rattle.study_hints.specs.Near.{common, likeness, near};
 
-use study_words::{ConditionWord, StudyWord, Word};
+use std::alloc::Allocator;
+use study_words::{AuditKind, ConditionWord, StudyWord, Word};
 
 /// The length of the common front of two words.
 #[tactic(auto, using(crate::proofs::CommonFront::one_more, crate::proofs::CommonFront::ends_here, crate::proofs::CommonFront::all_common))]
@@ -44,7 +45,7 @@ fn likeness(word: &[u8], other: &[u8]) -> usize
 }
 
 /// A word that may be offered in place of one that is not known.
-pub(crate) trait Candidate {
+pub trait Candidate {
     ghost use Rattle.std.specs.Prelude.{◌≡◌, ℕ, List};
 
     /// How it is written.
@@ -75,6 +76,16 @@ impl Candidate for ConditionWord {
     }
 }
 
+impl Candidate for AuditKind {
+    ghost use Rattle.study_words.specs.AuditKinds.{audit_kind_text};
+
+    ghost written = { audit_kind_text };
+
+    fn bytes(&self) -> &[u8] {
+        self.text().as_bytes()
+    }
+}
+
 impl<'a> Candidate for &'a [u8] {
     ghost written = { λ word. word.now };
 
@@ -91,8 +102,17 @@ impl<'a> Candidate for &'a str {
     }
 }
 
-/// The first candidate that is most like a word, where one is like it at all.
-pub(crate) fn nearest<'a, T: Candidate>(word: &[u8], candidates: &'a [T]) -> Option<&'a T>
+impl<A: Allocator> Candidate for Vec<u8, A> {
+    ghost written = { λ word. word.items };
+
+    fn bytes(&self) -> &[u8] {
+        self.as_slice()
+    }
+}
+
+/// The first candidate that is most like a word, where one is like it at all: the length of their
+/// common front and that of their common end, each counted by itself and added, is the greatest.
+pub fn nearest<'a, T: Candidate>(word: &[u8], candidates: &'a [T]) -> Option<&'a T>
     ensures { option_map (λ found. T.written found.now) result
         ≡ near word.now (map T.written candidates.now) }
 {

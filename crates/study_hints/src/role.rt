@@ -9,7 +9,7 @@ use lsa_codec::{Addr, AreaId, Metric, Prefix, RouterId};
 use network_names::Names;
 use std::alloc::Allocator;
 use study_arguments::{Argument, Dotted, LinkName};
-use study_words::StudyWord;
+use study_words::{AuditKind, StudyWord};
 
 /// What a word of a line is to be.
 #[derive(Clone, Copy, Debug, PartialEq, Eq)]
@@ -42,6 +42,8 @@ pub(crate) enum Role {
     Number,
     /// A command word.
     Word,
+    /// A kind of audit findings.
+    Kind,
 }
 
 impl Role {
@@ -61,6 +63,7 @@ impl Role {
             Role::Forward => Dotted::read(names, word).is_ok(),
             Role::Tag | Role::Count | Role::Number => u32::read(names, word).is_ok(),
             Role::Word => StudyWord::read(names, word).is_ok(),
+            Role::Kind => AuditKind::read(names, word).is_ok(),
         }
     }
 }

@@ -4,6 +4,7 @@ pub mod LinkAnswers
 pub mod RouteAnswers
 pub mod ChangeAnswers
 pub mod LoopAnswers
+pub mod AuditAnswers
 pub mod OwnAnswers
 pub mod Questions
 pub mod steps

@@ -13,6 +13,9 @@ mod routes;
 mod changes;
 mod loops;
 
+// What the answers may not be trusted for.
+mod audit;
+
 // Edits and the language.
 mod help;
 mod log;

@@ -6,6 +6,7 @@ ghost use Rattle.lsdb.specs.Slots.{lists_of};
 ghost use Rattle.branches.specs.Branches.{sessions_of};
 ghost use Rattle.study_questions.specs.Questions.{IsQuestionAnswer};
 
+use crate::audit::audit;
 use crate::changes::{changes_answer, differences_answer, missing_answer};
 use crate::help::help_answer;
 use crate::links::{links_answer, networks_answer, routers_answer};
@@ -57,6 +58,7 @@ pub fn question<A: Allocator + Copy>(
         Question::Gone => missing_answer(alloc, names, branch, baseline, now, Missing::Gone),
         Question::Loops => loops_answer(alloc, names, branch, baseline, now),
         Question::Microloops(count) => microloops(alloc, branches, names, branch, count),
+        Question::Audit(kind) => audit(alloc, names, branches, branch, kind),
         Question::Log => log(alloc, branch, planner),
         Question::Help(word) => help_answer(alloc, branch, word),
     }

@@ -14,6 +14,8 @@ use Rattle.text_words.specs.Words.{Word}
 use Rattle.text_words.proofs.NumberLemmas.{number_again, own}
 use Rattle.study_words.specs.Named.{named as among}
 use Rattle.study_words.specs.Written.{compare, condition, route as route_kind, written}
+use Rattle.study_words.specs.declared.audit_kind.AuditKind.{AuditKind}
+use Rattle.study_words.specs.AuditKinds.{audit_kind_text}
 use Rattle.study_words.specs.ConditionWords.{condition_text}
 use Rattle.study_words.specs.RouteKinds.{route_kind_text}
 use Rattle.study_words.specs.StudyWords.{study_word_of}
@@ -24,13 +26,13 @@ use Rattle.study_words.proofs.TextLemmas.{word_found}
 use Rattle.study_arguments.specs.Arguments.{next_as}
 use Rattle.study_arguments.specs.Fault.{◌>>=◌}
 use Rattle.study_arguments.specs.Positions.{next}
-use Rattle.study_arguments.specs.Values.{Lookup, prefix}
+use Rattle.study_arguments.specs.Values.{Lookup, audit_kind, prefix}
 use Rattle.study_arguments.specs.Spelling.{neighbors_text, router_text}
-use Rattle.study_arguments.proofs.ArgumentLemmas.{addr_again, neighbors_again, net_again, one_or_more_again, router_again}
+use Rattle.study_arguments.proofs.ArgumentLemmas.{addr_again, kind_again, neighbors_again, net_again, one_or_more_again, router_again}
 use Rattle.study_script.specs.declared.condition.Bound.{Bound}
 use Rattle.study_script.specs.declared.condition.Passing.TheVariants as passing
-use Rattle.study_script.specs.Expected.{Expected, route, no_route, hops, path, lost, gone, no_microloops, same, few_changes, PairsAllowed, nothing, at_most, only}
-use Rattle.study_script.specs.Conditions.{allowed_of, begins_with_digit, bound_of, changes_of, condition_by, condition_of, cost_part}
+use Rattle.study_script.specs.Expected.{Expected, route, no_route, hops, path, lost, gone, no_microloops, same, few_changes, only_findings, PairsAllowed, nothing, at_most, only}
+use Rattle.study_script.specs.Conditions.{allowed_of, audit_of, begins_with_digit, bound_of, changes_of, condition_by, condition_of, cost_part}
 use Rattle.study_script.specs.Conditions.{entry_of, expectation_of, hops_of, kind_part, last_number, microloops_of, no_route_of, none_of}
 use Rattle.study_script.specs.Conditions.{not_part, passing_of, path_of, route_of, same_of, via_part}
 use Rattle.study_script.specs.Line.{asked_of, expect}
@@ -113,9 +115,13 @@ digit_first n h = begins (decimal n) (decimal_nonempty n h) (digits_decimal own 
   begins [] some all = absurd (omega arith)
   begins (d ∷ ds) some all = (and_parts (is_ascii_digit d) (all_ascii_digits ds) all).0
 
+all_kinds : (kinds : List AuditKind) → AllByRecursion (λ kind. Unit {0}) kinds
+all_kinds [] = tt
+all_kinds (kind ∷ kinds) = (tt, all_kinds kinds)
+
 pub condition_read : (names : Lookup) (word : Word) (what : Expected) → IsExpectedInRange what
     → condition_by names (condition_word what) (word, condition_rest what) ≡ Ok what
-unfolding condition_by no_route_of hops_of path_of passing_of none_of microloops_of same_of changes_of next_as
+unfolding condition_by no_route_of hops_of path_of passing_of none_of microloops_of same_of changes_of audit_of next_as
 condition_read names word (route id net kind via cost) h = route_again names word id net kind via cost h
 condition_read names word (no_route id net) h = simp (entry_again names word id net [] h.0 h.1)
 condition_read names word (hops id net bound) h =
@@ -131,6 +137,9 @@ condition_read names word (no_microloops (Some count)) h =
     simp (digit_first count (omega arith), number_again 4294967295 count (omega arith) (omega arith))
 condition_read names word (same (Some id)) h = simp (router_again names id h)
 condition_read names word (few_changes most) h = simp (number_read names (codes "<=") most h)
+condition_read names word (only_findings kinds) h =
+    simp (one_or_more_again (audit_kind names) audit_kind_text (λ kind. Unit {0}) (λ kind given. kind_again names kind)
+    (codes "only", map audit_kind_text kinds) kinds refl h (all_kinds kinds))
 condition_read names word what h = refl
 
 -- ---- expectations

@@ -14,7 +14,7 @@ use Rattle.study_script.specs.declared.question.Question.TheVariants as question
 use Rattle.study_arguments.specs.Fault.{made}
 use Rattle.study_arguments.specs.Values.{Lookup}
 use Rattle.study_arguments.specs.Arguments.{one_or_two_of, optional_of, two_of}
-use Rattle.study_arguments.proofs.ArgumentLemmas.{addr_again, router_again}
+use Rattle.study_arguments.proofs.ArgumentLemmas.{addr_again, kind_again, router_again}
 use Rattle.study_script.specs.Questions.{question_of}
 use Rattle.study_script.specs.Line.{asked_of, see}
 use Rattle.study_script.specs.Spelling.{IsQuestionInRange, question_rest, word_of}
@@ -34,6 +34,7 @@ question_read names word (question.Routes id (Some address)) h = simp (router_ag
 question_read names word (question.Path id address) h = simp (router_again names id h.0, addr_again names address h.1)
 question_read names word (question.Changes (Some id)) h = simp (router_again names id h)
 question_read names word (question.Microloops (Some count)) h = simp (number_again 4294967295 count (omega arith) (omega arith))
+question_read names word (question.Audit (Some kind)) h = simp (kind_again names kind)
 question_read names word (question.Help (Some found)) h = simp (study_word_found found)
 question_read names word q h = refl
 

@@ -12,12 +12,12 @@ use Rattle.study_words.specs.RouteKinds.{route_kind_of}
 use Rattle.study_arguments.specs.Arguments.{next_as}
 use Rattle.study_arguments.specs.Fault.{◌>>=◌, FaultAt, bad_word, made, unknown_word}
 use Rattle.study_arguments.specs.Positions.{At, end, next}
-use Rattle.study_arguments.specs.Values.{Lookup, addr, comparison, number32, prefix, router_id}
+use Rattle.study_arguments.specs.Values.{Lookup, addr, audit_kind, comparison, number32, prefix, router_id}
 use Rattle.study_arguments.specs.Lists.{neighbors, one_or_more}
 use Rattle.study_script.specs.declared.condition.Bound.{Bound}
 use Rattle.study_script.specs.declared.condition.Passing.{Passing}
 use Rattle.study_script.specs.declared.condition.Passing.TheVariants as passing
-use Rattle.study_script.specs.Expected.{Expected, route, no_route, hops, path, lost, gone, no_loops, no_microloops, no_blackholes, same, few_changes, PairsAllowed, nothing, at_most, only}
+use Rattle.study_script.specs.Expected.{Expected, route, no_route, hops, path, lost, gone, no_loops, no_microloops, no_blackholes, same, few_changes, clean_audit, only_findings, PairsAllowed, nothing, at_most, only}
 
 -- ---- parts of conditions; a part that is read goes with its last word and the words after it
 
@@ -146,6 +146,13 @@ changes_of names line = next line >>= λ first.
     if bytes_eq first.0 (codes "<=") then made few_changes (last_number names first)
     else Err (bad_word first.0)
 
+-- audit clean | only KIND..
+unfoldable pub audit_of : Lookup → At → Result Expected FaultAt
+audit_of names line = next line >>= λ first.
+    if bytes_eq first.0 (codes "clean") then made (λ _. clean_audit) (end first)
+    else if bytes_eq first.0 (codes "only") then made only_findings (one_or_more (audit_kind names) first)
+    else Err (bad_word first.0)
+
 -- ---- expectations
 
 -- the word of a condition, and the words after it
@@ -161,6 +168,7 @@ condition_by names words.Microloops line = microloops_of names line
 condition_by names words.Blackholes line = made (λ _. no_blackholes) (none_of line)
 condition_by names words.Same line = same_of names line
 condition_by names words.Changes line = changes_of names line
+condition_by names words.Audit line = audit_of names line
 
 -- the word is this line's
 unfoldable pub condition_of : Lookup → At → Result Expected FaultAt

@@ -3,6 +3,7 @@ use Rattle.std.specs.Prelude.{ℕ, Bool, List, Option, option_map}
 use Rattle.lsa_codec.specs.Prefix.{Net}
 use Rattle.lsa_codec.specs.declared.address.Addr.{Addr}
 use Rattle.lsa_codec.specs.declared.address.RouterId.{RouterId}
+use Rattle.study_words.specs.declared.audit_kind.AuditKind.{AuditKind}
 use Rattle.study_words.specs.declared.route_kind.RouteKind.{RouteKind}
 use Rattle.study_script.specs.declared.condition.Allowed.{Allowed}
 use Rattle.study_script.specs.declared.condition.Allowed.TheVariants as allowed
@@ -31,6 +32,8 @@ pub data Expected : Type 0 where
   no_blackholes : Expected
   same : Option RouterId → Expected
   few_changes : ℕ → Expected
+  clean_audit : Expected
+  only_findings : List AuditKind → Expected
 
 abbrev pub pairs_allowed : {A : Type 0} → Allowed A → PairsAllowed
 pairs_allowed allowed.Nothing = nothing
@@ -49,6 +52,8 @@ expected (condition.NoMicroloops count) = no_microloops count
 expected condition.NoBlackholes = no_blackholes
 expected (condition.Same r) = same r
 expected (condition.AtMostChanges most) = few_changes most
+expected condition.CleanAudit = clean_audit
+expected (condition.OnlyFindings kinds) = only_findings kinds.items
 
 -- whether the condition is turned around, and the condition
 abbrev pub expectation : {A : Type 0} → Expectation A → Bool × Expected

@@ -6,7 +6,7 @@ use Rattle.study_script.specs.declared.question.Question.{Question}
 use Rattle.study_script.specs.declared.question.Question.TheVariants as question
 use Rattle.study_arguments.specs.Fault.{FaultAt, made}
 use Rattle.study_arguments.specs.Positions.{At}
-use Rattle.study_arguments.specs.Values.{Lookup, addr, number32, router_id, study_word}
+use Rattle.study_arguments.specs.Values.{Lookup, addr, audit_kind, number32, router_id, study_word}
 use Rattle.study_arguments.specs.Arguments.{one_or_two_of, optional_of, two_of}
 use Rattle.study_script.specs.PlanLines.{alone}
 
@@ -22,5 +22,6 @@ question_of names words.Lost line = alone question.Lost line
 question_of names words.Gone line = alone question.Gone line
 question_of names words.Loops line = alone question.Loops line
 question_of names words.Microloops line = made question.Microloops (optional_of (number32 names) line)
+question_of names words.Audit line = made question.Audit (optional_of (audit_kind names) line)
 question_of names words.Log line = alone question.Log line
 question_of names words.Help line = made question.Help (optional_of (study_word names) line)

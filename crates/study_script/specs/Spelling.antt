@@ -10,6 +10,7 @@ use Rattle.study_words.specs.declared.condition_word.ConditionWord.{ConditionWor
 use Rattle.study_words.specs.declared.condition_word.ConditionWord.TheVariants as words
 use Rattle.study_words.specs.declared.see_word.SeeWord.{SeeWord}
 use Rattle.study_words.specs.declared.see_word.SeeWord.TheVariants as see_words
+use Rattle.study_words.specs.AuditKinds.{audit_kind_text}
 use Rattle.study_words.specs.Comparisons.{comparison_text}
 use Rattle.study_words.specs.ConditionWords.{condition_text}
 use Rattle.study_words.specs.RouteKinds.{route_kind_text}
@@ -21,7 +22,7 @@ use Rattle.study_script.specs.declared.condition.Passing.{Passing}
 use Rattle.study_script.specs.declared.condition.Passing.TheVariants as passing
 use Rattle.study_script.specs.declared.question.Question.{Question}
 use Rattle.study_script.specs.declared.question.Question.TheVariants as question
-use Rattle.study_script.specs.Expected.{Expected, route, no_route, hops, path, lost, gone, no_loops, no_microloops, no_blackholes, same, few_changes, PairsAllowed, nothing, at_most, only}
+use Rattle.study_script.specs.Expected.{Expected, route, no_route, hops, path, lost, gone, no_loops, no_microloops, no_blackholes, same, few_changes, clean_audit, only_findings, PairsAllowed, nothing, at_most, only}
 
 -- a word that may be left out
 abbrev pub if_given : {X : Type 0} → (X → Word) → Option X → List Word
@@ -42,6 +43,7 @@ word_of question.Lost = see_words.Lost
 word_of question.Gone = see_words.Gone
 word_of question.Loops = see_words.Loops
 word_of (question.Microloops count) = see_words.Microloops
+word_of (question.Audit kind) = see_words.Audit
 word_of question.Log = see_words.Log
 word_of (question.Help word) = see_words.Help
 
@@ -58,6 +60,7 @@ question_rest question.Lost = []
 question_rest question.Gone = []
 question_rest question.Loops = []
 question_rest (question.Microloops count) = if_given decimal count
+question_rest (question.Audit kind) = if_given audit_kind_text kind
 question_rest question.Log = []
 question_rest (question.Help word) = if_given study_text word
 
@@ -89,6 +92,7 @@ IsQuestionInRange question.Lost = Unit
 IsQuestionInRange question.Gone = Unit
 IsQuestionInRange question.Loops = Unit
 IsQuestionInRange (question.Microloops count) = CountInRange count
+IsQuestionInRange (question.Audit kind) = Unit
 IsQuestionInRange question.Log = Unit
 IsQuestionInRange (question.Help word) = Unit
 
@@ -127,6 +131,8 @@ condition_word (no_microloops count) = words.Microloops
 condition_word no_blackholes = words.Blackholes
 condition_word (same router) = words.Same
 condition_word (few_changes most) = words.Changes
+condition_word clean_audit = words.Audit
+condition_word (only_findings kinds) = words.Audit
 
 -- the words after that of the condition
 abbrev pub condition_rest : Expected → List Word
@@ -142,6 +148,8 @@ condition_rest (no_microloops count) = if_given decimal count ++ codes "none" �
 condition_rest no_blackholes = codes "none" ∷ []
 condition_rest (same router) = if_given router_text router
 condition_rest (few_changes most) = codes "<=" ∷ decimal most ∷ []
+condition_rest clean_audit = codes "clean" ∷ []
+condition_rest (only_findings kinds) = codes "only" ∷ map audit_kind_text kinds
 
 abbrev pub not_words : Bool → List Word
 not_words true = codes "not" ∷ []
@@ -183,6 +191,8 @@ IsExpectedInRange (no_microloops count) = CountInRange count
 IsExpectedInRange no_blackholes = Unit
 IsExpectedInRange (same router) = RouterInRange router
 IsExpectedInRange (few_changes most) = most < 2 ^ 32
+IsExpectedInRange clean_audit = Unit
+IsExpectedInRange (only_findings kinds) = 0 < length kinds
 
 -- ---- lines
 

@@ -2,7 +2,7 @@
 
 use lsa_codec::{Addr, Prefix, RouterId};
 use std::alloc::{Allocator, Global};
-use study_words::{Comparison, RouteKind};
+use study_words::{AuditKind, Comparison, RouteKind};
 
 /// A comparison with a number.
 #[derive(Clone, Copy, Debug, PartialEq, Eq)]
@@ -92,6 +92,11 @@ pub enum Condition<A: Allocator = Global> {
     Same(Option<RouterId>),
     /// `changes <= NUMBER`: this number of changes, or fewer.
     AtMostChanges(u32),
+    /// `audit clean`: no finding makes answers wrong.
+    CleanAudit,
+    /// `audit only KIND..`: each finding that makes answers wrong is of one of these kinds, of
+    /// which there is one at least.
+    OnlyFindings(Vec<AuditKind, A>),
 }
 
 /// `expect [not] CONDITION`.

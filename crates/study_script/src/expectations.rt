@@ -7,6 +7,7 @@ ghost use Rattle.study_arguments.specs.Positions.{words_at};
 ghost use Rattle.study_script.specs.Conditions.{condition_by, condition_of, expectation_of, not_part};
 ghost use Rattle.study_script.specs.Expected.{expectation, expected};
 
+use crate::audit_condition::audit;
 use crate::change_conditions::{changes, same};
 use crate::condition::{Condition, Expectation};
 use crate::none_conditions::{microloops, none};
@@ -47,6 +48,7 @@ fn condition_by<'a, A: Allocator + Copy>(
         }
         ConditionWord::Same => Ok(same(names, line)?),
         ConditionWord::Changes => Ok(changes(names, line)?),
+        ConditionWord::Audit => audit(alloc, names, line),
     }
 }
 

@@ -19,6 +19,7 @@ mod plan_lines;
 mod questions;
 
 // Reading expectations.
+mod audit_condition;
 mod change_conditions;
 mod expectations;
 mod none_conditions;

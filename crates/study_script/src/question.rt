@@ -1,7 +1,7 @@
 //! Questions that only studies have.
 
 use lsa_codec::{Addr, RouterId};
-use study_words::StudyWord;
+use study_words::{AuditKind, StudyWord};
 
 /// A question about the database of a branch, or about the language.
 #[derive(Clone, Copy, Debug, PartialEq, Eq)]
@@ -39,6 +39,8 @@ pub enum Question {
     /// `microloops [COUNT]`: what may loop while routers change over the last edits; 1 where COUNT,
     /// which is 0 to 4294967295, is left out.
     Microloops(Option<u32>),
+    /// `audit [KIND]`: what the answers may not be trusted for, or each place of a kind.
+    Audit(Option<AuditKind>),
     /// `log`: the edits that are done, as lines.
     Log,
     /// `help [WORD]`: all words, or what one means.

@@ -40,6 +40,7 @@ pub(crate) fn question<'a, A: Allocator + Copy>(
         SeeWord::Gone => alone(Question::Gone, line),
         SeeWord::Loops => alone(Question::Loops, line),
         SeeWord::Microloops => Ok(Question::Microloops(optional(names, line)?)),
+        SeeWord::Audit => Ok(Question::Audit(optional(names, line)?)),
         SeeWord::Log => alone(Question::Log, line),
         SeeWord::Help => Ok(Question::Help(optional(names, line)?)),
     }

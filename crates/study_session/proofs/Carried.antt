@@ -1,9 +1,11 @@
 -- What a line is answered, and the study after it, by what the line means.
 use Rattle.std.proofs.Common.{◌≡◌, ℕ, List, Option, None, Some, Result, Ok, Err, IfOk, OnOk, refl, ap, subst, sym}
+use Rattle.edit_history.specs.Session.{Session}
 use Rattle.branches.specs.Branches.{Sessions}
 use Rattle.study_arguments.specs.Fault.{FaultAt}
 use Rattle.study_script.specs.Line.{Asked}
 use Rattle.study_answers.specs.Answers.{AnswerValue}
+use Rattle.study_session.specs.Contexts.{ContextValue, context_in}
 use Rattle.study_session.specs.Studies.{Study}
 use Rattle.study_session.specs.Lines.{IsAnswerBy, IsAnswerIn, sessions_by, sessions_in}
 use Rattle.study_answers.specs.Answers.{fault_answer}
@@ -18,7 +20,8 @@ module _ (s : Study) (meant : Result (Option (ℕ × Asked)) FaultAt) where
 
   -- something is asked for in a branch
   module _ (branch : ℕ) (asked : Asked) (is : meant ≡ Ok (Some (branch, asked))) where
-    pub some_answered : (line : List ℕ) (answer : AnswerValue) → IsAnswerIn s branch asked answer → IsAnswerBy s line meant (Some answer)
+    pub some_answered : (line : List ℕ) (answer : AnswerValue) → IsAnswerIn (context_in s branch line) (s.sessions branch) asked answer
+        → IsAnswerBy s line meant (Some answer)
     some_answered line answer answered = subst (λ (m : Result (Option (ℕ × Asked)) FaultAt). IsAnswerBy s line m (Some answer)) (sym is) answered
 
     pub some_after : sessions_in branch asked s.sessions ≡ sessions_by meant s.sessions
@@ -34,9 +37,9 @@ module _ (s : Study) (meant : Result (Option (ℕ × Asked)) FaultAt) where
     fault_after = ap (λ (m : Result (Option (ℕ × Asked)) FaultAt). sessions_by m s.sessions) (sym is)
 
 -- what is asked for, by the command
-pub answered : {E : Type 0} (s : Study) (branch : ℕ) (result : Result AnswerValue E) {given what : Asked} → given ≡ what
-    → IfOk result (IsAnswerIn s branch what) → IfOk result (IsAnswerIn s branch given)
-answered s branch result is = subst (λ (a : Asked). IfOk result (IsAnswerIn s branch a)) (sym is)
+pub answered : {E : Type 0} (x : ContextValue) (s : Session) (result : Result AnswerValue E) {given what : Asked} → given ≡ what
+    → IfOk result (IsAnswerIn x s what) → IfOk result (IsAnswerIn x s given)
+answered x s result is = subst (λ (a : Asked). IfOk result (IsAnswerIn x s a)) (sym is)
 
 module _ (branch : ℕ) (all after : Sessions) where
   pub left_by : {given what : Asked} → given ≡ what → after ≡ sessions_in branch what all → after ≡ sessions_in branch given all

@@ -5,18 +5,22 @@ use Rattle.lsa_codec.specs.declared.address.RouterId.{RouterId}
 use Rattle.edit_script.specs.declared.command.Command.{Command}
 use Rattle.edit_history.specs.Session.{Session, state}
 use Rattle.study_arguments.specs.declared.link.LinkName.{LinkName}
-use Rattle.study_text.specs.Shown.{Called}
 use Rattle.link_report.specs.Links.{link_at}
 use Rattle.branches.specs.Branches.{Sessions, stepped}
-use Rattle.branches.specs.Replies.{reply_to}
 use Rattle.study_session.specs.declared.link_edit.LinkEdit.{LinkEdit}
 use Rattle.study_answers.specs.Answers.{refused_answer}
-use Rattle.study_session.specs.PlanAnswers.{changed_answer}
+use Rattle.refusal_hints.specs.CommandHints.{many_links_hint}
+use Rattle.study_session.specs.Contexts.{ContextValue, situation}
+use Rattle.study_session.specs.Explained.{with_hint}
+use Rattle.study_session.specs.PlanAnswers.{command_answer}
 use Rattle.study_session.specs.NamedCommands.{change_text, link_answer, link_edit, link_stepped, many_links, named_number}
 
 -- sessions before an edit and after its look-up, and the session of the branch's planner
-module _ (area : AreaId) (router : RouterId) (name : LinkName) (edit : LinkEdit) (branch : ℕ)
-    (all now : Sessions) (kept : now ≡ all) (planner : Session) (of_branch : planner ≡ now branch) where
+module _ (x : ContextValue) (area : AreaId) (router : RouterId) (name : LinkName) (edit : LinkEdit)
+    (all now : Sessions) (kept : now ≡ all) (planner : Session) (of_branch : planner ≡ now x.branch) where
+  abbrev branch : ℕ
+  branch = x.branch
+
   session_is : planner ≡ all branch
   session_is = of_branch ∙ ap (λ (sessions : Sessions). sessions branch) kept
 
@@ -27,18 +31,17 @@ module _ (area : AreaId) (router : RouterId) (name : LinkName) (edit : LinkEdit)
   -- one link is found
   module _ (number : ℕ) (command : Command) (is_edit : command ≡ link_edit edit area router number)
       (is_number : Some number ≡ named_number planner area router name) where
-    pub found_answer : (called : Called) (change text : List ℕ) → text ≡ change
-        → change ≡ change_text edit called (link_at (state planner) area router number)
-        → changed_answer branch text (reply_to (now branch) command)
-        ≡ link_answer called (all branch) branch area router edit (named_number (all branch) area router name)
+    pub found_answer : (change : List ℕ) → change ≡ change_text edit x.called (link_at (state planner) area router number)
+        → command_answer x (now branch) command (Some change)
+        ≡ link_answer x (all branch) area router name edit (named_number (all branch) area router name)
     unfolding link_answer
-    found_answer called change text are says =
-        ap (λ (t : List ℕ). changed_answer branch t (reply_to (now branch) command))
-        (are ∙ subst (λ (s : Session). change ≡ change_text edit called (link_at (state s) area router number)) session_is says)
-        ∙ ap (λ (s : Session). changed_answer branch (change_text edit called (link_at (state (all branch)) area router number)) (reply_to s command))
+    found_answer change says =
+        ap (λ (t : List ℕ). command_answer x (now branch) command (Some t))
+        (subst (λ (s : Session). change ≡ change_text edit x.called (link_at (state s) area router number)) session_is says)
+        ∙ ap (λ (s : Session). command_answer x s command (Some (change_text edit x.called (link_at (state (all branch)) area router number))))
         (ap (λ (sessions : Sessions). sessions branch) kept)
-        ∙ ap (λ (c : Command). changed_answer branch (change_text edit called (link_at (state (all branch)) area router number)) (reply_to (all branch) c)) is_edit
-        ∙ ap (link_answer called (all branch) branch area router edit) (number_is (Some number) is_number)
+        ∙ ap (λ (c : Command). command_answer x (all branch) c (Some (change_text edit x.called (link_at (state (all branch)) area router number)))) is_edit
+        ∙ ap (link_answer x (all branch) area router name edit) (number_is (Some number) is_number)
 
     pub found_stepped : stepped branch command now ≡ link_stepped branch area router edit (named_number (all branch) area router name) all
     unfolding link_stepped
@@ -48,10 +51,12 @@ module _ (area : AreaId) (router : RouterId) (name : LinkName) (edit : LinkEdit)
 
   -- several are
   module _ (are_several : None ≡ named_number planner area router name) where
-    pub several_answer : (called : Called)
-        → refused_answer branch many_links ≡ link_answer called (all branch) branch area router edit (named_number (all branch) area router name)
+    pub several_answer : with_hint (many_links_hint (situation x planner) x.words area router name) (refused_answer branch many_links)
+        ≡ link_answer x (all branch) area router name edit (named_number (all branch) area router name)
     unfolding link_answer
-    several_answer called = ap (link_answer called (all branch) branch area router edit) (number_is None are_several)
+    several_answer =
+        ap (λ (s : Session). with_hint (many_links_hint (situation x s) x.words area router name) (refused_answer branch many_links)) session_is
+        ∙ ap (link_answer x (all branch) area router name edit) (number_is None are_several)
 
     pub several_stepped : now ≡ link_stepped branch area router edit (named_number (all branch) area router name) all
     unfolding link_stepped

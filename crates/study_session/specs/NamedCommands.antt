@@ -11,7 +11,6 @@ use Rattle.lsa_codec.specs.declared.address.AreaId.{AreaId}
 use Rattle.edit_script.specs.declared.command.Command.{Command}
 use Rattle.edit_script.specs.declared.command.Command.TheVariants as command
 use Rattle.edit_script.specs.declared.edit.Edit.TheVariants as edit
-use Rattle.branches.specs.Replies.{reply_to}
 use Rattle.study_arguments.specs.declared.link.LinkName.{LinkName}
 use Rattle.study_arguments.specs.declared.link.LinkName.TheVariants.{Address, Number, Prefix}
 use Rattle.study_script.specs.declared.named_command.NamedCommand.{NamedCommand}
@@ -21,7 +20,13 @@ use Rattle.link_report.specs.NamedLinks.{link_numbers}
 use Rattle.study_session.specs.declared.link_edit.LinkEdit.{LinkEdit}
 use Rattle.study_session.specs.declared.link_edit.LinkEdit.TheVariants as link
 use Rattle.study_answers.specs.Answers.{AnswerValue, refused_answer}
-use Rattle.study_session.specs.PlanAnswers.{changed_answer, plan_answer}
+use Rattle.refusal_hints.specs.CommandHints.{many_links_hint}
+use Rattle.study_session.specs.Contexts.{ContextValue, situation}
+use Rattle.study_session.specs.Explained.{with_hint}
+use Rattle.study_session.specs.PlanAnswers.{command_answer, differing_answer}
+use Rattle.study_session.specs.Ways.{way_of}
+use Rattle.study_session.specs.declared.way.Way.{Way}
+use Rattle.study_session.specs.declared.way.Way.TheVariants.{Plain, Link, Differing}
 
 -- ---- which link is named
 
@@ -58,25 +63,30 @@ edited_text (link.Cost metric) called v =
     codes " " ++ name_text called v ++ codes ": " ++ decimal v.link.metric ++ codes " -> " ++ decimal metric
 edited_text link.Drop called v = codes " gone " ++ description called v
 
--- if there is such a link
+-- if there is such a link; then the line ends
 unfoldable pub change_text : LinkEdit → Called → Option LinkValue → List ℕ
-change_text edit called v = option_map_or (edited_text edit called) v []
+change_text edit called v = option_map_or (edited_text edit called) v [] ++ codes "\n"
 
 abbrev pub many_links : List ℕ × List ℕ
 many_links = (codes "E14", codes "ManyLinks")
 
-module _ (called : Called) (s : Session) (branch : ℕ) where
+module _ (x : ContextValue) (s : Session) where
   -- the answer to an edit of the link with a number, if not several are named
-  unfoldable pub link_answer : AreaId → RouterId → LinkEdit → Option ℕ → AnswerValue
-  link_answer area router edit None = refused_answer branch many_links
-  link_answer area router edit (Some number) =
-      changed_answer branch (change_text edit called (link_at (state s) area router number)) (reply_to s (link_edit edit area router number))
+  unfoldable pub link_answer : AreaId → RouterId → LinkName → LinkEdit → Option ℕ → AnswerValue
+  link_answer area router name edit None =
+      with_hint (many_links_hint (situation x s) x.words area router name) (refused_answer x.branch many_links)
+  link_answer area router name edit (Some number) =
+      command_answer x s (link_edit edit area router number) (Some (change_text edit x.called (link_at (state s) area router number)))
 
-  -- the answer to a command with names
+  -- the answer to a command, by how it is carried out
+  unfoldable pub way_answer : Way → AnswerValue
+  way_answer (Plain c) = command_answer x s c None
+  way_answer (Link area router name edit) = link_answer area router name edit (named_number s area router name)
+  way_answer (Differing edit) = differing_answer x s (command.Edit edit)
+
+  -- the answer to a command in whose line names may stand
   unfoldable pub named_answer : NamedCommand → AnswerValue
-  named_answer (named_command.Command c) = plan_answer branch (reply_to s c)
-  named_answer (named_command.Cost area router name metric) = link_answer area router (link.Cost metric) (named_number s area router name)
-  named_answer (named_command.DropLink area router name) = link_answer area router link.Drop (named_number s area router name)
+  named_answer c = way_answer (way_of x.is_verbose c)
 
 -- ---- sessions
 

@@ -1,5 +1,5 @@
 -- Studies.
-use Rattle.std.specs.Prelude.{ℕ, List}
+use Rattle.std.specs.Prelude.{ℕ, Bool, List}
 use Rattle.lsdb.specs.Lists.{Lists}
 use Rattle.lsdb.specs.Slots.{Slots, lists_of}
 use Rattle.edit_history.specs.Session.{state}
@@ -11,26 +11,29 @@ use Rattle.study_arguments.specs.Values.{Lookup}
 use Rattle.study_text.specs.Shown.{Called}
 use Rattle.study_session.specs.declared.session.StudySession.{StudySession}
 
--- the sessions of the branches, the baseline, what names stand for, what routers are called, and all names
+-- the sessions of the branches, the baseline, what names stand for, what routers are called, all names, and whether each edit
+-- says what it changed
 pub record Study : Type 0 where
   pub sessions : Sessions
   pub baseline : Lists
   pub lookup : Lookup
   pub called : Called
   pub known : List Word
+  pub is_verbose : Bool
 
 -- that of these sessions, compared with a database, where routers and addresses have these names
-abbrev pub study_by : {A : Type 0} → Sessions → Slots → Names A → Study
-study_by sessions baseline names = record {
+abbrev pub study_by : {A : Type 0} → Sessions → Slots → Names A → Bool → Study
+study_by sessions baseline names is_verbose = record {
   sessions = sessions;
   baseline = lists_of baseline;
   lookup = stands_for names;
   called = called names;
   known = names_of names;
+  is_verbose = is_verbose;
 }
 
 unfoldable pub study_of : {A : Type 0} → StudySession A → Study
-study_of s = study_by (sessions_of s.branches) s.baseline s.names
+study_of s = study_by (sessions_of s.branches) s.baseline s.names s.is_verbose
 
 -- the database of a branch
 abbrev pub database_in : Study → ℕ → Lists

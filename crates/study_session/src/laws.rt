@@ -1,6 +1,6 @@
 //! Laws of studies.
 
-ghost use Rattle.std.specs.Prelude.{◌≡◌, ℕ, List, Option, Ok, Some};
+ghost use Rattle.std.specs.Prelude.{◌≡◌, ℕ, List, Option, Ok, Some, false};
 ghost use Rattle.edit_script.specs.declared.command.Command.{Command as AnyCommand};
 ghost use Rattle.edit_script.specs.Line.{meaning as plan_meaning};
 ghost use Rattle.branches.specs.Branches.{stepped};
@@ -11,13 +11,14 @@ ghost use Rattle.study_session.specs.Lines.{IsAnswerTo, after_line};
 
 use study_script::plan_lines_mean_the_same;
 
-/// A line that `ospf-plan` takes has the reply that it gives, and leaves the sessions that it
-/// leaves.
+/// A line that `ospf-plan` takes has the reply that it gives, unless edits say what they changed,
+/// and leaves the sessions that it leaves.
 ///
 /// The function does nothing: its contract is the law.
 pub fn plan_lines_are_answered_alike()
     ensures text { (s : Study) (line : List ℕ) (branch : ℕ) (c : AnyCommand) (answer : AnswerValue)
-        → plan_meaning line ≡ Ok (branch, c) → IsAnswerTo s line (Some answer)
+        → s.is_verbose ≡ false → plan_meaning line ≡ Ok (branch, c)
+        → IsAnswerTo s line (Some answer)
         → answer.text ≡ reply_text branch (reply_to (s.sessions branch) c) }
     ensures sessions { (s : Study) (line : List ℕ) (branch : ℕ) (c : AnyCommand)
         → plan_meaning line ≡ Ok (branch, c)

@@ -64,7 +64,7 @@ impl LinkEdit {
     }
 }
 
-/// What is said of the link that is edited, if there is one.
+/// What is said of the link that is edited, if there is one, and the end of the line.
 #[tactic(auto, unfolding(crate::specs::NamedCommands::change_text))]
 pub(crate) fn change_text<A: Allocator + Copy>(
     alloc: A,
@@ -79,5 +79,6 @@ pub(crate) fn change_text<A: Allocator + Copy>(
     if let Some(line) = line {
         edit.push_to(&mut text, names, line)?;
     }
+    push_word(&mut text, "\n")?;
     Ok(text)
 }

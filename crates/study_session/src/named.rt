@@ -1,19 +1,25 @@
 //! Commands of `ospf-plan` in whose lines names stand.
 
-ghost use Rattle.std.specs.Prelude.{◌≡◌, ◌<◌, IfOk, IfSome, OnOk, option_map};
+ghost use Rattle.std.specs.Prelude.{◌≡◌, ◌<◌, IfOk, IfSome, OnOk, Some, option_map};
 ghost use Rattle.edit_history.specs.Session.{state};
 ghost use Rattle.link_report.specs.Links.{link_at};
-ghost use Rattle.network_names.specs.Names.{called};
 ghost use Rattle.branches.specs.Branches.{sessions_of};
-ghost use Rattle.study_session.specs.NamedCommands.{change_text, link_answer, link_stepped, named_answer, named_number, named_stepped, number_found, one_of};
+ghost use Rattle.study_answers.specs.Answers.{refused_answer};
+ghost use Rattle.refusal_hints.specs.CommandHints.{many_links_hint};
+ghost use Rattle.study_session.specs.Contexts.{context_of, situation};
+ghost use Rattle.study_session.specs.Explained.{with_hint};
+ghost use Rattle.study_session.specs.NamedCommands.{change_text, link_answer, link_stepped, many_links, named_answer, named_number, named_stepped, number_found, one_of};
 
+use crate::context::Context;
+use crate::explained::with_hint;
 use crate::link_edit::{LinkEdit, change_text};
-use crate::plan::{changing, plan};
+use crate::plan::{differing, plan};
+use crate::way::{Way, way_of};
 use branches::Branches;
 use link_report::{link_line_at, link_numbers, router_lsa_of_any_age};
 use lsa_codec::{AreaId, RouterId};
-use network_names::Names;
 use recalculate::Planner;
+use refusal_hints::many_links_hint;
 use std::alloc::{AllocError, Allocator};
 use study_answers::Answer;
 use study_arguments::LinkName;
@@ -78,93 +84,91 @@ fn named_number<A: Allocator + Copy>(
 /// The number of the link that is named, 0 where there is none, and what is said of its edit;
 /// `None` where several links are named.
 fn found<A: Allocator + Copy>(
-    alloc: A,
+    context: &Context<'_, '_, A>,
     planner: &Planner<A>,
-    names: &Names<'_, A>,
-    place: (AreaId, RouterId, LinkName),
+    place: &(AreaId, RouterId, LinkName),
     edit: LinkEdit,
 ) -> Result<Option<(u16, Vec<u8, A>)>, AllocError>
     ensures number { IfOk result (λ found. option_map (λ f. f.0) found
-        ≡ named_number planner.now.session place.0 place.1 place.2) }
+        ≡ named_number planner.now.session place.now.0 place.now.1 place.now.2) }
     ensures change { IfOk result (λ found. IfSome found (λ f. f.1.items
-        ≡ change_text edit (called names.now)
-        (link_at (state planner.now.session) place.0 place.1 f.0))) }
+        ≡ change_text edit (context_of context.now).called
+        (link_at (state planner.now.session) place.now.0 place.now.1 f.0))) }
 {
-    let (area, router, name) = place;
+    let alloc = context.alloc;
+    let (area, router, name) = *place;
     let Some(number) = named_number(alloc, planner, area, router, name)? else {
         return Ok(None);
     };
     let line = link_line_at(alloc, planner.database(), area, router, number)?;
-    let change = change_text(alloc, names, edit, line.as_ref())?;
+    let change = change_text(alloc, context.names, edit, line.as_ref())?;
     Ok(Some((number, change)))
+}
+
+/// The answer to an edit of a link where several links are named, with their numbers.
+fn many_links<A: Allocator + Copy>(
+    context: &Context<'_, '_, A>,
+    planner: &Planner<A>,
+    place: &(AreaId, RouterId, LinkName),
+) -> Result<Answer<A>, AllocError>
+    ensures { IfOk result (λ answer. answer ≡ with_hint (many_links_hint
+        (situation (context_of context.now) planner.now.session)
+        (context_of context.now).words place.now.0 place.now.1 place.now.2)
+        (refused_answer context.now.branch many_links)) }
+{
+    let alloc = context.alloc;
+    let answer = Answer::refused(alloc, context.branch, "E14", "ManyLinks")?;
+    let situation = context.situation(planner);
+    let hint = many_links_hint(alloc, &situation, context.names, context.line, *place)?;
+    with_hint(answer, &hint)
 }
 
 /// Carries out an edit of a link that is named, and says what it changed; refused where several
 /// links are named.
 fn edit_link<A: Allocator + Copy>(
-    alloc: A,
     branches: &mut Branches<A>,
-    names: &Names<'_, A>,
-    branch: u8,
+    context: &Context<'_, '_, A>,
     place: (AreaId, RouterId, LinkName),
     edit: LinkEdit,
 ) -> Result<Answer<A>, AllocError>
-    requires { branch < 8 }
-    ensures answer { IfOk result (λ answer. answer
-        ≡ link_answer (called names.now) (sessions_of branches.old branch) branch place.0 place.1
-        edit (named_number (sessions_of branches.old branch) place.0 place.1 place.2)) }
+    requires { context.now.branch < 8 }
+    ensures answer { IfOk result (λ answer. answer ≡ link_answer (context_of context.now)
+        (sessions_of branches.old context.now.branch) place.0 place.1 place.2 edit
+        (named_number (sessions_of branches.old context.now.branch) place.0 place.1 place.2)) }
     ensures sessions { OnOk result (sessions_of branches.new
-        ≡ link_stepped branch place.0 place.1 edit
-        (named_number (sessions_of branches.old branch) place.0 place.1 place.2)
+        ≡ link_stepped context.now.branch place.0 place.1 edit
+        (named_number (sessions_of branches.old context.now.branch) place.0 place.1 place.2)
         (sessions_of branches.old)) }
 {
     let (area, router, _) = place;
-    branches.prepare(branch)?;
-    match found(alloc, branches.planner(branch), names, place, edit)? {
+    branches.prepare(context.branch)?;
+    let planner = branches.planner(context.branch);
+    match found(context, planner, &place, edit)? {
         Some((number, change)) => {
             let command = edit.command(area, router, number);
-            changing(alloc, branches, branch, &command, &change)
+            plan(branches, context, &command, Some(change))
         }
-        None => Answer::refused(alloc, branch, "E14", "ManyLinks"),
+        None => many_links(context, planner, &place),
     }
 }
 
-/// Carries out a command of `ospf-plan` in whose line names stand.
-#[tactic(auto, unfolding(crate::specs::NamedCommands::named_answer, crate::specs::NamedCommands::named_stepped))]
+/// Carries out a command of `ospf-plan`, in whose line names may stand.
 pub(crate) fn named<A: Allocator + Copy>(
-    alloc: A,
     branches: &mut Branches<A>,
-    names: &Names<'_, A>,
-    branch: u8,
+    context: &Context<'_, '_, A>,
     command: &NamedCommand,
 ) -> Result<Answer<A>, AllocError>
-    requires { branch < 8 }
-    ensures answer { IfOk result (λ answer. answer
-        ≡ named_answer (called names.now) (sessions_of branches.old branch) branch command.now) }
+    requires { context.now.branch < 8 }
+    ensures answer { IfOk result (λ answer. answer ≡ named_answer (context_of context.now)
+        (sessions_of branches.old context.now.branch) command.now) }
     ensures sessions { OnOk result (sessions_of branches.new
-        ≡ named_stepped branch command.now (sessions_of branches.old)) }
+        ≡ named_stepped context.now.branch command.now (sessions_of branches.old)) }
 {
-    match *command {
-        NamedCommand::Command(command) => plan(alloc, branches, branch, &command),
-        NamedCommand::Cost {
-            area,
-            router,
-            link,
-            metric,
-        } => {
-            let place = (area, router, link);
-            edit_link(
-                alloc,
-                branches,
-                names,
-                branch,
-                place,
-                LinkEdit::Cost(metric),
-            )
+    match way_of(context.is_verbose, command) {
+        Way::Plain(command) => plan(branches, context, &command, None),
+        Way::Link(area, router, link, edit) => {
+            edit_link(branches, context, (area, router, link), edit)
         }
-        NamedCommand::DropLink { area, router, link } => {
-            let place = (area, router, link);
-            edit_link(alloc, branches, names, branch, place, LinkEdit::Drop)
-        }
+        Way::Differing(edit) => differing(branches, context, edit),
     }
 }

@@ -3,12 +3,15 @@
 ghost use Rattle.std.specs.Prelude.{◌≡◌, ◌<◌, IfOk, OnOk};
 ghost use Rattle.lsdb.specs.Text.{text};
 ghost use Rattle.branches.specs.Branches.{sessions_of};
-ghost use Rattle.study_script.specs.Line.{asked};
+ghost use Rattle.study_script.specs.Expected.{expected};
+ghost use Rattle.study_script.specs.Line.{asked as asked_by, expect, see};
+ghost use Rattle.study_session.specs.Contexts.{context_of};
 ghost use Rattle.study_session.specs.Studies.{database_in, study_by, study_of};
 ghost use Rattle.study_session.specs.Lines.{IsAnswerIn, IsAnswerTo, after_line, sessions_in};
 
+use crate::context::Context;
+use crate::explained::{expectation_explained, question_explained};
 use crate::named::named;
-use crate::plan::plan;
 use branches::Branches;
 use lsdb::Database;
 use network_names::Names;
@@ -17,7 +20,7 @@ use study_answers::Answer;
 use study_arguments::ParseError;
 use study_expectations::expectation;
 use study_questions::question;
-use study_script::{StudyCommand, parse};
+use study_script::{Expectation, NamedCommand, Question, StudyCommand, parse};
 
 /// The branches of a study, the database that they are compared with, and the names of routers and
 /// addresses.
@@ -26,46 +29,80 @@ pub struct StudySession<'n, A: Allocator = Global> {
     branches: Branches<A>,
     baseline: Database<A>,
     names: Names<'n, A>,
+    is_verbose: bool,
+}
+
+/// Answers a question.
+fn answer_question<A: Allocator + Copy>(
+    branches: &mut Branches<A>,
+    context: &Context<'_, '_, A>,
+    asked: &Question,
+) -> Result<Answer<A>, AllocError>
+    requires { context.now.branch < 8 }
+    ensures answer { IfOk result (IsAnswerIn (context_of context.now)
+        (sessions_of branches.old context.now.branch) (see asked.now)) }
+    ensures kept { sessions_of branches.new ≡ sessions_of branches.old }
+{
+    let (baseline, names, branch) = (context.baseline, context.names, context.branch);
+    let answer = question(context.alloc, branches, baseline, names, branch, asked)?;
+    question_explained(branches, context, asked, answer)
+}
+
+/// Answers an expectation.
+fn answer_expectation<A: Allocator + Copy>(
+    branches: &mut Branches<A>,
+    context: &Context<'_, '_, A>,
+    what: &Expectation<A>,
+) -> Result<Answer<A>, AllocError>
+    requires { context.now.branch < 8 }
+    ensures answer { IfOk result (IsAnswerIn (context_of context.now)
+        (sessions_of branches.old context.now.branch)
+        (expect what.now.is_not (expected what.now.condition))) }
+    ensures kept { sessions_of branches.new ≡ sessions_of branches.old }
+{
+    let (baseline, names, branch) = (context.baseline, context.names, context.branch);
+    let answer = expectation(context.alloc, branches, baseline, names, branch, what)?;
+    expectation_explained(branches, context, &what.condition, answer)
 }
 
 /// Carries out what a line asks for in a branch.
 fn carry_out<A: Allocator + Copy>(
-    alloc: A,
     branches: &mut Branches<A>,
-    baseline: &Database<A>,
-    names: &Names<'_, A>,
-    branch: u8,
-    command: &StudyCommand<A>,
+    context: &Context<'_, '_, A>,
+    asked: &StudyCommand<A>,
 ) -> Result<Answer<A>, AllocError>
-    requires { branch < 8 }
-    ensures answer { IfOk result (IsAnswerIn
-        (study_by (sessions_of branches.old) baseline.now names.now) branch
-        (asked command.now)) }
+    requires { context.now.branch < 8 }
+    ensures answer { IfOk result (IsAnswerIn (context_of context.now)
+        (sessions_of branches.old context.now.branch) (asked_by asked.now)) }
     ensures sessions { OnOk result (sessions_of branches.new
-        ≡ sessions_in branch (asked command.now) (sessions_of branches.old)) }
+        ≡ sessions_in context.now.branch (asked_by asked.now) (sessions_of branches.old)) }
 {
-    match command {
-        StudyCommand::Plan(command) => plan(alloc, branches, branch, command),
-        StudyCommand::Named(command) => named(alloc, branches, names, branch, command),
-        StudyCommand::See(asked) => question(alloc, branches, baseline, names, branch, asked),
-        StudyCommand::Expect(what) => expectation(alloc, branches, baseline, names, branch, what),
+    match asked {
+        StudyCommand::Plan(what) => named(branches, context, &NamedCommand::Command(*what)),
+        StudyCommand::Named(what) => named(branches, context, what),
+        StudyCommand::See(what) => answer_question(branches, context, what),
+        StudyCommand::Expect(what) => answer_expectation(branches, context, what),
     }
 }
 
 impl<'n, A: Allocator + Copy> StudySession<'n, A> {
-    /// A study of these branches, which are compared with a baseline. It takes no memory.
+    /// A study of these branches, which are compared with a baseline. Each edit says what it
+    /// changed, or only where `ospf-plan` does not take its line. It takes no memory.
     #[tactic(auto, unfolding(crate::specs::Studies::study_of))]
     pub fn new(
         branches: Branches<A>,
         baseline: Database<A>,
         names: Names<'n, A>,
+        is_verbose: bool,
     ) -> StudySession<'n, A>
-        ensures { study_of result ≡ study_by (sessions_of branches) baseline names.entry }
+        ensures { study_of result
+            ≡ study_by (sessions_of branches) baseline names.entry is_verbose }
     {
         StudySession {
             branches,
             baseline,
             names,
+            is_verbose,
         }
     }
 
@@ -83,8 +120,16 @@ impl<'n, A: Allocator + Copy> StudySession<'n, A> {
         match parse(alloc, &self.names, line) {
             Ok(None) => Ok(None),
             Ok(Some((branch, command))) => {
-                let (branches, baseline, names) = (&mut self.branches, &self.baseline, &self.names);
-                let answer = carry_out(alloc, branches, baseline, names, branch, &command)?;
+                let (names, baseline) = (&self.names, &self.baseline);
+                let context = Context {
+                    alloc,
+                    names,
+                    baseline,
+                    line,
+                    branch,
+                    is_verbose: self.is_verbose,
+                };
+                let answer = carry_out(&mut self.branches, &context, &command)?;
                 Ok(Some(answer))
             }
             Err(ParseError::Fault(fault)) => {

@@ -4,16 +4,18 @@ use Rattle.study_words.specs.declared.plan_word.PlanWord.TheVariants as plan_wor
 use Rattle.study_words.specs.declared.see_word.SeeWord.TheVariants as see_word
 use Rattle.study_words.specs.declared.condition_word.ConditionWord.TheVariants as condition_word
 use Rattle.study_words.specs.declared.route_kind.RouteKind.TheVariants as route_kind
+use Rattle.study_words.specs.declared.audit_kind.AuditKind.TheVariants as audit_kind
 use Rattle.study_words.specs.declared.comparison.Comparison.TheVariants as comparison
 use Rattle.study_words.specs.declared.study_word.StudyWord.{StudyWord}
 use Rattle.study_words.specs.declared.study_word.StudyWord.TheVariants as study_word
 use Rattle.study_words.specs.Named.{named}
-use Rattle.study_words.specs.Written.{Word, plan, see, condition, route, compare, written}
+use Rattle.study_words.specs.Written.{Word, plan, see, condition, route, audit, compare, written}
 use Rattle.study_words.specs.StudyWords.{study_text, study_word_of}
 use Rattle.study_words.specs.PlanWords.{plan_text, plan_word_of}
 use Rattle.study_words.specs.SeeWords.{see_text, see_word_of}
 use Rattle.study_words.specs.ConditionWords.{condition_text, condition_word_of}
 use Rattle.study_words.specs.RouteKinds.{route_kind_text, route_kind_of}
+use Rattle.study_words.specs.AuditKinds.{audit_kind_text, audit_kind_of}
 use Rattle.study_words.specs.Comparisons.{comparison_text, comparison_of}
 
 -- the word is the one that its text names
@@ -22,6 +24,7 @@ IsFound (plan w) = plan_word_of (plan_text w) ≡ Some w
 IsFound (see w) = see_word_of (see_text w) ≡ Some w
 IsFound (condition w) = condition_word_of (condition_text w) ≡ Some w
 IsFound (route kind) = route_kind_of (route_kind_text kind) ≡ Some kind
+IsFound (audit kind) = audit_kind_of (audit_kind_text kind) ≡ Some kind
 IsFound (compare comparison) = comparison_of (comparison_text comparison) ≡ Some comparison
 
 -- of each kind, the first clause is for one word, so that the second is tried at each of the others
@@ -35,6 +38,8 @@ word_found (condition condition_word.Route) = refl
 word_found (condition w) = refl
 word_found (route route_kind.Intra) = refl
 word_found (route kind) = refl
+word_found (audit audit_kind.Nssa) = refl
+word_found (audit kind) = refl
 word_found (compare comparison.Equal) = refl
 word_found (compare comparison) = refl
 

@@ -5,5 +5,6 @@ pub mod SeeWords
 pub mod StudyWords
 pub mod ConditionWords
 pub mod RouteKinds
+pub mod AuditKinds
 pub mod Comparisons
 pub mod Reserved

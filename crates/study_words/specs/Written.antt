@@ -8,6 +8,8 @@ use Rattle.study_words.specs.declared.condition_word.ConditionWord.{ConditionWor
 use Rattle.study_words.specs.declared.condition_word.ConditionWord.TheVariants as condition_word
 use Rattle.study_words.specs.declared.route_kind.RouteKind.{RouteKind}
 use Rattle.study_words.specs.declared.route_kind.RouteKind.TheVariants as route_kind
+use Rattle.study_words.specs.declared.audit_kind.AuditKind.{AuditKind}
+use Rattle.study_words.specs.declared.audit_kind.AuditKind.TheVariants as audit_kind
 use Rattle.study_words.specs.declared.comparison.Comparison.{Comparison}
 use Rattle.study_words.specs.declared.comparison.Comparison.TheVariants as comparison
 
@@ -17,6 +19,7 @@ pub data Word : Type 0 where
   see : SeeWord → Word
   condition : ConditionWord → Word
   route : RouteKind → Word
+  audit : AuditKind → Word
   compare : Comparison → Word
 
 unfoldable pub written : Word → List ℕ
@@ -48,6 +51,7 @@ written (see see_word.Lost) = codes "lost"
 written (see see_word.Gone) = codes "gone"
 written (see see_word.Loops) = codes "loops"
 written (see see_word.Microloops) = codes "microloops"
+written (see see_word.Audit) = codes "audit"
 written (see see_word.Log) = codes "log"
 written (see see_word.Help) = codes "help"
 written (condition condition_word.Route) = codes "route"
@@ -61,11 +65,37 @@ written (condition condition_word.Microloops) = codes "microloops"
 written (condition condition_word.Blackholes) = codes "blackholes"
 written (condition condition_word.Same) = codes "same"
 written (condition condition_word.Changes) = codes "changes"
+written (condition condition_word.Audit) = codes "audit"
 written (route route_kind.Intra) = codes "intra"
 written (route route_kind.Inter) = codes "inter"
 written (route route_kind.External1) = codes "ext1"
 written (route route_kind.External2) = codes "ext2"
 written (route route_kind.Own) = codes "own"
+written (audit audit_kind.Nssa) = codes "nssa"
+written (audit audit_kind.AreaKind) = codes "area-kind"
+written (audit audit_kind.VirtualLink) = codes "virtual-link"
+written (audit audit_kind.AreaMissing) = codes "area-missing"
+written (audit audit_kind.AbrWithoutBackbone) = codes "abr-without-backbone"
+written (audit audit_kind.AbrWithoutBitB) = codes "abr-without-bit-b"
+written (audit audit_kind.SplitArea) = codes "split-area"
+written (audit audit_kind.SummaryRaised) = codes "summary-raised"
+written (audit audit_kind.SummaryNotDue) = codes "summary-not-due"
+written (audit audit_kind.SummaryMissing) = codes "summary-missing"
+written (audit audit_kind.Rfc1583) = codes "rfc1583"
+written (audit audit_kind.ExternalWithoutBitE) = codes "external-without-bit-e"
+written (audit audit_kind.UndescribedRouter) = codes "undescribed-router"
+written (audit audit_kind.SeveralNetworks) = codes "several-networks"
+written (audit audit_kind.DuplicateAddress) = codes "duplicate-address"
+written (audit audit_kind.OwnExternal) = codes "own-external"
+written (audit audit_kind.ForwardUnreached) = codes "forward-unreached"
+written (audit audit_kind.OneWayLink) = codes "one-way-link"
+written (audit audit_kind.UnequalCost) = codes "unequal-cost"
+written (audit audit_kind.PointToMultipoint) = codes "point-to-multipoint"
+written (audit audit_kind.Drained) = codes "drained"
+written (audit audit_kind.UnreachedRouter) = codes "unreached-router"
+written (audit audit_kind.OrphanLsa) = codes "orphan-lsa"
+written (audit audit_kind.Opaque) = codes "opaque"
+written (audit audit_kind.MaxAge) = codes "max-age"
 written (compare comparison.AtMost) = codes "<="
 written (compare comparison.Equal) = codes "="
 written (compare comparison.AtLeast) = codes ">="

@@ -32,6 +32,8 @@ pub enum ConditionWord {
     Same,
     /// `changes <= NUMBER`: at most this number of changes.
     Changes,
+    /// `audit clean` or `only KIND..`: which findings that make answers wrong there are.
+    Audit,
 }
 
 impl Word for ConditionWord {
@@ -54,6 +56,7 @@ impl Word for ConditionWord {
             ConditionWord::Blackholes,
             ConditionWord::Same,
             ConditionWord::Changes,
+            ConditionWord::Audit,
         ]
     }
 
@@ -70,6 +73,7 @@ impl Word for ConditionWord {
             ConditionWord::Blackholes => "blackholes",
             ConditionWord::Same => "same",
             ConditionWord::Changes => SeeWord::Changes.text(),
+            ConditionWord::Audit => SeeWord::Audit.text(),
         }
     }
 }

@@ -5,11 +5,13 @@ ghost use Rattle.study_words.specs.declared.plan_word.PlanWord.{PlanWord as AnyP
 ghost use Rattle.study_words.specs.declared.see_word.SeeWord.{SeeWord as AnySeeWord};
 ghost use Rattle.study_words.specs.declared.condition_word.ConditionWord.{ConditionWord as AnyConditionWord};
 ghost use Rattle.study_words.specs.declared.route_kind.RouteKind.{RouteKind as AnyRouteKind};
+ghost use Rattle.study_words.specs.declared.audit_kind.AuditKind.{AuditKind as AnyAuditKind};
 ghost use Rattle.study_words.specs.declared.comparison.Comparison.{Comparison as AnyComparison};
 ghost use Rattle.study_words.specs.PlanWords.{plan_text, plan_word_of};
 ghost use Rattle.study_words.specs.SeeWords.{see_text, see_word_of};
 ghost use Rattle.study_words.specs.ConditionWords.{condition_text, condition_word_of};
 ghost use Rattle.study_words.specs.RouteKinds.{route_kind_text, route_kind_of};
+ghost use Rattle.study_words.specs.AuditKinds.{audit_kind_text, audit_kind_of};
 ghost use Rattle.study_words.specs.Comparisons.{comparison_text, comparison_of};
 ghost use Rattle.study_words.specs.declared.study_word.StudyWord.{StudyWord as AnyStudyWord};
 ghost use Rattle.study_words.specs.StudyWords.{study_text, study_word_of};
@@ -23,5 +25,6 @@ pub fn texts_are_found()
     ensures see { (w : AnySeeWord) → see_word_of (see_text w) ≡ Some w }
     ensures condition { (w : AnyConditionWord) → condition_word_of (condition_text w) ≡ Some w }
     ensures route { (w : AnyRouteKind) → route_kind_of (route_kind_text w) ≡ Some w }
+    ensures audit { (w : AnyAuditKind) → audit_kind_of (audit_kind_text w) ≡ Some w }
     ensures comparison { (w : AnyComparison) → comparison_of (comparison_text w) ≡ Some w }
 {}

@@ -1,5 +1,5 @@
-//! The words of studies: command words, the words of conditions, kinds of routes, comparisons,
-//! and the other words that stand in lines.
+//! The words of studies: command words, the words of conditions, kinds of routes, kinds of audit
+//! findings, comparisons, and the other words that stand in lines.
 //!
 //! Each kind of word is an enum that is a [`Word`]: `text` is the word as it is written, `of` finds
 //! the one that a text is, and `all` lists all of the kind in their order. No name of a router may
@@ -14,6 +14,7 @@ mod see_word;
 mod study_word;
 
 // Words that stand after them.
+mod audit_kind;
 mod comparison;
 mod condition_word;
 mod route_kind;
@@ -22,6 +23,7 @@ mod route_kind;
 mod laws;
 mod reserved;
 
+pub use audit_kind::AuditKind;
 pub use comparison::Comparison;
 pub use condition_word::ConditionWord;
 pub use laws::texts_are_found;

@@ -3,6 +3,7 @@
 ghost use Rattle.std.specs.Prelude.{◌≡◌};
 ghost use Rattle.study_words.specs.Reserved.{is_particle, is_reserved};
 
+use crate::audit_kind::AuditKind;
 use crate::comparison::Comparison;
 use crate::condition_word::ConditionWord;
 use crate::route_kind::RouteKind;
@@ -20,10 +21,12 @@ fn is_particle(word: &[u8]) -> bool
         || word == b"delivered".as_slice()
         || word == b"none".as_slice()
         || word == b"only".as_slice()
+        || word == b"clean".as_slice()
 }
 
-/// Whether a word is one of the language of studies: a command word, the word of a condition or of
-/// a kind of routes, a comparison, or `not`, `via`, `avoids`, `delivered`, `none` or `only`.
+/// Whether a word is one of the language of studies: a command word, the word of a condition, of a
+/// kind of routes or of audit findings, a comparison, or `not`, `via`, `avoids`, `delivered`,
+/// `none`, `only` or `clean`.
 #[tactic(auto, unfolding(crate::specs::Reserved::is_reserved))]
 pub fn is_reserved(word: &[u8]) -> bool
     ensures { result ≡ is_reserved word.now }
@@ -31,6 +34,7 @@ pub fn is_reserved(word: &[u8]) -> bool
     StudyWord::of(word).is_some()
         || ConditionWord::of(word).is_some()
         || RouteKind::of(word).is_some()
+        || AuditKind::of(word).is_some()
         || Comparison::of(word).is_some()
         || is_particle(word)
 }

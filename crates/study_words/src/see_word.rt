@@ -29,6 +29,8 @@ pub enum SeeWord {
     Loops,
     /// `microloops [COUNT]`: what may loop while routers change over the last edits.
     Microloops,
+    /// `audit [KIND]`: what the answers may not be trusted for; with a kind each place.
+    Audit,
     /// `log`: the edits that are done, as lines.
     Log,
     /// `help [WORD]`: the words, or what one means.
@@ -50,6 +52,7 @@ macro_rules! see_words {
             Gone "gone"
             Loops "loops"
             Microloops "microloops"
+            Audit "audit"
             Log "log"
             Help "help"
         )

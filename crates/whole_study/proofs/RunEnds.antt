@@ -199,28 +199,29 @@ on_success (Err fault) holds = tt
 
 -- ---- the run, from what was read of its inputs
 
-module _ (read given : Given) (s : Study) (lines : List Line) (same : read ≡ given) (are : lines ≡ all_lines read.studies) (begins : Begins read s) where
-  begins_given : Begins given s
-  begins_given = subst (λ (g : Given). Begins g s) same begins
+module _ (is_verbose : Bool) (read given : Given) (s : Study) (lines : List Line) (same : read ≡ given) (are : lines ≡ all_lines read.studies)
+    (begins : Begins is_verbose read s) where
+  begins_given : Begins is_verbose given s
+  begins_given = subst (λ (g : Given). Begins is_verbose g s) same begins
 
   lines_given : lines ≡ all_lines given.studies
   lines_given = are ∙ ap (λ (g : Given). all_lines g.studies) same
 
   pub ended_for : {A : Type 0} (manner : Manner) (r0 r1 e0 e1 : Option (List ℕ)) (result : Result (Ended A) (RunFault A))
       → IfOk result (Ends manner s lines r0 r1 e0 e1)
-      → IfOk result (λ ended. (t : Study) × (Begins given t × Ends manner t (all_lines given.studies) r0 r1 e0 e1 ended))
+      → IfOk result (λ ended. (t : Study) × (Begins is_verbose given t × Ends manner t (all_lines given.studies) r0 r1 e0 e1 ended))
   ended_for manner r0 r1 e0 e1 result ends =
       IfOk-weaker result _ _
       (λ ended end. (s, (begins_given, subst (λ (l : List Line). Ends manner s l r0 r1 e0 e1 ended) lines_given end))) ends
 
   pub prefix_for : (K : Type 0) (keep_going : Bool) (r0 r1 e0 e1 : Option (List ℕ)) → WritesPrefix keep_going s lines r0 r1 e0 e1
-      → K ⊎ ((t : Study) × (Begins given t × WritesPrefix keep_going t (all_lines given.studies) r0 r1 e0 e1))
+      → K ⊎ ((t : Study) × (Begins is_verbose given t × WritesPrefix keep_going t (all_lines given.studies) r0 r1 e0 e1))
   prefix_for K keep_going r0 r1 e0 e1 part =
       inr (s, (begins_given, subst (λ (l : List Line). WritesPrefix keep_going s l r0 r1 e0 e1) lines_given part))
 
   pub inputs_for : {T A : Type 0} (result : Result T (RunFault A)) → (IsTooMuch read → ⊥) → IfErr result MayEndWriting → FitsInputs given result
   inputs_for result few end = record {
-    accepted = on_success result (accepted_of given s begins_given);
+    accepted = on_success result (accepted_of is_verbose given s begins_given);
     within = on_success result (λ (much : IsTooMuch given). few (subst IsTooMuch (sym same) much));
-    faults = IfErr-weaker result _ _ (λ fault may. writing_end given fault (accepted_of given s begins_given) may) end;
+    faults = IfErr-weaker result _ _ (λ fault may. writing_end given fault (accepted_of is_verbose given s begins_given) may) end;
   }

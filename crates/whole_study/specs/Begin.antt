@@ -1,5 +1,5 @@
 -- The study at the beginning of a run.
-use Rattle.std.specs.Prelude.{◌≡◌, ℕ, List, [], Option, None, Some, Ok, IsOk, IfSome, unwrap_or}
+use Rattle.std.specs.Prelude.{◌≡◌, ℕ, Bool, List, [], Option, None, Some, Ok, IsOk, IfSome, unwrap_or}
 use Rattle.lsdb.specs.Lists.{Lists}
 use Rattle.edit_history.specs.Session.{Session, state}
 use Rattle.saved_sessions.specs.Opening.{opened}
@@ -20,8 +20,9 @@ abbrev pub IsBaseline : Session → Option (List ℕ) → Lists → Type 0
 IsBaseline s None baseline = baseline ≡ s.base
 IsBaseline s (Some bytes) baseline = (other : Session) × ((opened bytes ≡ Ok other) × (baseline ≡ state other))
 
--- branch 0 goes on with the session of the dump and the others begin at its base; names stand for what the names file says
-pub record Begins (given : Given) (s : Study) : Type 0 where
+-- branch 0 goes on with the session of the dump and the others begin at its base; names stand for what the names file says, and
+-- edits say what they changed where that is wanted
+pub record Begins (is_verbose : Bool) (given : Given) (s : Study) : Type 0 where
   pub session : Session
   pub dump : opened given.dump ≡ Ok session
   pub sessions : s.sessions ≡ resumed session
@@ -30,6 +31,7 @@ pub record Begins (given : Given) (s : Study) : Type 0 where
   pub names : names_in (names_of given) ≡ Ok named
   pub lookup : (word : List ℕ) → s.lookup word ≡ address_in named word
   pub called : (router : ℕ) → s.called router ≡ name_in named router
+  pub verbose : s.is_verbose ≡ is_verbose
 
 -- dump, baseline and names are accepted
 pub record AreAccepted (given : Given) : Type 0 where

@@ -101,17 +101,21 @@ fn names_text<A: Allocator>(names: &Option<Vec<u8, A>>) -> &[u8]
     }
 }
 
-/// The session of a run: that of the dump, compared with the baseline, with the names.
+/// The session of a run: that of the dump, compared with the baseline, with the names. Edits say
+/// what they changed where that is wanted.
 pub(crate) fn load<'t, A: Allocator + Copy>(
     alloc: A,
     texts: &'t Texts<'_, A>,
+    is_verbose: bool,
 ) -> Result<StudySession<'t, A>, RunFault<A>>
-    ensures begins { IfOk result (λ session. Begins (given_in texts.now) (study_of session)) }
+    ensures begins { IfOk result
+        (λ session. Begins is_verbose (given_in texts.now) (study_of session)) }
     ensures end { IfErr result (MayEndRun (given_in texts.now)) }
     ensures early { IfErr result MayEndLoading }
 {
     let mut planner = open_dump(alloc, &texts.dump)?;
     let baseline = baseline_of(alloc, &mut planner, &texts.baseline)?;
     let names = load_names(alloc, names_text(&texts.names))?;
-    Ok(StudySession::new(Branches::resume(alloc, planner), baseline, names))
+    let branches = Branches::resume(alloc, planner);
+    Ok(StudySession::new(branches, baseline, names, is_verbose))
 }

@@ -29,6 +29,8 @@ pub struct Manner {
     pub keep_going: bool,
     /// Whether the dump of branch 0 is wanted at the end.
     pub wants_dump: bool,
+    /// Whether each edit says what it changed.
+    pub is_verbose: bool,
 }
 
 /// How a run ended that carried its studies out.
@@ -64,13 +66,13 @@ pub fn run<A: Allocator + Copy, R: Read, S: Read, W: Write, E: Write>(
 
     // What is written, counted and left, where the bytes of the inputs are known.
     ensures ended { (given : Given) → HaveBytes R.remaining S.remaining files.old studies.old given
-        → IfOk result (λ ended. (s : Study) × (Begins given s
+        → IfOk result (λ ended. (s : Study) × (Begins manner.is_verbose given s
         × Ends manner s (all_lines given.studies)
         (W.contents (inner_of output.old.replies)) (W.contents (inner_of output.new.replies))
         (E.contents (inner_of output.old.errors)) (E.contents (inner_of output.new.errors))
         ended)) }
     ensures prefix { (given : Given) → HaveBytes R.remaining S.remaining files.old studies.old given
-        → (output.new ≡ output.old) ⊎ ((s : Study) × (Begins given s
+        → (output.new ≡ output.old) ⊎ ((s : Study) × (Begins manner.is_verbose given s
         × WritesPrefix manner.keep_going s (all_lines given.studies)
         (W.contents (inner_of output.old.replies)) (W.contents (inner_of output.new.replies))
         (E.contents (inner_of output.old.errors)) (E.contents (inner_of output.new.errors)))) }
@@ -88,7 +90,7 @@ pub fn run<A: Allocator + Copy, R: Read, S: Read, W: Write, E: Write>(
     ensures order { has_failed output.new.errors ≡ true → is_flushed output.new.replies ≡ true }
 {
     let texts = read_all(alloc, files, studies)?;
-    let mut session = load(alloc, &texts)?;
+    let mut session = load(alloc, &texts, manner.is_verbose)?;
     run_studies(alloc, manner, &mut session, &texts.studies, output)
 }
 

@@ -11,5 +11,6 @@ pub record IsRead (found : Found) (o : Options) : Type 0 where
   pub baseline : option_map (λ name. name.now) o.baseline ≡ first_value found (codes "baseline")
   pub names : option_map (λ name. name.now) o.names ≡ first_value found (codes "names")
   pub keep_going : o.keep_going ≡ nat_lt 0 (count_of (codes "keep-going") (rows_of found))
+  pub verbose : o.verbose ≡ nat_lt 0 (count_of (codes "verbose") (rows_of found))
   pub out : option_map (λ name. name.now) o.out ≡ first_value found (codes "out")
   pub studies : map (λ name. name.now) o.studies.items ≡ values_in found (codes "studies")

@@ -21,6 +21,19 @@ const ADDRESSES: &[u32] = &[
     0x0a20_0001,
 ];
 
+/// The answer that is the forwarding graph of an address.
+pub(super) fn of_graph(
+    alloc: Global,
+    graph: Result<ForwardingGraph<&FailingAlloc>, AllocError>,
+) -> Result<Answer, Fail> {
+    let Ok(graph) = graph else {
+        return Ok(None);
+    };
+    let mut text = String::new(alloc);
+    push_graph(&mut text, &graph)?;
+    Ok(Some(text.into_bytes()))
+}
+
 /// The answer that is routers.
 pub(super) fn of_routers(
     alloc: Global,
@@ -83,19 +96,6 @@ pub(super) fn of_routes<'a>(
         let found = routes.match_of(failing, graphs, Addr(*address))?;
         push_match(&mut text, found.as_ref())?;
     }
-    Ok(Some(text.into_bytes()))
-}
-
-/// The answer that is the forwarding graph of an address.
-pub(super) fn of_graph(
-    alloc: Global,
-    graph: Result<ForwardingGraph<&FailingAlloc>, AllocError>,
-) -> Result<Answer, Fail> {
-    let Ok(graph) = graph else {
-        return Ok(None);
-    };
-    let mut text = String::new(alloc);
-    push_graph(&mut text, &graph)?;
     Ok(Some(text.into_bytes()))
 }
 

@@ -104,6 +104,8 @@ const QUESTIONS: &[(&str, &str)] = &[
     ("loops", "0 See(Loops)"),
     ("microloops", "0 See(Microloops(None))"),
     ("microloops 2", "0 See(Microloops(Some(2)))"),
+    ("audit", "0 See(Audit(None))"),
+    ("audit area-kind", "0 See(Audit(Some(AreaKind)))"),
     ("log", "0 See(Log)"),
     ("help", "0 See(Help(None))"),
     ("help cost", "0 See(Help(Some(Plan(Cost))))"),

@@ -57,6 +57,8 @@ const CONDITIONS: &[(&str, &str)] = &[
     ("same", "Same(None)"),
     ("same r1", "Same(Some(RouterId(16843009)))"),
     ("changes <= 0", "AtMostChanges(0)"),
+    ("audit clean", "CleanAudit"),
+    ("audit only nssa rfc1583", "OnlyFindings([Nssa, Rfc1583])"),
 ];
 
 #[test]

@@ -35,8 +35,8 @@ const LINES: &[(&str, &str)] = &[
     ),
     ("add-stub 0.0.0.0 r1 r2 0", "S7 BadPrefix r2"),
     ("microloops 1x", "S5 BadNumber 1x"),
-    ("audit", "S2 UnknownWord audit"),
     ("explain r1 10.7.0.0/16", "S2 UnknownWord explain"),
+    ("audit nasa", "S9 BadWord nasa"),
     ("help r1", "S9 BadWord r1"),
     ("log all", "S4 ExtraWord all"),
 ];
@@ -76,7 +76,9 @@ const EXPECTATIONS: &[(&str, &str)] = &[
     ("microloops some", "S9 BadWord some"),
     ("same r1 r2", "S4 ExtraWord r2"),
     ("changes >= 4", "S9 BadWord >="),
-    ("audit clean", "S2 UnknownWord audit"),
+    ("audit clean nssa", "S4 ExtraWord nssa"),
+    ("audit only nssa nasa", "S9 BadWord nasa"),
+    ("audit nssa", "S9 BadWord nssa"),
 ];
 
 #[test]

@@ -47,7 +47,7 @@ const LINES: &[(&str, &str)] = &[
     ("help help help", "script S4 ExtraWord help (help [WORD])"),
     (
         "cost 0.0.0.0 r1 65536 10",
-        "script S5 BadNumber 65536 (LINK is 0 to 65535)",
+        "script S5 BadNumber 65536 (LINK is 1 to 65535)",
     ),
     (
         "cost 0.0.0.0 r1 1 65536",
@@ -55,11 +55,23 @@ const LINES: &[(&str, &str)] = &[
     ),
     (
         "cost 0.0.0.0 r1 x 10",
-        "script S5 BadNumber x (LINK is 0 to 65535)",
+        "script S5 BadNumber x (LINK is 1 to 65535)",
+    ),
+    (
+        "cost 0.0.0.0 r1 r4 10",
+        "script S5 BadNumber r4 (names have r1)",
+    ),
+    (
+        "cost 0.0.0.0 r1 10.1.0.x 10",
+        "script S5 BadNumber 10.1.0.x (an address is four numbers, 0 to 255)",
+    ),
+    (
+        "drop-link 0.0.0.0 r1 10.1.0.1/16",
+        "script S5 BadNumber 10.1.0.1/16 (without host bits 10.1.0.0/16)",
     ),
     (
         "cost 0.0.0.0 r1 10.1.0.0/x 1",
-        "script S5 BadNumber 10.1.0.0/x (LINK is 0 to 65535)",
+        "script S5 BadNumber 10.1.0.0/x (a prefix is an address, / and a length 0 to 32)",
     ),
     (
         "summary 0.0.0.0 r1 10.1.0.0/16 16777216",
@@ -96,6 +108,10 @@ const LINES: &[(&str, &str)] = &[
         "script S6 BadAddress 9 (an address is four numbers, 0 to 255)",
     ),
     (
+        "path r1 2.2.r2",
+        "script S6 BadAddress 2.2.r2 (an address is four numbers, 0 to 255)",
+    ),
+    (
         "routes 1.1.1.256",
         "script S6 BadAddress 1.1.1.256 (an address is four numbers, 0 to 255)",
     ),
@@ -113,6 +129,12 @@ const LINES: &[(&str, &str)] = &[
     ),
     ("help rout", "script S9 BadWord rout (did you mean routers)"),
     ("help 1", "script S9 BadWord 1 (see help)"),
+    ("audit nasa", "script S9 BadWord nasa (did you mean nssa)"),
+    ("audit 1", "script S9 BadWord 1 (see help)"),
+    (
+        "audit nssa opaque",
+        "script S4 ExtraWord opaque (audit [KIND])",
+    ),
     (
         "expect",
         "script S3 MissingWord expect (expect [not] CONDITION)",
@@ -128,7 +150,7 @@ const LINES: &[(&str, &str)] = &[
     (
         "expect xyz",
         "script S2 UnknownWord xyz (one of route no-route hops path lost gone loops microloops \
-         blackholes same changes)",
+         blackholes same changes audit)",
     ),
     (
         "expect route r1",
@@ -153,7 +175,7 @@ const LINES: &[(&str, &str)] = &[
     ),
     (
         "expect not route r1 10.1.0.0/16 via r1, cost = 1",
-        "script S6 BadAddress  (an address is four numbers, 0 to 255)",
+        "script S6 BadAddress  (a list has no spaces)",
     ),
     (
         "expect route r1 10.1.0.0/16 via r1 via r2",
@@ -176,6 +198,19 @@ const LINES: &[(&str, &str)] = &[
         "script S9 BadWord no (one of none <= only)",
     ),
     ("expect changes none", "script S9 BadWord none (<=)"),
+    (
+        "expect audit",
+        "script S3 MissingWord audit (expect audit clean | only KIND..)",
+    ),
+    (
+        "expect audit nssa",
+        "script S9 BadWord nssa (one of clean only)",
+    ),
+    (
+        "expect audit only nssa rfc158",
+        "script S9 BadWord rfc158 (did you mean rfc1583)",
+    ),
+    ("expect audit only 1", "script S9 BadWord 1 (see help)"),
     (
         "expect microloops 1x none",
         "script S5 BadNumber 1x (COUNT is 0 to 4294967295)",

@@ -39,6 +39,7 @@ fn lists_alone_take_memory(rt: HostRuntime) -> Result<(), Fail> {
     for line in [
         "expect lost only 0.0.0.0/0",
         "expect route 1.1.1.1 0.0.0.0/0 via 2.2.2.2",
+        "expect audit only nssa",
     ] {
         assert!(rt; line_runs_out(&rt, line)?, "{line}");
     }

@@ -41,7 +41,7 @@ const FAULTS: &[(&str, &str)] = &[
     ("1.1.1.1 expect", "1 H4 ReservedName expect"),
     ("1.1.1.1 route", "1 H4 ReservedName route"),
     ("1.1.1.1 ext2", "1 H4 ReservedName ext2"),
-    ("1.1.1.1 avoids", "1 H4 ReservedName avoids"),
+    ("1.1.1.1 max-age", "1 H4 ReservedName max-age"),
     ("1.1.1.1 via", "1 H4 ReservedName via"),
     ("1.1.1.1 r1\n2.2.2.2 r2 r1", "2 H5 NameTaken r1"),
     ("1.1.1.1 r1\n2.2.2.2 r1 r!", "2 H5 NameTaken r1"),

@@ -3,7 +3,7 @@ use Rattle.lsa_codec.specs.declared.address.AreaId.{AreaId}
 use Rattle.lsdb.specs.Slots.{lists_of}
 use Rattle.area_routes.proofs.AddsLemmas.{map_adds}
 use Rattle.link_report.specs.Areas.{UsedAreaValue, used_area}
-use Rattle.link_report.proofs.Pushed.{made_all, made_at}
+use Rattle.link_report.proofs.PushedLemmas.{made_all, made_at}
 use Rattle.link_report.proofs.areas.used_areas.Goals as goal
 
 abbrev no_area : AreaId

@@ -4,7 +4,7 @@ use Rattle.lsdb.specs.Slots.{lists_of}
 use Rattle.area_routes.proofs.AddsLemmas.{flat_map_adds}
 use Rattle.link_report.specs.Areas.{UsedAreaValue, used_areas}
 use Rattle.link_report.specs.Links.{links_in_areas}
-use Rattle.link_report.proofs.Pushed.{made_all, made_at}
+use Rattle.link_report.proofs.PushedLemmas.{made_all, made_at}
 use Rattle.link_report.proofs.link_line.link_lines.Goals as goal
 
 abbrev no_router : RouterId

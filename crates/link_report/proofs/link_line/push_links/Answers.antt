@@ -5,7 +5,7 @@ use Rattle.lsa_codec.specs.declared.address.AreaId.{AreaId}
 use Rattle.link_report.specs.declared.ages.Ages.TheVariants.{Live}
 use Rattle.link_report.specs.AnyAge.{interfaces_by}
 use Rattle.link_report.specs.Links.{LinkValue, interface_numbered, link_value, values_of}
-use Rattle.link_report.proofs.Numbered.{numbered_all, numbered_more}
+use Rattle.link_report.proofs.NumberedLemmas.{numbered_all, numbered_more}
 use Rattle.link_report.proofs.Takings.{takes_all}
 use Rattle.link_report.proofs.link_line.push_links.Goals as goal
 

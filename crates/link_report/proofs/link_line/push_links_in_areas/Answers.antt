@@ -1,6 +1,6 @@
 use Rattle.area_routes.proofs.AddsLemmas.{flat_map_adds}
 use Rattle.link_report.specs.Links.{link_values}
-use Rattle.link_report.proofs.Pushed.{pushed_all, pushed_more, pushed_none}
+use Rattle.link_report.proofs.PushedLemmas.{pushed_all, pushed_more, pushed_none}
 use Rattle.link_report.proofs.link_line.push_links_in_areas.Goals as goal
 
 pub loop-area-init : goal.loop-area-init

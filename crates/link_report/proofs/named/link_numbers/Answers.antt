@@ -2,7 +2,7 @@ use Rattle.std.proofs.Common.{ℕ, ◌+◌, ◌<◌, ◌≤◌, cond, [], ◌∷
 use Rattle.lsa_codec.specs.declared.link.Link.{Link}
 use Rattle.link_report.specs.NamedLinks.{is_named, link_numbers}
 use Rattle.link_report.proofs.LinkLengths.{length-links_of}
-use Rattle.link_report.proofs.Numbered.{numbered_all, numbered_more}
+use Rattle.link_report.proofs.NumberedLemmas.{numbered_all, numbered_more}
 use Rattle.link_report.proofs.Takings.{takes_some}
 use Rattle.link_report.proofs.named.link_numbers.Goals as goal
 

@@ -3,7 +3,7 @@ use Rattle.std.specs.List.{flat_map}
 use Rattle.area_routes.proofs.AddsLemmas.{flat_map_adds}
 use Rattle.link_report.specs.Areas.{UsedAreaValue}
 use Rattle.link_report.specs.Networks.{networks_in}
-use Rattle.link_report.proofs.Pushed.{made_all, made_more}
+use Rattle.link_report.proofs.PushedLemmas.{made_all, made_more}
 use Rattle.link_report.proofs.network_line.network_lines.Goals as goal
 
 pub loop-area-preserved : goal.loop-area-preserved

@@ -4,7 +4,7 @@ use Rattle.area_graph.specs.Rising.{rising}
 use Rattle.area_routes.proofs.AddsLemmas.{flat_map_adds}
 use Rattle.link_report.specs.declared.network_line.NetworkPlace.{NetworkPlace}
 use Rattle.link_report.specs.Networks.{network_cmp, network_in, network_place}
-use Rattle.link_report.proofs.Pushed.{pushed_all, pushed_more, pushed_none}
+use Rattle.link_report.proofs.PushedLemmas.{pushed_all, pushed_more, pushed_none}
 use Rattle.link_report.proofs.network_line.push_networks.Goals as goal
 
 pub loop-place-init : goal.loop-place-init

@@ -2,7 +2,7 @@ use Rattle.std.proofs.Common.{◌++◌, ◌∙◌, List, ap}
 use Rattle.lsa_codec.specs.declared.link.Link.{Link}
 use Rattle.lsa_codec.specs.Links.{links_of}
 use Rattle.area_routes.proofs.AddsLemmas.{flat_map_adds}
-use Rattle.link_report.proofs.Pushed.{made_all, made_more}
+use Rattle.link_report.proofs.PushedLemmas.{made_all, made_more}
 use Rattle.link_report.proofs.router_line.all_links.Goals as goal
 
 pub loop-lsa-preserved : goal.loop-lsa-preserved

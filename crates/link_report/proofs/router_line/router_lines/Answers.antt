@@ -3,7 +3,7 @@ use Rattle.lsa_codec.specs.declared.address.RouterId.{RouterId}
 use Rattle.lsdb.specs.Slots.{lists_of}
 use Rattle.area_routes.proofs.AddsLemmas.{map_adds}
 use Rattle.link_report.specs.Routers.{RouterValue, router_value}
-use Rattle.link_report.proofs.Pushed.{made_all, made_at}
+use Rattle.link_report.proofs.PushedLemmas.{made_all, made_at}
 use Rattle.link_report.proofs.router_line.router_lines.Goals as goal
 
 abbrev no_router : RouterId

@@ -7,5 +7,6 @@ returns c =
     let baseline = added _ _ _ _ _ c.in_ok-arg-2.ensures dump c.file_option.ensures.rule c.file_option.ensures.local in
     let names = added _ _ _ _ _ c.in_ok-arg-3.ensures baseline c.file_option-2.ensures.rule c.file_option-2.ensures.local in
     let keep_going = added _ _ _ _ _ c.in_ok-arg-4.ensures names c.flag_option.ensures.rule c.flag_option.ensures.local in
-    let out = added _ _ _ _ _ c.in_ok-arg-5.ensures keep_going c.file_option-3.ensures.rule c.file_option-3.ensures.local in
-    added_if_ok _ _ _ _ _ c.arg-6.ensures out c.study_words.ensures.rule c.study_words.ensures.local
+    let verbose = added _ _ _ _ _ c.in_ok-arg-5.ensures keep_going c.flag_option-2.ensures.rule c.flag_option-2.ensures.local in
+    let out = added _ _ _ _ _ c.in_ok-arg-6.ensures verbose c.file_option-3.ensures.rule c.file_option-3.ensures.local in
+    added_if_ok _ _ _ _ _ c.arg-7.ensures out c.study_words.ensures.rule c.study_words.ensures.local

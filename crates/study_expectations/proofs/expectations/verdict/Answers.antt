@@ -1,9 +1,10 @@
-use Rattle.std.proofs.Common.{◌≡◌, List, ap, subst, sym}
+use Rattle.std.proofs.Common.{◌≡◌, List, IfOk, ap, subst, sym}
 use Rattle.network_names.specs.Names.{called}
 use Rattle.lsdb.specs.Lists.{Lists}
 use Rattle.lsdb.specs.Slots.{lists_of}
 use Rattle.edit_history.specs.Session.{Session, state}
 use Rattle.branches.specs.Branches.{Sessions, before_last, sessions_of}
+use Rattle.study_words.specs.declared.audit_kind.AuditKind.{AuditKind}
 use Rattle.study_script.specs.Expected.{PairsAllowed, pairs_allowed}
 use Rattle.study_script.specs.declared.condition.Condition.TheVariants as condition
 use Rattle.study_text.specs.Shown.{Called}
@@ -11,11 +12,13 @@ use Rattle.study_answers.specs.declared.missing.Missing.{Missing}
 use Rattle.study_answers.specs.declared.missing.Missing.TheVariants as missing
 use Rattle.study_answers.specs.Known.{count_or_one}
 use Rattle.study_answers.specs.Missing.{beside, missing_pairs, missing_text}
+use Rattle.study_expectations.specs.AuditVerdicts.{clean_verdict, listed_verdict}
 use Rattle.study_expectations.specs.ChangeVerdicts.{few_verdict, pairs_verdict, same_verdict}
 use Rattle.study_expectations.specs.Expectations.{IsVerdict}
 use Rattle.study_expectations.specs.LoopVerdicts.{IsBlackholesVerdict, IsLoopsVerdict, IsMicroloopsVerdict}
 use Rattle.study_expectations.specs.Verdicts.{VerdictValue}
 use Rattle.study_expectations.specs.steps.Conditions.{IsOfRoutes}
+use Rattle.study_expectations.specs.steps.Verdicts.{verdict_of}
 use Rattle.study_expectations.proofs.FoundIn.{found, found_in, state_of}
 use Rattle.study_expectations.proofs.RouteConditions.{is_one}
 use Rattle.study_expectations.proofs.expectations.verdict.Goals as goal
@@ -79,3 +82,23 @@ returns-in-NoMicroloops-clause-verdict g c =
     (condition.NoMicroloops c.in-NoMicroloops.count) _ _
     (λ (session : Session) verdict. IsMicroloopsVerdict called (state session) (before_last count session) verdict) c.in-NoMicroloops.is
     (ap (λ (all : Sessions). all branch) c.in_ok-prepare.ensures.kept) (λ verdict is. is) c.no_microloops.ensures.verdict
+
+pub returns-in-CleanAudit-clause-verdict : goal.returns-in-CleanAudit-clause-verdict
+unfolding IsVerdict
+returns-in-CleanAudit-clause-verdict g c =
+    let branch = c.args.branch in
+    found (called c.args.names.now) (lists_of c.args.baseline.now) (sessions_of c.args.branches.now branch) c.clean_audit.result c.args.condition.now
+    condition.CleanAudit _ _ (λ (session : Session) verdict. verdict ≡ clean_verdict session.base (state session)) c.in-CleanAudit.is
+    (ap (λ (all : Sessions). all branch) c.in_ok-prepare.ensures.kept) (λ verdict is. is) c.clean_audit.ensures.verdict
+
+pub returns-in-OnlyFindings-clause-verdict : goal.returns-in-OnlyFindings-clause-verdict
+unfolding IsVerdict
+returns-in-OnlyFindings-clause-verdict g c =
+    let branch = c.args.branch in
+    let prepared = sessions_of c.prepare.new.self branch in
+    found (called c.args.names.now) (lists_of c.args.baseline.now) (sessions_of c.args.branches.now branch) c.only_findings.result c.args.condition.now
+    (condition.OnlyFindings c.in-OnlyFindings.kinds) prepared _
+    (λ (session : Session) verdict. verdict ≡ listed_verdict session.base (state session) c.in-OnlyFindings.kinds.items) c.in-OnlyFindings.is
+    (ap (λ (all : Sessions). all branch) c.in_ok-prepare.ensures.kept) (λ verdict is. is)
+    (subst (λ (kinds : List AuditKind). IfOk c.only_findings.result (λ v. verdict_of v ≡ listed_verdict prepared.base (state prepared) kinds))
+    c.as_slice.ensures.value c.only_findings.ensures.verdict)

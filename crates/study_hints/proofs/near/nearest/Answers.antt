@@ -1,7 +1,7 @@
 use Rattle.std.proofs.Common.{ap, ◌∙◌}
 use Rattle.std.specs.Prelude.{option_map}
 use Rattle.study_hints.specs.Near.{likeness}
-use Rattle.study_hints.proofs.Nearest.{most_kept, most_taken, near_all, near_kept, near_taken}
+use Rattle.study_hints.proofs.MostLike.{most_kept, most_taken, near_all, near_kept, near_taken}
 use Rattle.study_hints.proofs.near.nearest.Goals.{else-alike-most, then-alike-most}
 use Rattle.study_hints.proofs.near.nearest.Goals as goal
 

@@ -1,7 +1,7 @@
 use Rattle.std.proofs.Common.{◌≡◌}
 use Rattle.std.specs.Prelude.{option_map}
 use Rattle.study_hints.specs.Near.{most_like, near}
-use Rattle.study_hints.proofs.Nearest.{front}
+use Rattle.study_hints.proofs.MostLike.{front}
 use Rattle.study_hints.proofs.near.nearest.Given as goal
 
 abbrev pub invariant-loop-candidate : goal.invariant-loop-candidate

@@ -6,6 +6,7 @@ use Rattle.branches.specs.Branches.{Sessions, before_last, sessions_of}
 use Rattle.study_script.specs.declared.question.Question.TheVariants as question
 use Rattle.study_answers.specs.declared.missing.Missing.TheVariants as missing
 use Rattle.study_answers.specs.Known.{count_or_one}
+use Rattle.study_questions.specs.AuditAnswers.{audit_answer}
 use Rattle.study_questions.specs.ChangeAnswers.{changes_answer, differences_answer}
 use Rattle.study_questions.specs.LinkAnswers.{links_answer, networks_answer, routers_answer}
 use Rattle.study_questions.specs.LoopAnswers.{IsLoopsAnswer, IsMicroloopsAnswer}
@@ -80,6 +81,16 @@ returns-in-Microloops-clause-answer g c =
     (question.Microloops c.in-Microloops.count) _ _
     (λ (session : Session) answer. IsMicroloopsAnswer called branch (state session) count (before_last count session) answer) c.in-Microloops.is
     (ap (λ (all : Sessions). all branch) c.in_ok-prepare.ensures.kept) (λ answer is. is) c.microloops.ensures.answer
+
+pub returns-in-Audit-clause-answer : goal.returns-in-Audit-clause-answer
+unfolding IsQuestionAnswer
+returns-in-Audit-clause-answer g c =
+    let called = called c.args.names.now in
+    let branch = c.args.branch in
+    let kind = c.in-Audit.kind in
+    asked called (lists_of c.args.baseline.now) branch (sessions_of c.args.branches.now branch) c.audit.result c.args.question.now (question.Audit kind) _ _
+    (λ (session : Session) answer. answer ≡ audit_answer called branch session.base (state session) kind) c.in-Audit.is
+    (ap (λ (all : Sessions). all branch) c.in_ok-prepare.ensures.kept) (λ answer is. is) c.audit.ensures.answer
 
 pub returns-in-Log-clause-answer : goal.returns-in-Log-clause-answer
 unfolding IsQuestionAnswer

@@ -1,17 +1,17 @@
 use Rattle.std.proofs.Common.{Some, ap, subst, ◌∙◌}
-use Rattle.branches.specs.Replies.{reply_to}
 use Rattle.study_answers.specs.Answers.{AnswerValue}
 use Rattle.study_session.specs.Lines.{IsAnswerBy, IsAnswerIn, IsAnswerTo, after_line, sessions_by, sessions_in}
-use Rattle.study_session.proofs.PlanText.{plan_text}
+use Rattle.study_session.specs.Contexts.{context_in}
+use Rattle.study_session.proofs.PlanText.{quiet_text}
 use Rattle.study_session.proofs.laws.plan_lines_are_answered_alike.Goals as goal
 
 pub returns : goal.returns
 unfolding IsAnswerTo IsAnswerIn after_line sessions_in
 returns c = record {
-  text = λ s line branch command answer is_plan is_answer.
+  text = λ s line branch command answer quiet is_plan is_answer.
       ap (λ (a : AnswerValue). a.text)
       (subst (λ r. IsAnswerBy s line r (Some answer)) (c.plan_lines_mean_the_same.ensures.taken s.lookup line branch command is_plan) is_answer)
-      ∙ plan_text branch (reply_to (s.sessions branch) command);
+      ∙ quiet_text (context_in s branch line) (s.sessions branch) command quiet;
   sessions = λ s line branch command is_plan.
       ap (λ r. sessions_by r s.sessions) (c.plan_lines_mean_the_same.ensures.taken s.lookup line branch command is_plan);
 }

@@ -1,4 +1,4 @@
-use Rattle.study_words.specs.Written.{plan, see, condition, route, compare}
+use Rattle.study_words.specs.Written.{plan, see, condition, route, audit, compare}
 use Rattle.study_words.proofs.TextLemmas.{study_word_found, word_found}
 use Rattle.study_words.proofs.laws.texts_are_found.Goals as goal
 
@@ -9,5 +9,6 @@ returns c = record {
   see = λ w. word_found (see w);
   condition = λ w. word_found (condition w);
   route = λ w. word_found (route w);
+  audit = λ w. word_found (audit w);
   comparison = λ w. word_found (compare w);
 }

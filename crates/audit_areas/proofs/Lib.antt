@@ -1,0 +1,2 @@
+mod EndsOut
+mod Grouping

@@ -1,0 +1,5 @@
+pub mod Areas
+pub mod Borders
+pub mod Groups
+pub mod Findings
+pub mod steps

@@ -1,0 +1,3 @@
+-- Definitions that only private functions and types cite.
+pub mod Graphs
+pub mod Ends

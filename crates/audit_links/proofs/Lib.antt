@@ -1,0 +1,3 @@
+mod Taking
+mod Members
+mod Viewed

@@ -1,0 +1,3 @@
+mod Scopes
+mod Names
+mod Firsts

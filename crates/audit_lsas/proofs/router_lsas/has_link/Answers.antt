@@ -1,0 +1,13 @@
+use Rattle.std.proofs.Common.{rules, tests}
+use Rattle.std.proofs.lemmas.Iterator.Search.{any_from_yields_List}
+use Rattle.std.proofs.lemmas.Iterator.Consumers.{YieldsList-from_first}
+use Rattle.lsa_codec.specs.declared.link.Link.{Link}
+use Rattle.lsa_codec.specs.Links.{links_of}
+use Rattle.lsa_codec.specs.Links.{has_cost}
+use Rattle.audit_lsas.proofs.router_lsas.has_link.Goals as goal
+
+pub returns : goal.returns
+returns c =
+    any_from_yields_List (λ (link : Link). has_cost link.kind) _ _ c.any.result c.any.ensures.ran
+    (YieldsList-from_first (λ x. x) (λ s. s) (links_of c.args.lsa.now) c.links.ensures)
+    (λ x b q k. search (rules, tests))

@@ -1,0 +1,5 @@
+pub mod Found
+pub mod Kinds
+pub mod Boundary
+pub mod Orphans
+pub mod Undescribed

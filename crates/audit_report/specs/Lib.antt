@@ -1,0 +1,4 @@
+pub mod Meanings
+pub mod Findings
+pub mod Texts
+pub mod Expected

@@ -1,0 +1,6 @@
+mod Loops
+mod NoTrees
+mod Preferred
+mod Originators
+mod Forwarded
+mod NoExternals

@@ -1,0 +1,9 @@
+pub mod InOrder
+pub mod OwnExternals
+pub mod Inside
+pub mod ForwardUnreached
+pub mod Bits
+pub mod NotDue
+pub mod Ways
+pub mod Missing
+pub mod Compatibility

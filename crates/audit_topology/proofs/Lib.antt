@@ -1,0 +1,6 @@
+mod Reaching
+mod Parted
+mod Searching
+mod InUse
+mod Classes
+mod Viewed

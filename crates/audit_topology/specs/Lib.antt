@@ -1,0 +1,5 @@
+pub mod RouterTests
+pub mod Backbone
+pub mod Parts
+pub mod Networks
+pub mod steps

@@ -1,0 +1,10 @@
+pub mod Advice
+pub mod Situation
+pub mod Nearest
+pub mod Described
+pub mod RouterHints
+pub mod EditHints
+pub mod CommandHints
+pub mod QuestionHints
+pub mod RouterWord
+pub mod ExpectationHints

@@ -1,0 +1,117 @@
+//! What is said of a line that is refused.
+
+ghost use Rattle.std.specs.Prelude.{◌≡◌, ◌<◌, IfOk};
+ghost use Rattle.branches.specs.Branches.{sessions_of};
+ghost use Rattle.branches.specs.Replies.{said_by};
+ghost use Rattle.study_script.specs.Expected.{expected};
+ghost use Rattle.refusal_hints.specs.ExpectationHints.{expectation_hint};
+ghost use Rattle.refusal_hints.specs.QuestionHints.{question_hint};
+ghost use Rattle.study_session.specs.Contexts.{context_of, situation};
+ghost use Rattle.study_session.specs.Explained.{command_explained, edit_fault, explained, with_hint};
+
+use crate::context::Context;
+use branches::{Branches, Refusal, Reply};
+use edit_history::EditFault;
+use edit_script::Command;
+use refusal_hints::{Hint, command_hint, expectation_hint, push_hint, question_hint};
+use std::alloc::{AllocError, Allocator};
+use study_answers::{Answer, Outcome};
+use study_script::{Condition, Question};
+
+/// The answer to a line that is refused, with the word at fault and what would have been right.
+#[tactic(auto, unfolding(crate::specs::Explained::with_hint))]
+pub(crate) fn with_hint<A: Allocator + Copy>(
+    mut answer: Answer<A>,
+    hint: &Hint<'_, A>,
+) -> Result<Answer<A>, AllocError>
+    ensures { IfOk result (λ it. it ≡ with_hint hint.now answer) }
+{
+    push_hint(&mut answer.error, hint)?;
+    Ok(answer)
+}
+
+/// The reason of a refusal, where an edit is refused.
+fn edit_fault(why: Refusal) -> Option<EditFault>
+    ensures { result ≡ edit_fault why }
+{
+    match why {
+        Refusal::Edit(fault) => Some(fault),
+        Refusal::Undo(_) | Refusal::Redo(_) | Refusal::Table(_) => None,
+    }
+}
+
+/// The answer to a command, where it is refused, with a hint. All sessions stay.
+#[tactic(auto, unfolding(crate::specs::Explained::command_explained))]
+pub(crate) fn command_explained<A: Allocator + Copy>(
+    branches: &mut Branches<A>,
+    context: &Context<'_, '_, A>,
+    command: &Command,
+    reply: &Reply<A>,
+    answer: Answer<A>,
+) -> Result<Answer<A>, AllocError>
+    requires { context.now.branch < 8 }
+    ensures answer { IfOk result (λ it. it ≡ command_explained (context_of context.now)
+        (sessions_of branches.old context.now.branch) command.now (said_by reply.now) answer) }
+    ensures kept { sessions_of branches.new ≡ sessions_of branches.old }
+{
+    let Reply::Refused(why) = reply else {
+        return Ok(answer);
+    };
+    branches.prepare(context.branch)?;
+    let situation = context.situation(branches.planner(context.branch));
+    let fault = edit_fault(*why);
+    let hint = command_hint(context.alloc, &situation, context.line, command, fault)?;
+    with_hint(answer, &hint)
+}
+
+/// The answer to a question, where it is refused, with a hint. All sessions stay.
+#[tactic(auto, unfolding(crate::specs::Explained::explained))]
+pub(crate) fn question_explained<A: Allocator + Copy>(
+    branches: &mut Branches<A>,
+    context: &Context<'_, '_, A>,
+    question: &Question,
+    answer: Answer<A>,
+) -> Result<Answer<A>, AllocError>
+    requires { context.now.branch < 8 }
+    ensures answer { IfOk result (λ it. it ≡ explained (question_hint
+        (situation (context_of context.now) (sessions_of branches.old context.now.branch))
+        (context_of context.now).words question.now) answer) }
+    ensures kept { sessions_of branches.new ≡ sessions_of branches.old }
+{
+    match answer.outcome {
+        Outcome::Accepted | Outcome::Failed => Ok(answer),
+        Outcome::Refused => {
+            branches.prepare(context.branch)?;
+            let situation = context.situation(branches.planner(context.branch));
+            let hint = question_hint(context.alloc, &situation, context.line, question)?;
+            with_hint(answer, &hint)
+        }
+    }
+}
+
+/// The answer to an expectation, where it is refused, with a hint. All sessions stay.
+#[tactic(auto, unfolding(crate::specs::Explained::explained))]
+pub(crate) fn expectation_explained<A: Allocator + Copy>(
+    branches: &mut Branches<A>,
+    context: &Context<'_, '_, A>,
+    condition: &Condition<A>,
+    answer: Answer<A>,
+) -> Result<Answer<A>, AllocError>
+    requires { context.now.branch < 8 }
+    ensures answer { IfOk result (λ it. it ≡ explained (expectation_hint
+        (situation (context_of context.now) (sessions_of branches.old context.now.branch))
+        (context_of context.now).lookup (context_of context.now).words
+        (expected condition.now)) answer) }
+    ensures kept { sessions_of branches.new ≡ sessions_of branches.old }
+{
+    match answer.outcome {
+        Outcome::Accepted | Outcome::Failed => Ok(answer),
+        Outcome::Refused => {
+            branches.prepare(context.branch)?;
+            let situation = context.situation(branches.planner(context.branch));
+            let (names, line) = (context.names, context.line);
+            let hint = expectation_hint(context.alloc, &situation, names, line, condition)?;
+            with_hint(answer, &hint)
+        }
+    }
+}
