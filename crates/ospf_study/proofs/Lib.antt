@@ -1,2 +1,3 @@
 pub mod FileOptions
 pub mod Refusals
+pub mod EndNames

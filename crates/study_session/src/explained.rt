@@ -7,9 +7,11 @@ ghost use Rattle.study_script.specs.Expected.{expected};
 ghost use Rattle.refusal_hints.specs.ExpectationHints.{expectation_hint};
 ghost use Rattle.refusal_hints.specs.QuestionHints.{question_hint};
 ghost use Rattle.study_session.specs.Contexts.{context_of, situation};
-ghost use Rattle.study_session.specs.Explained.{command_explained, edit_fault, explained, with_hint};
+ghost use Rattle.study_session.specs.Explained.{command_explained, edit_fault, explained, refused_with, with_hint};
 
 use crate::context::Context;
+use crate::document::refused_document;
+use crate::format::Format;
 use branches::{Branches, Refusal, Reply};
 use edit_history::EditFault;
 use edit_script::Command;
@@ -27,6 +29,26 @@ pub(crate) fn with_hint<A: Allocator + Copy>(
     ensures { IfOk result (λ it. it ≡ with_hint hint.now answer) }
 {
     push_hint(&mut answer.error, hint)?;
+    Ok(answer)
+}
+
+/// The same in the form of the answers, for a code and its name.
+#[tactic(auto, unfolding(crate::specs::Explained::refused_with))]
+pub(crate) fn refused_with<A: Allocator + Copy>(
+    context: &Context<'_, '_, A>,
+    texts: (&str, &str),
+    answer: Answer<A>,
+    hint: &Hint<'_, A>,
+) -> Result<Answer<A>, AllocError>
+    ensures { IfOk result (λ it. it
+        ≡ refused_with (context_of context.now) (texts.entry.0.now, texts.entry.1.now) hint.now
+        answer) }
+{
+    let mut answer = with_hint(answer, hint)?;
+    match context.format {
+        Format::Text => {}
+        Format::Json => answer.text = refused_document(context, texts, hint)?,
+    }
     Ok(answer)
 }
 
@@ -61,7 +83,7 @@ pub(crate) fn command_explained<A: Allocator + Copy>(
     let situation = context.situation(branches.planner(context.branch));
     let fault = edit_fault(*why);
     let hint = command_hint(context.alloc, &situation, context.line, command, fault)?;
-    with_hint(answer, &hint)
+    refused_with(context, why.texts(), answer, &hint)
 }
 
 /// The answer to a question, where it is refused, with a hint. All sessions stay.

@@ -27,6 +27,7 @@ const LINES: &[(&str, &str)] = &[
     ("cost r1 r1 1 x", "S6 BadAddress r1"),
     ("table r9", "S6 BadAddress r9"),
     ("path r1 lan", "S6 BadAddress lan"),
+    ("explain r1 lan", "S7 BadPrefix lan"),
     ("add-external r1 10.0.0.0/8 1 5 r2 0", "S6 BadAddress r2"),
     ("add-external r1 10.0.0.0/8 3 5 r2 0", "S5 BadNumber 3"),
     (

@@ -8,5 +8,6 @@ returns c =
     let names = added _ _ _ _ _ c.in_ok-arg-3.ensures baseline c.file_option-2.ensures.rule c.file_option-2.ensures.local in
     let keep_going = added _ _ _ _ _ c.in_ok-arg-4.ensures names c.flag_option.ensures.rule c.flag_option.ensures.local in
     let verbose = added _ _ _ _ _ c.in_ok-arg-5.ensures keep_going c.flag_option-2.ensures.rule c.flag_option-2.ensures.local in
-    let out = added _ _ _ _ _ c.in_ok-arg-6.ensures verbose c.file_option-3.ensures.rule c.file_option-3.ensures.local in
-    added_if_ok _ _ _ _ _ c.arg-7.ensures out c.study_words.ensures.rule c.study_words.ensures.local
+    let format = added _ _ _ _ _ c.in_ok-arg-6.ensures verbose c.format_option.ensures.rule c.format_option.ensures.local in
+    let out = added _ _ _ _ _ c.in_ok-arg-7.ensures format c.file_option-3.ensures.rule c.file_option-3.ensures.local in
+    added_if_ok _ _ _ _ _ c.arg-8.ensures out c.study_words.ensures.rule c.study_words.ensures.local

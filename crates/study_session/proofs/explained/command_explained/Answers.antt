@@ -1,7 +1,7 @@
 use Rattle.std.proofs.Common.{◌≡◌, IfOk, Option, ap, subst, sym, ◌∙◌}
 use Rattle.edit_history.specs.declared.fault.EditFault.{EditFault}
 use Rattle.branches.specs.Branches.{sessions_of}
-use Rattle.branches.specs.Replies.{Said, said_by}
+use Rattle.branches.specs.Replies.{Said, refusal_texts, said_by}
 use Rattle.refusal_hints.specs.CommandHints.{command_hint}
 use Rattle.refusal_hints.specs.Situation.{SituationValue}
 use Rattle.study_session.specs.Contexts.{context_of}
@@ -14,11 +14,11 @@ unfolding command_explained
 returns-clause-answer g c =
     let x = context_of c.args.context.now in
     let all = sessions_of c.args.branches.now in
-    subst (λ (said : Said). IfOk c.with_hint.result (λ it. it ≡ command_explained x (all x.branch) c.args.command.now said c.args.answer))
+    subst (λ (said : Said). IfOk c.refused_with.result (λ it. it ≡ command_explained x (all x.branch) c.args.command.now said c.args.answer))
     (ap said_by (sym c.in-Refused.is))
     (hinted x all (sessions_of c.prepare.new.self) c.in_ok-prepare.ensures.kept c.planner.result.now.session c.planner.ensures
-    c.situation-situation.result c.situation-situation.ensures c.with_hint.result
+    c.situation-situation.result c.situation-situation.ensures c.refused_with.result
     (λ (s : SituationValue). command_hint s x.words c.args.command.now (edit_fault c.in-Refused.why)) c.in_ok-hint.hint c.args.answer
     (c.in_ok-hint.ensures
     ∙ ap (λ (fault : Option EditFault). command_hint c.situation-situation.result x.words c.args.command.now fault) c.edit_fault-fault.ensures)
-    c.with_hint.ensures)
+    (refusal_texts c.in-Refused.why) (rw c.texts.ensures.code at (rw c.texts.ensures.name at c.refused_with.ensures)))

@@ -1,0 +1,20 @@
+use Rattle.std.proofs.Common.{List, sym, ap, subst, ◌∙◌}
+use Rattle.std.specs.List.{Contains}
+use Rattle.lsa_codec.specs.declared.address.RouterId.{RouterId}
+use Rattle.area_graph.specs.declared.vertex.Vertex.{Vertex}
+use Rattle.area_candidates.proofs.InsertingLemmas.{Inserts, inserts_as}
+use Rattle.first_ends.specs.FirstEnds.{first_ends_in, vertices_in}
+use Rattle.first_ends.specs.steps.Ends.{AreEdgesTo, IsEndOver}
+use Rattle.first_ends.proofs.EndsOver.{ends_in}
+use Rattle.first_ends.proofs.first_ends.insert_ends.Goals as goal
+
+pub returns : goal.returns
+returns g c =
+    let view = c.args.view.now in
+    let targets = c.args.targets.now in
+    let edges = c.in_ok-edges.edges.items in
+    let same = c.in_ok-vertices.ensures ∙ ap (λ area. vertices_in area targets) c.area.ensures in
+    let are = subst (λ (vs : List Vertex). AreEdgesTo view vs edges) same c.in_ok-edges.ensures in
+    inserts_as (IsEndOver view.router c.args.interface edges) (λ end. Contains (first_ends_in c.args.interface targets view) end) _ _
+    (ends_in view targets c.args.interface edges are)
+    (subst (λ (router : RouterId). Inserts (IsEndOver router c.args.interface edges) _ _) c.router.ensures c.in_ok-insert_over.ensures)

@@ -1,0 +1,4 @@
+pub mod Compared
+pub mod NestingLemmas
+pub mod Nesting
+pub mod Whole

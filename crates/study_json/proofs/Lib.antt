@@ -1,0 +1,5 @@
+pub mod Outcomes
+pub mod Plain
+pub mod Arrays
+pub mod Members
+pub mod Printed
