@@ -36,6 +36,7 @@ loops
 @1 microloops 1
 routes r1 10.1.5.9
 path r1 10.1.5.9
+explain r1 10.1.5.0/24
 log
 help expect
 table 1.1.1.1
@@ -53,8 +54,8 @@ add-external r2 10.8.0.0/16 1 20 0.0.0.0 7
 # ---- plain readers
 
 WORDS = """cost drop-link fail-link fail-net fail-router add-stub summary add-summary add-external drop-external refresh undo
-redo table tables compare info routers links networks routes path changes lost gone loops microloops log help expect route
-no-route hops blackholes same intra inter ext1 ext2 own not via avoids delivered none only""".encode().split()
+redo table tables compare info routers links networks routes path explain changes lost gone loops microloops log help expect
+route no-route hops blackholes same intra inter ext1 ext2 own not via avoids delivered none only""".encode().split()
 PART = rb"(0|[1-9]\d?|1\d\d|2[0-4]\d|25[0-5])"
 ADDRESS = re.compile(rb"\.".join([PART] * 4))
 

@@ -27,6 +27,7 @@ abbrev pub question_advice : SituationValue → Question → AdviceValue
 question_advice s (question.Links router) = named_advice s router
 question_advice s (question.Routes router address) = named_advice s (Some router)
 question_advice s (question.Path router address) = named_advice s (Some router)
+question_advice s (question.Explain router net) = named_advice s (Some router)
 question_advice s (question.Changes router) = named_advice s router
 question_advice s (question.Microloops count) = count_advice s count
 question_advice s _ = no_advice

@@ -61,9 +61,9 @@ fn question_advice<A: Allocator + Copy>(
         Question::Links(router) | Question::Changes(router) => {
             named_advice(alloc, situation, router)
         }
-        Question::Routes { router, .. } | Question::Path { router, .. } => {
-            named_advice(alloc, situation, Some(router))
-        }
+        Question::Routes { router, .. }
+        | Question::Path { router, .. }
+        | Question::Explain { router, .. } => named_advice(alloc, situation, Some(router)),
         Question::Microloops(count) => count_advice(alloc, situation, count),
         _ => Advice::none(alloc),
     }

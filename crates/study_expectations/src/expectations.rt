@@ -75,8 +75,12 @@ fn verdict_of_routes<A: Allocator + Copy>(
 }
 
 /// What is found of a condition in a branch. All sessions stay.
+///
+/// # Errors
+///
+/// Memory ran out.
 #[tactic(auto, unfolding(crate::specs::Expectations::IsVerdict))]
-fn verdict<A: Allocator + Copy>(
+pub fn verdict_on<A: Allocator + Copy>(
     alloc: A,
     branches: &mut Branches<A>,
     baseline: &Database<A>,
@@ -132,6 +136,6 @@ pub fn expectation<A: Allocator + Copy>(
     ensures kept { sessions_of branches.new ≡ sessions_of branches.old }
 {
     let condition = &expectation.condition;
-    let verdict = verdict(alloc, branches, baseline, names, branch, condition)?;
+    let verdict = verdict_on(alloc, branches, baseline, names, branch, condition)?;
     verdict.answer(alloc, branch, expectation.is_not)
 }

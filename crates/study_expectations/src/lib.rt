@@ -1,4 +1,7 @@
 //! What expectations of a study are answered.
+//!
+//! [`verdict_on`] finds whether a condition holds, and what there is; [`expectation`] is the answer
+//! by it.
 #![tactic(auto)]
 
 // What is found of a condition.
@@ -14,4 +17,5 @@ mod loop_conditions;
 // Each expectation.
 mod expectations;
 
-pub use expectations::expectation;
+pub use expectations::{expectation, verdict_on};
+pub use verdict::Verdict;

@@ -4,12 +4,12 @@ ghost use Rattle.std.specs.Prelude.{◌≡◌, IfOk};
 ghost use Rattle.study_expectations.specs.Verdicts.{verdict_answer};
 ghost use Rattle.study_expectations.specs.steps.Verdicts.{verdict_of};
 
-use std::alloc::{AllocError, Allocator};
+use std::alloc::{AllocError, Allocator, Global};
 use study_answers::{Answer, no_router};
 
 /// What is found of a condition.
 #[derive(Drop)]
-pub(crate) enum Verdict<A: Allocator> {
+pub enum Verdict<A: Allocator = Global> {
     /// Nothing: it names a router that is not there.
     NoRouter,
     /// Nothing: fewer edits are done than it names.

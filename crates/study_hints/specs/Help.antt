@@ -42,6 +42,7 @@ command_meaning (See see.Links) = codes "each link with its number, cost, cost b
 command_meaning (See see.Networks) = codes "each transit network with its Designated Router and members"
 command_meaning (See see.Routes) = codes "what a router uses, by neighbor; with an address the longest match"
 command_meaning (See see.Path) = codes "the ways of a packet, router by router, and how they end"
+command_meaning (See see.Explain) = codes "why a route is what it is, by the rules of RFC 2328"
 command_meaning (See see.Changes) = codes "what differs from the baseline, by kind of change"
 command_meaning (See see.Differences) = codes "the LSAs that differ from the baseline, by meaning"
 command_meaning (See see.Lost) = codes "routes that are gone though their prefix is still announced"

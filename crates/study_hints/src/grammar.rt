@@ -44,6 +44,7 @@ fn see_command_text(word: SeeWord) -> &'static str
         SeeWord::Networks => "networks",
         SeeWord::Routes => "routes ROUTER [ADDRESS]",
         SeeWord::Path => "path ROUTER ADDRESS",
+        SeeWord::Explain => "explain ROUTER PREFIX",
         SeeWord::Changes => "changes [ROUTER]",
         SeeWord::Differences => "differences",
         SeeWord::Lost => "lost",
@@ -58,7 +59,7 @@ fn see_command_text(word: SeeWord) -> &'static str
 
 /// A command word and its arguments; brackets stand around one that may be left out.
 #[tactic(auto, unfolding(crate::specs::Grammar::command_text))]
-pub(crate) fn command_text(word: StudyWord) -> &'static str
+pub fn command_text(word: StudyWord) -> &'static str
     ensures { result.now ≡ command_text word }
 {
     match word {
@@ -112,6 +113,7 @@ fn see_roles_of(word: SeeWord) -> &'static [Role]
         SeeWord::Networks => &[],
         SeeWord::Routes => &[Role::Router, Role::Address],
         SeeWord::Path => &[Role::Router, Role::Address],
+        SeeWord::Explain => &[Role::Router, Role::Prefix],
         SeeWord::Changes => &[Role::Router],
         SeeWord::Differences => &[],
         SeeWord::Lost => &[],
@@ -139,7 +141,7 @@ pub(crate) fn roles_of(word: StudyWord) -> &'static [Role]
 
 /// A condition after `expect`, and its words.
 #[tactic(auto, unfolding(crate::specs::Grammar::expectation_text))]
-pub(crate) fn expectation_text(word: ConditionWord) -> &'static str
+pub fn expectation_text(word: ConditionWord) -> &'static str
     ensures { result.now ≡ expectation_text word }
 {
     match word {

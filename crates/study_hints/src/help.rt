@@ -10,7 +10,7 @@ use std::alloc::{AllocError, Allocator};
 use study_words::{ConditionWord, PlanWord, SeeWord, StudyWord, Word};
 
 /// All command words, in the order of `help`.
-pub(crate) fn commands() -> &'static [StudyWord]
+pub fn commands() -> &'static [StudyWord]
     ensures { result.now ≡ commands }
 {
     &[
@@ -36,6 +36,7 @@ pub(crate) fn commands() -> &'static [StudyWord]
         StudyWord::See(SeeWord::Networks),
         StudyWord::See(SeeWord::Routes),
         StudyWord::See(SeeWord::Path),
+        StudyWord::See(SeeWord::Explain),
         StudyWord::See(SeeWord::Changes),
         StudyWord::See(SeeWord::Differences),
         StudyWord::See(SeeWord::Lost),
@@ -86,6 +87,7 @@ fn see_command_meaning(word: SeeWord) -> &'static str
         SeeWord::Networks => "each transit network with its Designated Router and members",
         SeeWord::Routes => "what a router uses, by neighbor; with an address the longest match",
         SeeWord::Path => "the ways of a packet, router by router, and how they end",
+        SeeWord::Explain => "why a route is what it is, by the rules of RFC 2328",
         SeeWord::Changes => "what differs from the baseline, by kind of change",
         SeeWord::Differences => "the LSAs that differ from the baseline, by meaning",
         SeeWord::Lost => "routes that are gone though their prefix is still announced",
@@ -100,7 +102,7 @@ fn see_command_meaning(word: SeeWord) -> &'static str
 
 /// What a command does.
 #[tactic(auto, unfolding(crate::specs::Help::command_meaning))]
-fn command_meaning(word: StudyWord) -> &'static str
+pub fn command_meaning(word: StudyWord) -> &'static str
     ensures { result.now ≡ command_meaning word }
 {
     match word {

@@ -20,7 +20,7 @@ use study_words::StudyWord;
 
 /// The place of the command word of a line: it may follow the name of a branch.
 #[tactic(auto, using(crate::proofs::FirstWords::words_from_first))]
-fn command_at(line: &[u8]) -> Option<Position<'_>>
+pub fn command_at(line: &[u8]) -> Option<Position<'_>>
     ensures { words_from result ≡ command_at (words line.now) }
 {
     let at = first_word(line)?;
@@ -134,4 +134,23 @@ pub fn push_fault<A: Allocator + Copy>(
     text.extend_from_slice(b" (")?;
     push_hint(text, names, known, command_at(line), fault)?;
     text.extend_from_slice(b")")
+}
+
+/// Adds what would have been right in a line with a fault alone: `did you mean drop-link`.
+///
+/// # Errors
+///
+/// Memory ran out.
+pub fn push_fault_hint<A: Allocator + Copy>(
+    text: &mut Vec<u8, A>,
+    names: &Names<'_, A>,
+    known: &[&[u8]],
+    line: &[u8],
+    fault: &Fault<'_>,
+) -> Result<(), AllocError>
+    ensures { OnOk result (text.new.items ≡ text.old.items
+        ++ hint (stands_for names.now) (map (λ name. name.now) known.now)
+        (command_at (words line.now)) (fault_at fault.now)) }
+{
+    push_hint(text, names, known, command_at(line), fault)
 }

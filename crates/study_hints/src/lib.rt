@@ -22,6 +22,7 @@ mod condition_hint;
 mod hint;
 
 pub use escape::push_escaped;
-pub use help::{count_help, push_help};
-pub use hint::push_fault;
+pub use grammar::{command_text, expectation_text};
+pub use help::{command_meaning, commands, count_help, push_help};
+pub use hint::{command_at, push_fault, push_fault_hint};
 pub use near::{Candidate, nearest};

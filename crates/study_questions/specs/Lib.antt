@@ -2,6 +2,7 @@ pub mod Texts
 pub mod Listings
 pub mod LinkAnswers
 pub mod RouteAnswers
+pub mod ExplainAnswers
 pub mod ChangeAnswers
 pub mod LoopAnswers
 pub mod AuditAnswers

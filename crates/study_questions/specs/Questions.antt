@@ -10,6 +10,7 @@ use Rattle.study_answers.specs.Answers.{AnswerValue}
 use Rattle.study_answers.specs.Known.{count_or_one}
 use Rattle.study_questions.specs.LinkAnswers.{links_answer, networks_answer, routers_answer}
 use Rattle.study_questions.specs.RouteAnswers.{IsPathAnswer, routes_answer}
+use Rattle.study_questions.specs.ExplainAnswers.{IsExplainAnswer}
 use Rattle.study_questions.specs.ChangeAnswers.{changes_answer, differences_answer, gone_answer, lost_answer}
 use Rattle.study_questions.specs.LoopAnswers.{IsLoopsAnswer, IsMicroloopsAnswer}
 use Rattle.study_questions.specs.AuditAnswers.{audit_answer}
@@ -22,6 +23,7 @@ IsQuestionAnswer called baseline branch s (question.Links router) answer = answe
 IsQuestionAnswer called baseline branch s question.Networks answer = answer ≡ networks_answer called branch (state s)
 IsQuestionAnswer called baseline branch s (question.Routes router address) answer = answer ≡ routes_answer called branch (state s) router address
 IsQuestionAnswer called baseline branch s (question.Path router address) answer = IsPathAnswer called branch (state s) router address answer
+IsQuestionAnswer called baseline branch s (question.Explain router net) answer = IsExplainAnswer called branch (state s) router net answer
 IsQuestionAnswer called baseline branch s (question.Changes router) answer = answer ≡ changes_answer called branch baseline (state s) router
 IsQuestionAnswer called baseline branch s question.Differences answer = answer ≡ differences_answer called branch baseline (state s)
 IsQuestionAnswer called baseline branch s question.Lost answer = answer ≡ lost_answer called branch baseline (state s)

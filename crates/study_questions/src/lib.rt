@@ -5,7 +5,8 @@
 mod listing;
 mod text;
 
-// Routers, links, networks and routes.
+// Routers, links, networks and routes, and why these are what they are.
+mod explain;
 mod links;
 mod routes;
 
@@ -23,4 +24,6 @@ mod log;
 // Each question.
 mod questions;
 
+pub use explain::explained;
+pub use log::done_records;
 pub use questions::question;

@@ -31,7 +31,7 @@ fn push_edits<A: Allocator + Copy>(
 
 /// The records of the edits that are done.
 #[tactic(auto, using(crate::proofs::Logged::enough, crate::proofs::Logged::first_done))]
-fn done_records<A: Allocator + Copy>(planner: &Planner<A>) -> &[Record<A>]
+pub fn done_records<A: Allocator + Copy>(planner: &Planner<A>) -> &[Record<A>]
     ensures { edits_of result.now ≡ planner.now.session.done }
 {
     &planner.records()[..planner.done()]

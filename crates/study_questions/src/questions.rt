@@ -8,6 +8,7 @@ ghost use Rattle.study_questions.specs.Questions.{IsQuestionAnswer};
 
 use crate::audit::audit;
 use crate::changes::{changes_answer, differences_answer, missing_answer};
+use crate::explain::explain_answer;
 use crate::help::help_answer;
 use crate::links::{links_answer, networks_answer, routers_answer};
 use crate::log::log;
@@ -51,6 +52,9 @@ pub fn question<A: Allocator + Copy>(
         }
         Question::Path { router, address } => {
             path_answer(alloc, names, branch, now, (router, address))
+        }
+        Question::Explain { router, net } => {
+            explain_answer(alloc, names, branch, now, router, net)
         }
         Question::Changes(router) => { changes_answer(alloc, names, branch, baseline, now, router) }
         Question::Differences => differences_answer(alloc, names, branch, baseline, now),

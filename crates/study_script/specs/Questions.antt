@@ -6,7 +6,7 @@ use Rattle.study_script.specs.declared.question.Question.{Question}
 use Rattle.study_script.specs.declared.question.Question.TheVariants as question
 use Rattle.study_arguments.specs.Fault.{FaultAt, made}
 use Rattle.study_arguments.specs.Positions.{At}
-use Rattle.study_arguments.specs.Values.{Lookup, addr, audit_kind, number32, router_id, study_word}
+use Rattle.study_arguments.specs.Values.{Lookup, addr, audit_kind, number32, prefix, router_id, study_word}
 use Rattle.study_arguments.specs.Arguments.{one_or_two_of, optional_of, two_of}
 use Rattle.study_script.specs.PlanLines.{alone}
 
@@ -16,6 +16,7 @@ question_of names words.Links line = made question.Links (optional_of (router_id
 question_of names words.Networks line = alone question.Networks line
 question_of names words.Routes line = made (λ x. question.Routes x.0 x.1) (one_or_two_of (router_id names) (addr names) line)
 question_of names words.Path line = made (λ x. question.Path x.0 x.1) (two_of (router_id names) (addr names) line)
+question_of names words.Explain line = made (λ x. question.Explain x.0 x.1) (two_of (router_id names) (prefix names) line)
 question_of names words.Changes line = made question.Changes (optional_of (router_id names) line)
 question_of names words.Differences line = alone question.Differences line
 question_of names words.Lost line = alone question.Lost line

@@ -1,6 +1,6 @@
 //! Questions that only studies have.
 
-use lsa_codec::{Addr, RouterId};
+use lsa_codec::{Addr, Prefix, RouterId};
 use study_words::{AuditKind, StudyWord};
 
 /// A question about the database of a branch, or about the language.
@@ -25,6 +25,13 @@ pub enum Question {
         router: RouterId,
         /// The address that it is sent to.
         address: Addr,
+    },
+    /// `explain ROUTER PREFIX`: why a route is what it is, by the rules of RFC 2328.
+    Explain {
+        /// The router.
+        router: RouterId,
+        /// The prefix of its route.
+        net: Prefix,
     },
     /// `changes [ROUTER]`: what differs from the baseline, for a router or for all.
     Changes(Option<RouterId>),

@@ -34,6 +34,10 @@ pub(crate) fn question<'a, A: Allocator + Copy>(
             let (router, address) = two(names, line)?;
             Ok(Question::Path { router, address })
         }
+        SeeWord::Explain => {
+            let (router, net) = two(names, line)?;
+            Ok(Question::Explain { router, net })
+        }
         SeeWord::Changes => Ok(Question::Changes(optional(names, line)?)),
         SeeWord::Differences => alone(Question::Differences, line),
         SeeWord::Lost => alone(Question::Lost, line),

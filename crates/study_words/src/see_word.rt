@@ -17,6 +17,8 @@ pub enum SeeWord {
     Routes,
     /// `path ROUTER ADDRESS`: the ways of a packet, router by router, and how they end.
     Path,
+    /// `explain ROUTER PREFIX`: why a route is what it is, by the rules of RFC 2328.
+    Explain,
     /// `changes [ROUTER]`: what differs from the baseline, by kind of change.
     Changes,
     /// `differences`: the LSAs that differ from the baseline, by meaning.
@@ -46,6 +48,7 @@ macro_rules! see_words {
             Networks "networks"
             Routes "routes"
             Path "path"
+            Explain "explain"
             Changes "changes"
             Differences "differences"
             Lost "lost"

@@ -96,6 +96,11 @@ const QUESTIONS: &[(&str, &str)] = &[
         "path r1 10.0.0.1",
         "0 See(Path { router: RouterId(16843009), address: Addr(167772161) })",
     ),
+    (
+        "@2 explain r1 10.9.0.0/16",
+        "2 See(Explain { router: RouterId(16843009), \
+        net: Prefix { addr: Addr(168361984), len: 16 } })",
+    ),
     ("changes", "0 See(Changes(None))"),
     ("changes r1", "0 See(Changes(Some(RouterId(16843009))))"),
     ("differences", "0 See(Differences)"),

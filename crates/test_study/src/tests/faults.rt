@@ -27,6 +27,7 @@ const LINES: &[(&str, &str)] = &[
     ("cost r1 r1 1 x", "S6 BadAddress r1"),
     ("table r9", "S6 BadAddress r9"),
     ("path r1 lan", "S6 BadAddress lan"),
+    ("explain r1 lan", "S7 BadPrefix lan"),
     ("add-external r1 10.0.0.0/8 1 5 r2 0", "S6 BadAddress r2"),
     ("add-external r1 10.0.0.0/8 3 5 r2 0", "S5 BadNumber 3"),
     (
@@ -35,7 +36,7 @@ const LINES: &[(&str, &str)] = &[
     ),
     ("add-stub 0.0.0.0 r1 r2 0", "S7 BadPrefix r2"),
     ("microloops 1x", "S5 BadNumber 1x"),
-    ("explain r1 10.7.0.0/16", "S2 UnknownWord explain"),
+    ("why r1 10.7.0.0/16", "S2 UnknownWord why"),
     ("audit nasa", "S9 BadWord nasa"),
     ("help r1", "S9 BadWord r1"),
     ("log all", "S4 ExtraWord all"),

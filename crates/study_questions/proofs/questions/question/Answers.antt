@@ -8,6 +8,7 @@ use Rattle.study_answers.specs.declared.missing.Missing.TheVariants as missing
 use Rattle.study_answers.specs.Known.{count_or_one}
 use Rattle.study_questions.specs.AuditAnswers.{audit_answer}
 use Rattle.study_questions.specs.ChangeAnswers.{changes_answer, differences_answer}
+use Rattle.study_questions.specs.ExplainAnswers.{IsExplainAnswer}
 use Rattle.study_questions.specs.LinkAnswers.{links_answer, networks_answer, routers_answer}
 use Rattle.study_questions.specs.LoopAnswers.{IsLoopsAnswer, IsMicroloopsAnswer}
 use Rattle.study_questions.specs.OwnAnswers.{log_answer}
@@ -40,6 +41,12 @@ unfolding IsQuestionAnswer
 returns-in-Path-clause-answer g c = by_database (called c.args.names.now) (lists_of c.args.baseline.now) c.args.branch
     c.path_answer.result (λ called branch db answer. IsPathAnswer called branch db c.in-Path.router c.in-Path.address answer)
     c.in-Path.is c.database-now.ensures.state c.planner-planner.ensures c.in_ok-prepare.ensures.kept (λ answer is. is) c.path_answer.ensures
+
+pub returns-in-Explain-clause-answer : goal.returns-in-Explain-clause-answer
+unfolding IsQuestionAnswer
+returns-in-Explain-clause-answer g c = by_database (called c.args.names.now) (lists_of c.args.baseline.now) c.args.branch
+    c.explain_answer.result (λ called branch db answer. IsExplainAnswer called branch db c.in-Explain.router c.in-Explain.net answer)
+    c.in-Explain.is c.database-now.ensures.state c.planner-planner.ensures c.in_ok-prepare.ensures.kept (λ answer is. is) c.explain_answer.ensures
 
 pub returns-in-Changes-clause-answer : goal.returns-in-Changes-clause-answer
 unfolding IsQuestionAnswer

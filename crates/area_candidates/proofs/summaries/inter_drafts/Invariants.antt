@@ -1,0 +1,8 @@
+use Rattle.std.proofs.Common.{◌≡◌, take}
+use Rattle.std.specs.List.{flat_map}
+use Rattle.area_candidates.specs.Between.{drafts_between}
+use Rattle.area_candidates.proofs.summaries.inter_drafts.Given as goal
+
+-- the candidates of the areas so far
+abbrev pub invariant-loop-view : goal.invariant-loop-view
+invariant-loop-view g l = l.drafts.items ≡ flat_map (drafts_between l.is_within l.views l.net) (take l.view-index l.views)

@@ -1,0 +1,4 @@
+pub mod Texts
+pub mod WaySteps
+pub mod Whole
+pub mod steps

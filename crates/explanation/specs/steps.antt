@@ -1,0 +1,3 @@
+-- What the steps of the code do: only contracts within the crate cite these.
+pub mod Edges
+pub mod Resting

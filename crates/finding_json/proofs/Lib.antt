@@ -1,0 +1,2 @@
+pub mod NestingLemmas
+pub mod Nesting

@@ -1,0 +1,2 @@
+pub mod EdgesTo
+pub mod EndsOver

@@ -1,0 +1,2 @@
+pub mod FirstEnds
+pub mod steps

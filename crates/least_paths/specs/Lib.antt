@@ -1,0 +1,2 @@
+pub mod LeastPaths
+pub mod steps

@@ -1,0 +1,5 @@
+pub mod Documents
+pub mod Replies
+pub mod Compared
+pub mod Outcomes
+pub mod Summary

@@ -1,0 +1,12 @@
+pub mod JsonText
+pub mod Fields
+pub mod Leaves
+pub mod Unnamed
+pub mod Routers
+pub mod Links
+pub mod Networks
+pub mod Routes
+pub mod Steps
+pub mod Changes
+pub mod Loops
+pub mod Tables

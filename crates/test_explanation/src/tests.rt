@@ -1,0 +1,5 @@
+//! Explanations, and the neighbors over an interface with several of them.
+
+// What the tests share.
+mod built;
+mod hub;
