@@ -4,7 +4,7 @@ _ospf_study() {
     COMPREPLY=()
     case $current in
         -?*)
-            mapfile -t COMPREPLY < <(compgen -W "--dump --baseline --names --keep-going --verbose --out --help --version" -- "$current")
+            mapfile -t COMPREPLY < <(compgen -W "--dump --baseline --names --keep-going --verbose --format --out --help --version" -- "$current")
             ;;
         *)
             compopt -o filenames 2>/dev/null

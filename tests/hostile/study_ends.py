@@ -18,6 +18,13 @@ def summary(lines: int, refused: int = 0, expectations: int = 0, failed: int = 0
     return b"study %s lines %d refused %d expectations %d failed %d\n" % (result, lines, refused, expectations, failed)
 
 
+def documents(*members: bytes, passed: bytes = b"ok", refused: int = 0, failed: int = 0, expectations: int = 0) -> bytes:
+    """The documents of the lines of standard input, by what each has after its number, and the summary."""
+    lines = b"".join(b'{"file":"-","line":%d,%b}\n' % (number, text) for number, text in enumerate(members, 1))
+    return lines + b'{"summary":{"result":"%b","lines":%d,"refused":%d,"expectations":%d,"failed":%d}}\n' % (
+        passed, len(members), refused, expectations, failed)
+
+
 # What the study `script`, or COST, is answered; and a line that no program takes, with its reply and its line.
 DONE = b"@0 ok\n" + summary(1)
 BAD, BAD_REPLY, BAD_ERROR = b"frob\n", b"script S2 UnknownWord\n", "-:1: script S2 UnknownWord frob (did you mean fail-link)\n"
@@ -32,6 +39,9 @@ ACCEPTED = [
         old_out=SAMPLE, out=EDITED),
     End("standard output as --out", "--dump dump --out /dev/stdout script", 0, replies=DONE + EDITED),
     End("no study", "--dump dump", 0, replies=DONE, stdin=COST),
+    End("no study, and documents", "--dump dump --format json --out out", 0, stdin=COST,
+        replies=documents(b'"branch":0,"word":"cost","answer":"ok"'), out=EDITED),
+    End("texts as they are without --format", "--dump dump --format text", 0, replies=DONE, stdin=COST),
     End("- as study", "--dump dump -", 0, replies=DONE, stdin=COST),
     End("- twice, which leaves nothing for the second", "--dump dump - script -", 0, stdin=b"lost\n",
         replies=b"@0 lost 0\n@0 ok\n" + summary(2)),
@@ -54,6 +64,12 @@ NOT_ACCEPTED = [
         BAD_REPLY + b"@0 ok\n" + summary(2, 1), stdin=BAD + COST, old_out=b"a dump", out=b"a dump"),
     End("a line that is no command, and no such folder for --out, which is not opened", "--dump dump --out none/out", 1,
         BAD_ERROR, BAD_REPLY + summary(1, 1), stdin=BAD),
+    End("a line that is no command, and documents", "--dump dump --format json --out out", 1, BAD_ERROR,
+        documents(b'"answer":"fault","code":"S2","name":"UnknownWord","at":"frob","hint":"did you mean fail-link"',
+                  passed=b"failed", refused=1), stdin=BAD + COST, old_out=b"a dump", out=b"a dump"),
+    End("an expectation that does not hold, and documents", "--dump dump --format json", 1, "-:1: failed lost 0\n",
+        documents(b'"branch":7,"word":"expect","answer":"failed","expected":"lost","found":"lost 0"', passed=b"failed",
+                  failed=1, expectations=1), stdin=b"@7 expect not lost none\n"),
     End("a refused line in the second study", "--dump dump script - script", 1, "-:2: refused E1 NoArea 0.0.0.1 (the database has 0.0.0.0)\n",
         b"@0 ok\n@0 refused E1 NoArea\n" + summary(2, 1), stdin=b"\ncost 0.0.0.1 1.1.1.1 1 7\n"),
     End("a router that is not there", "--dump dump --out out", 1,
@@ -71,6 +87,8 @@ MISSING_VALUE = "error: a value is required for '--{0} <{1}>' but none was suppl
 COMMAND_LINE = [
     *(End(f"--{option} without its file", f"--{option}", 2, MISSING_VALUE.format(option, value))
       for option, value in (("dump", "DUMP"), ("baseline", "DUMP"), ("names", "FILE"), ("out", "DUMP"))),
+    End("another --format", "--dump dump --format xml", 2, "error: invalid value 'xml' for '--format <FORMAT>'\n"
+        "  [possible values: text, json]\n\nFor more information, try '--help'.\n"),
     End("a word that is no text", "--dump dump \udcff", 2, "error: an argument is not UTF-8 text\n"),
     End("no dump, and nobody hears", "script", 2, stderr="full"),
     End("an option twice, and standard error closed", "--dump dump --dump dump script", 2, stderr="closed"),

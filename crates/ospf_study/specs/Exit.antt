@@ -1,5 +1,6 @@
 -- How the program ends after a fault: the status, and the line on standard error.
-use Rattle.std.specs.Prelude.{◌≡◌, ℕ, List, ◌++◌, codes, decimal}
+use Rattle.std.specs.Prelude.{◌≡◌, ℕ, List, [], ◌++◌, Result, Ok, Err, codes, decimal, option_map, unwrap_or}
+use Rattle.std.specs.Global.{Global}
 use Rattle.lsdb.specs.declared.fault.DumpFault.{DumpFault}
 use Rattle.lsdb.specs.declared.fault.DumpFaultKind.{DumpFaultKind}
 use Rattle.lsdb.specs.declared.fault.DumpFaultKind.TheVariants as kind
@@ -9,6 +10,8 @@ use Rattle.study_hints.specs.Escaped.{escaped}
 use Rattle.whole_study.specs.declared.fault.NamesRefusal.{NamesRefusal}
 use Rattle.whole_study.specs.declared.fault.RunFault.{RunFault}
 use Rattle.whole_study.specs.declared.fault.RunFault.TheVariants as «run»
+use Rattle.whole_study.specs.declared.running.Ended.{Ended}
+use Rattle.ospf_study.specs.declared.arguments.Options.{Options}
 use Rattle.ospf_study.specs.declared.fault.FileArg.{FileArg}
 use Rattle.ospf_study.specs.declared.fault.FileArg.TheVariants as file
 use Rattle.ospf_study.specs.declared.fault.ExitFault.{ExitFault}
@@ -88,3 +91,37 @@ IsNotReplacedFor replace.Write (OpenStudy name) = ⊥
 
 abbrev pub IsNotReplaced : ExitFault → Type 0
 IsNotReplaced fault = (why : ReplaceFault) × IsNotReplacedFor why fault
+
+-- ---- the end of a run
+
+-- the name of the names file, as it was given; without one, none
+abbrev pub names_file : Options → List ℕ
+names_file o = unwrap_or (option_map (λ name. name.now) o.names) []
+
+-- a refused names file is reported by its name
+abbrev pub IsNamedFor : {A : Type 0} → Options → List ℕ → RunFault A → Type 0
+IsNamedFor o names (run.Names refusal) = names ≡ names_file o
+IsNamedFor o names (run.Dump fault) = Unit {0}
+IsNamedFor o names (run.Baseline fault) = Unit {0}
+IsNamedFor o names run.Read = Unit {0}
+IsNamedFor o names run.Write = Unit {0}
+IsNamedFor o names run.TooLarge = Unit {0}
+IsNamedFor o names run.OutOfMemory = Unit {0}
+
+abbrev pub IsNamed : Options → ExitFault → Type 0
+IsNamed o (Run names fault) = IsNamedFor o names.now fault
+IsNamed o (Open file) = Unit {0}
+IsNamed o (OpenStudy name) = Unit {0}
+
+-- no run was begun: a file cannot be opened, or memory ran out
+abbrev pub IsBeforeRun : ExitFault → Type 0
+IsBeforeRun (Run names fault) = fault ≡ run.OutOfMemory
+IsBeforeRun (Open file) = Unit {0}
+IsBeforeRun (OpenStudy name) = Unit {0}
+
+-- a run that ended early ends the program with its fault; after one that did not, the file of the dump was not replaced
+abbrev pub IsEndFault : {A : Type 0} → Options → Result (Ended A) (RunFault Global) → ExitFault → Type 0
+IsEndFault o (Ok ended) fault = IsNotReplaced fault
+IsEndFault o (Err end) (Run names fault) = (names.now ≡ names_file o) × (fault ≡ end)
+IsEndFault o (Err end) (Open file) = ⊥
+IsEndFault o (Err end) (OpenStudy name) = ⊥

@@ -14,6 +14,8 @@ pub(crate) struct Options<'a> {
     pub(crate) keep_going: bool,
     /// Whether each edit says what it changed.
     pub(crate) verbose: bool,
+    /// The form of the answers, `text` or `json`. Without it, they are texts.
+    pub(crate) format: Option<&'a str>,
     /// Where the dump after the studies goes. Without it none is written.
     pub(crate) out: Option<&'a str>,
     /// The studies; `-`, or none at all, is standard input.

@@ -1,5 +1,7 @@
 //! Why the program ends with another status than 0, 1 or 2.
 
+ghost use Rattle.ospf_study.specs.Exit.{IsBeforeRun};
+
 use std::alloc::{AllocError, AllocFailed};
 use whole_study::RunFault;
 
@@ -28,12 +30,16 @@ pub(crate) enum ExitFault<'a> {
 }
 
 impl<'a> From<AllocError> for ExitFault<'a> {
+    ghost from_gives = { λ _ fault. IsBeforeRun fault };
+
     fn from(_error: AllocError) -> ExitFault<'a> {
         ExitFault::Run("", RunFault::OutOfMemory)
     }
 }
 
 impl<'a, T: Drop> From<AllocFailed<T>> for ExitFault<'a> {
+    ghost from_gives = { λ _ fault. IsBeforeRun fault };
+
     fn from(_error: AllocFailed<T>) -> ExitFault<'a> {
         ExitFault::Run("", RunFault::OutOfMemory)
     }

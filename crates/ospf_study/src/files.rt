@@ -1,11 +1,14 @@
 //! The files that the command line names.
 
-ghost use Rattle.std.specs.Prelude.{◌≡◌, All, IfErr, IfOk, IfSome, OnOk, false, is_some, true};
+ghost use Rattle.std.specs.Prelude.{◌≡◌, ◌↔◌, All, IfErr, IfOk, IfSome, IsOkAnd, IsTrue, OnOk, false, is_some, map, option_map, true};
 ghost use Rattle.host_io.specs.Taking.{IsTaken};
-ghost use Rattle.host_io.specs.Watched.{has_failed};
+ghost use Rattle.host_io.specs.Watched.{has_failed, is_flushed};
 ghost use Rattle.whole_run.specs.Streams.{has_any_failed};
-ghost use Rattle.whole_study.specs.Streams.{has_file_failed};
-ghost use Rattle.ospf_study.specs.Exit.{IsNotReplaced, IsNotReplacedFor};
+ghost use Rattle.whole_study.specs.Calls.{IsRefusal};
+ghost use Rattle.whole_study.specs.Run.{has_passed};
+ghost use Rattle.whole_study.specs.Streams.{has_file_failed, has_writer_failed};
+ghost use Rattle.ospf_study.specs.CommandLine.{IsJson, IsMannerOf, IsStandardInput};
+ghost use Rattle.ospf_study.specs.Exit.{IsBeforeRun, IsEndFault, IsNamed, IsNotReplaced, IsNotReplacedFor};
 
 use crate::arguments::Options;
 use crate::fault::{ExitFault, FileArg};
@@ -13,8 +16,9 @@ use either::{Either, Left, Right};
 use host_io::{ReplaceFault, Watched, replace_file};
 use std::alloc::Alloc;
 use std::fs::{self, File, Files};
-use std::io::{self, BufWriter, Input, Read, Write};
-use whole_study::{Ended, Manner, Output, RunFault, RunFiles, StudyFile, run};
+use std::io::{self, BufWriter, Input, IsTerminal, Read, Write};
+use study_session::Format;
+use whole_study::{Ended, Manner, Output, RunFault, RunFiles, StudyFile, Terminal, converse, run};
 
 /// A folder that is there on every system.
 const ROOT: &str = "/";
@@ -24,22 +28,89 @@ const STANDARD_INPUT: &str = "-";
 
 /// Opens the inputs, carries the studies out, and writes the dump that they leave to its file.
 /// Returns whether each line was accepted.
-pub(crate) fn run_files<'a>(
-    rt: &HostRuntime,
-    options: &Options<'a>,
-) -> Result<bool, ExitFault<'a>> {
+///
+/// The replies go to standard output, and the lines that name those that are not accepted to
+/// standard error. Where the only study is standard input, and that is a terminal, each line is
+/// answered before the next one is asked for.
+pub(crate) fn run_files<'a>(rt: &HostRuntime, options: &Options<'a>) -> Result<bool, ExitFault<'a>>
+    ensures { IfErr result (IsNamed options.now) }
+{
     // A file that is opened gets the least free descriptor. So where standard input is closed, this
     // folder gets its place, and not the dump: reading a study then fails, as it should. Else it
     // gets another one, which nobody reads; where it is not opened, nothing is lost by it.
     let _place = fs::open(rt, ROOT);
     let mut files = open_inputs(rt, options)?;
-    let names = options.studies.as_slice();
-    let mut studies = if names.is_empty() {
-        standard_input(rt)?
-    } else {
-        open_studies(rt, names)?
+    let stderr = rt.stderr();
+    let mut output = Output {
+        replies: Watched::new(buffered(rt, io::writer(rt))?),
+        errors: Watched::new(io::writer(&stderr)),
     };
-    run_studies(rt, options, &mut files, &mut studies)
+    let names = options.studies.as_slice();
+    let end = if is_standard_input(names) && rt.stdin().is_terminal() {
+        converse_with(rt, options, &mut files, &mut output)
+    } else {
+        let mut studies = given_studies(rt, names)?;
+        let manner = manner_of(options);
+        run(rt.alloc(), manner, &mut files, &mut studies, &mut output)
+    };
+    end_run(rt, options, end)
+}
+
+/// Whether the only study is standard input.
+fn is_standard_input(names: &[&str]) -> bool
+    ensures { IsTrue result ↔ IsStandardInput (map (λ name. name.now) names.now) }
+{
+    match names {
+        [] => true,
+        [name] => *name == STANDARD_INPUT,
+        _ => false,
+    }
+}
+
+/// How the options ask for a run.
+fn manner_of(options: &Options<'_>) -> Manner
+    ensures { IsMannerOf options.now result }
+{
+    Manner {
+        keep_going: options.keep_going,
+        wants_dump: options.out.is_some(),
+        is_verbose: options.verbose,
+        format: format_of(options.format),
+    }
+}
+
+/// The form of the answers that an option names. Clap takes no other word than these two.
+fn format_of(word: Option<&str>) -> Format
+    ensures { (result ≡ Format.Json) ↔ IsJson (option_map (λ name. name.now) word.entry) }
+{
+    match word {
+        Some("json") => Format::Json,
+        _ => Format::Text,
+    }
+}
+
+/// Answers the lines that are typed at the terminal that is standard input. The prompts go to
+/// standard output, as the replies do.
+fn converse_with<W: Write, E: Write>(
+    rt: &HostRuntime,
+    options: &Options<'_>,
+    files: &mut RunFiles<File>,
+    output: &mut Output<W, E>,
+) -> Result<Ended, RunFault>
+    requires files { has_file_failed files.old ≡ false }
+    requires output { has_writer_failed output.old ≡ false }
+    ensures read { has_file_failed files.new ≡ true → result ≡ Err RunFault.Read }
+    ensures write { has_writer_failed output.new ≡ true → result ≡ Err RunFault.Write }
+    ensures untouched { IfErr result (λ fault. IsRefusal fault → output.new ≡ output.old) }
+    ensures flushed { OnOk result (is_flushed output.new.replies ≡ true) }
+    ensures order { has_failed output.new.errors ≡ true → is_flushed output.new.replies ≡ true }
+{
+    let mut terminal = Terminal {
+        input: Watched::new(rt.reader()),
+        prompts: Watched::new(io::writer(rt)),
+    };
+    let manner = manner_of(options);
+    converse(rt.alloc(), manner, files, &mut terminal, output)
 }
 
 /// Opens a file, which the command line names.
@@ -74,7 +145,8 @@ fn open_given<'a>(
 
 /// Opens the dump, the baseline and the names file.
 fn open_inputs<'a>(rt: &HostRuntime, options: &Options<'_>) -> Result<RunFiles<File>, ExitFault<'a>>
-    ensures { IfOk result (λ files. has_file_failed files ≡ false) }
+    ensures open { IfOk result (λ files. has_file_failed files ≡ false) }
+    ensures fault { IfErr result IsBeforeRun }
 {
     // Clap requires a dump.
     let Some(dump) = options.dump else {
@@ -87,12 +159,29 @@ fn open_inputs<'a>(rt: &HostRuntime, options: &Options<'_>) -> Result<RunFiles<F
     })
 }
 
+/// Opens the studies; where none is named, standard input is the only one.
+fn given_studies<'a, H: Files + Input + Alloc>(
+    rt: &H,
+    names: &[&'a str],
+) -> Result<Vec<StudyFile<'a, Either<H::File, H::Reader>>, H::A>, ExitFault<'a>>
+    ensures open { IfOk result
+        (λ studies. All (λ study. has_failed study.reader ≡ false) studies.items) }
+    ensures fault { IfErr result IsBeforeRun }
+{
+    if names.is_empty() {
+        standard_input(rt)
+    } else {
+        open_studies(rt, names)
+    }
+}
+
 /// Standard input, in place of studies.
 fn standard_input<'a, 'n, H: Files + Input + Alloc>(
     rt: &H,
 ) -> Result<Vec<StudyFile<'n, Either<H::File, H::Reader>>, H::A>, ExitFault<'a>>
-    ensures { IfOk result
+    ensures open { IfOk result
         (λ studies. All (λ study. has_failed study.reader ≡ false) studies.items) }
+    ensures fault { IfErr result IsBeforeRun }
 {
     let mut studies = Vec::new(rt.alloc());
     let reader = Watched::new(Right(rt.reader()));
@@ -106,8 +195,9 @@ fn open_studies<'a, H: Files + Input + Alloc>(
     rt: &H,
     names: &[&'a str],
 ) -> Result<Vec<StudyFile<'a, Either<H::File, H::Reader>>, H::A>, ExitFault<'a>>
-    ensures { IfOk result
+    ensures open { IfOk result
         (λ studies. All (λ study. has_failed study.reader ≡ false) studies.items) }
+    ensures fault { IfErr result IsBeforeRun }
 {
     let mut studies = Vec::new(rt.alloc());
     'opening: for name in names {
@@ -137,50 +227,39 @@ fn open_study<'a, H: Files + Input>(
     }
 }
 
-/// Carries the studies out. The replies go to standard output, and the lines that name those that
-/// are not accepted to standard error; the dump goes to its file, which is opened only where all
-/// lines were accepted.
-fn run_studies<'a, S: Read + Drop>(
-    rt: &HostRuntime,
-    options: &Options<'a>,
-    files: &mut RunFiles<File>,
-    studies: &mut [StudyFile<'_, S>],
-) -> Result<bool, ExitFault<'a>>
-    requires files { has_file_failed files.old ≡ false }
-    requires studies { All (λ study. has_failed study.reader ≡ false) studies.old }
-{
-    let manner = Manner {
-        keep_going: options.keep_going,
-        wants_dump: options.out.is_some(),
-        is_verbose: options.verbose,
-    };
-    let stderr = rt.stderr();
-    let mut output = Output {
-        replies: Watched::new(buffered(rt, io::writer(rt))?),
-        errors: Watched::new(io::writer(&stderr)),
-    };
-    let names = options.names.unwrap_or("");
-    match run(rt.alloc(), manner, files, studies, &mut output) {
-        Ok(ended) => {
-            write_out(rt, options.out, &ended)?;
-            Ok(ended.summary.has_passed())
-        }
-        Err(fault) => Err(ExitFault::Run(names, fault)),
-    }
-}
-
 /// For this number of bytes of replies there is room before they are written.
 const REPLY_ROOM: usize = 65_536;
 
 /// A writer that hands on many replies at once. Where a run ends before they are flushed, those
 /// that are left are written as it is dropped.
-fn buffered<'a, W: Write + Drop>(
-    rt: &HostRuntime,
-    writer: W,
-) -> Result<BufWriter<W>, ExitFault<'a>> {
+fn buffered<'a, W: Write + Drop>(rt: &HostRuntime, writer: W) -> Result<BufWriter<W>, ExitFault<'a>>
+    ensures { IfErr result IsBeforeRun }
+{
     match BufWriter::with_capacity(rt.alloc(), REPLY_ROOM, writer) {
         Ok(replies) => Ok(replies),
         Err(_) => Err(ExitFault::Run("", RunFault::OutOfMemory)),
+    }
+}
+
+/// Writes the dump that a run leaves to its file, where it has ended well. Returns whether each
+/// line was accepted.
+fn end_run<'a, R: Files + Alloc>(
+    rt: &R,
+    options: &Options<'a>,
+    end: Result<Ended, RunFault>,
+) -> Result<bool, ExitFault<'a>>
+    ensures accepted { IfOk result
+        (λ accepted. IsOkAnd end (λ ended. accepted ≡ has_passed ended.summary)) }
+    ensures taken { OnOk result (IfOk end (λ ended. is_some options.now.out ≡ true
+        → IfSome ended.dump (λ dump. IsTaken R.File.contents dump.items))) }
+    ensures fault { IfErr result (IsEndFault options.now end) }
+{
+    match end {
+        Ok(ended) => {
+            write_out(rt, options.out, &ended)?;
+            Ok(ended.summary.has_passed())
+        }
+        Err(fault) => Err(ExitFault::Run(options.names.unwrap_or(""), fault)),
     }
 }
 

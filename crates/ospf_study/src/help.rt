@@ -21,6 +21,7 @@ const DETAILS: &str =
 of them, and `help` lists all of them with their arguments:
   routers, links, networks          what the database has
   routes ROUTER, path ROUTER ADDR   how packets go
+  explain ROUTER PREFIX             why a route is what it is
   changes, differences, lost, gone  what differs from the baseline
   loops, microloops                 where packets would go round, also while routers change over
   audit                             what the answers may not be trusted for
@@ -28,9 +29,10 @@ of them, and `help` lists all of them with their arguments:
 A line may be preceded by its branch, @0 to @7. A line that begins with # is a comment. Names of a
 names file stand for their addresses.
 
-Standard output has the reply to each line, and as the last line the summary. Standard error has a
-line FILE:LINE: for each line that is refused, and for each expectation that does not hold. The run
-ends after the first of these, unless --keep-going is given.
+Standard output has the reply to each line, and as the last line the summary; with --format json
+each is a JSON document. Standard error has a line FILE:LINE: for each line that is refused, and for
+each expectation that does not hold. The run ends after the first of these, unless --keep-going is
+given.
 
 Example:
   printf 'fail-router 3.3.3.3\\nexpect lost none\\n' | ospf-study --dump net.oswp

@@ -7,8 +7,7 @@ use Rattle.study_script.specs.Line.{Asked}
 use Rattle.study_answers.specs.Answers.{AnswerValue}
 use Rattle.study_session.specs.Contexts.{ContextValue, context_in}
 use Rattle.study_session.specs.Studies.{Study}
-use Rattle.study_session.specs.Lines.{IsAnswerBy, IsAnswerIn, sessions_by, sessions_in}
-use Rattle.study_answers.specs.Answers.{fault_answer}
+use Rattle.study_session.specs.Lines.{IsAnswerBy, IsAnswerIn, faulty, sessions_by, sessions_in}
 
 module _ (s : Study) (meant : Result (Option (ℕ × Asked)) FaultAt) where
   -- nothing is asked for
@@ -29,7 +28,7 @@ module _ (s : Study) (meant : Result (Option (ℕ × Asked)) FaultAt) where
 
   -- the line has a fault
   module _ (fault : FaultAt) (is : meant ≡ Err fault) where
-    pub fault_answered : (line : List ℕ) (answer : AnswerValue) → answer ≡ fault_answer s.lookup s.known line fault → IsAnswerBy s line meant (Some answer)
+    pub fault_answered : (line : List ℕ) (answer : AnswerValue) → answer ≡ faulty s.format s.lookup s.known line fault → IsAnswerBy s line meant (Some answer)
     fault_answered line answer of =
         subst (λ (m : Result (Option (ℕ × Asked)) FaultAt). IsAnswerBy s line m (Some answer)) (sym is) (ap (λ (a : AnswerValue). Some a) of)
 

@@ -5,11 +5,11 @@ use Rattle.std.proofs.lemmas.Result.{IfOk-weaker}
 use Rattle.edit_script.specs.declared.command.Command.{Command}
 use Rattle.edit_history.specs.Session.{Session}
 use Rattle.branches.specs.Branches.{Sessions, stepped}
-use Rattle.branches.specs.Replies.{Said, after, compared, counted, done, is_refusal, refused, reply_to, table, tables}
+use Rattle.branches.specs.Replies.{Said, after, compared, counted, done, is_refusal, refusal_texts, refused, reply_to, table, tables}
 use Rattle.study_answers.specs.Answers.{AnswerValue}
 use Rattle.refusal_hints.specs.CommandHints.{command_hint}
 use Rattle.study_session.specs.Contexts.{ContextValue, situation}
-use Rattle.study_session.specs.Explained.{command_explained, edit_fault, with_hint}
+use Rattle.study_session.specs.Explained.{command_explained, edit_fault, refused_with}
 
 module _ (law : (s : Session) (c : Command) → is_refusal (reply_to s c) ≡ true → after s c ≡ s)
     (x : ContextValue) (all now : Sessions) (c : Command) (goes_on : now ≡ stepped x.branch c all) where
@@ -24,7 +24,8 @@ module _ (law : (s : Session) (c : Command) → is_refusal (reply_to s c) ≡ tr
   unfolding command_explained
   as_before done is plain = refl
   as_before (refused why) is plain =
-      ap (λ (s : Session). with_hint (command_hint (situation x s) x.words c (edit_fault why)) plain) (here ∙ law (all x.branch) c (ap is_refusal (sym is)))
+      ap (λ (s : Session). refused_with x (refusal_texts why) (command_hint (situation x s) x.words c (edit_fault why)) plain)
+      (here ∙ law (all x.branch) c (ap is_refusal (sym is)))
   as_before (table t) is plain = refl
   as_before (tables ts) is plain = refl
   as_before (compared router before present) is plain = refl

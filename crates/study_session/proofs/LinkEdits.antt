@@ -11,9 +11,9 @@ use Rattle.study_session.specs.declared.link_edit.LinkEdit.{LinkEdit}
 use Rattle.study_answers.specs.Answers.{refused_answer}
 use Rattle.refusal_hints.specs.CommandHints.{many_links_hint}
 use Rattle.study_session.specs.Contexts.{ContextValue, situation}
-use Rattle.study_session.specs.Explained.{with_hint}
+use Rattle.study_session.specs.Explained.{refused_with}
 use Rattle.study_session.specs.PlanAnswers.{command_answer}
-use Rattle.study_session.specs.NamedCommands.{change_text, link_answer, link_edit, link_stepped, many_links, named_number}
+use Rattle.study_session.specs.NamedCommands.{link_answer, link_change, link_edit, link_stepped, many_links, named_number}
 
 -- sessions before an edit and after its look-up, and the session of the branch's planner
 module _ (x : ContextValue) (area : AreaId) (router : RouterId) (name : LinkName) (edit : LinkEdit)
@@ -31,16 +31,16 @@ module _ (x : ContextValue) (area : AreaId) (router : RouterId) (name : LinkName
   -- one link is found
   module _ (number : ℕ) (command : Command) (is_edit : command ≡ link_edit edit area router number)
       (is_number : Some number ≡ named_number planner area router name) where
-    pub found_answer : (change : List ℕ) → change ≡ change_text edit x.called (link_at (state planner) area router number)
+    pub found_answer : (change : List ℕ) → change ≡ link_change x edit (link_at (state planner) area router number)
         → command_answer x (now branch) command (Some change)
         ≡ link_answer x (all branch) area router name edit (named_number (all branch) area router name)
     unfolding link_answer
     found_answer change says =
         ap (λ (t : List ℕ). command_answer x (now branch) command (Some t))
-        (subst (λ (s : Session). change ≡ change_text edit x.called (link_at (state s) area router number)) session_is says)
-        ∙ ap (λ (s : Session). command_answer x s command (Some (change_text edit x.called (link_at (state (all branch)) area router number))))
+        (subst (λ (s : Session). change ≡ link_change x edit (link_at (state s) area router number)) session_is says)
+        ∙ ap (λ (s : Session). command_answer x s command (Some (link_change x edit (link_at (state (all branch)) area router number))))
         (ap (λ (sessions : Sessions). sessions branch) kept)
-        ∙ ap (λ (c : Command). command_answer x (all branch) c (Some (change_text edit x.called (link_at (state (all branch)) area router number)))) is_edit
+        ∙ ap (λ (c : Command). command_answer x (all branch) c (Some (link_change x edit (link_at (state (all branch)) area router number)))) is_edit
         ∙ ap (link_answer x (all branch) area router name edit) (number_is (Some number) is_number)
 
     pub found_stepped : stepped branch command now ≡ link_stepped branch area router edit (named_number (all branch) area router name) all
@@ -51,11 +51,11 @@ module _ (x : ContextValue) (area : AreaId) (router : RouterId) (name : LinkName
 
   -- several are
   module _ (are_several : None ≡ named_number planner area router name) where
-    pub several_answer : with_hint (many_links_hint (situation x planner) x.words area router name) (refused_answer branch many_links)
+    pub several_answer : refused_with x many_links (many_links_hint (situation x planner) x.words area router name) (refused_answer branch many_links)
         ≡ link_answer x (all branch) area router name edit (named_number (all branch) area router name)
     unfolding link_answer
     several_answer =
-        ap (λ (s : Session). with_hint (many_links_hint (situation x s) x.words area router name) (refused_answer branch many_links)) session_is
+        ap (λ (s : Session). refused_with x many_links (many_links_hint (situation x s) x.words area router name) (refused_answer branch many_links)) session_is
         ∙ ap (link_answer x (all branch) area router name edit) (number_is None are_several)
 
     pub several_stepped : now ≡ link_stepped branch area router edit (named_number (all branch) area router name) all

@@ -1,5 +1,5 @@
 -- A command of `ospf-plan` is answered with the text of its reply.
-use Rattle.std.proofs.Common.{◌≡◌, ℕ, Bool, false, None, refl, ap, ◌∙◌}
+use Rattle.std.proofs.Common.{◌≡◌, ℕ, Bool, false, List, None, refl, ap, ◌∙◌}
 use Rattle.branches.specs.Replies.{Said, done, refused, table, tables, compared, counted, reply_text, reply_to}
 use Rattle.study_answers.specs.Answers.{accepted_answer, refused_answer}
 use Rattle.study_script.specs.declared.named_command.NamedCommand.TheVariants as named_command
@@ -7,37 +7,44 @@ use Rattle.edit_history.specs.Session.{Session}
 use Rattle.edit_script.specs.declared.command.Command.{Command}
 use Rattle.study_answers.specs.Answers.{AnswerValue}
 use Rattle.study_session.specs.Contexts.{ContextValue}
-use Rattle.study_session.specs.Explained.{command_explained, with_hint}
+use Rattle.study_session.specs.Explained.{command_explained, refused_with, with_hint}
+use Rattle.study_session.specs.Formats.{in_format}
+use Rattle.study_session.specs.declared.format.Format.{Format}
+use Rattle.study_session.specs.declared.format.Format.TheVariants as format
 use Rattle.study_session.specs.NamedCommands.{named_answer, way_answer}
 use Rattle.study_session.specs.Ways.{plan_way, way_of}
 use Rattle.study_session.specs.PlanAnswers.{answer_by, command_answer, plan_answer}
 
-plan_text : (branch : ℕ) (said : Said) → (plan_answer branch said).text ≡ reply_text branch said
-unfolding plan_answer accepted_answer refused_answer
-plan_text branch done = refl
-plan_text branch (refused why) = refl
-plan_text branch (table t) = refl
-plan_text branch (tables ts) = refl
-plan_text branch (compared router before now) = refl
-plan_text branch (counted info) = refl
+-- where lines are answered with texts
+module _ (x : ContextValue) (are_texts : x.format ≡ format.Text) where
+  text_of : (text document : List ℕ) → in_format x.format text document ≡ text
+  text_of text document = ap (λ (f : Format). in_format f text document) are_texts
 
--- a hint leaves the text as it is
-explained_text : (x : ContextValue) (s : Session) (c : Command) (said : Said) (answer : AnswerValue)
-    → (command_explained x s c said answer).text ≡ answer.text
-unfolding command_explained with_hint
-explained_text x s c done answer = refl
-explained_text x s c (refused why) answer = refl
-explained_text x s c (table t) answer = refl
-explained_text x s c (tables ts) answer = refl
-explained_text x s c (compared router before now) answer = refl
-explained_text x s c (counted info) answer = refl
+  plan_text : (said : Said) → (plan_answer x said).text ≡ reply_text x.branch said
+  unfolding plan_answer accepted_answer refused_answer
+  plan_text done = text_of _ _
+  plan_text (refused why) = refl
+  plan_text (table t) = text_of _ _
+  plan_text (tables ts) = text_of _ _
+  plan_text (compared router before now) = text_of _ _
+  plan_text (counted info) = text_of _ _
 
-command_text : (x : ContextValue) (s : Session) (c : Command) → (command_answer x s c None).text ≡ reply_text x.branch (reply_to s c)
-unfolding command_answer answer_by
-command_text x s c = explained_text x s c (reply_to s c) (plan_answer x.branch (reply_to s c)) ∙ plan_text x.branch (reply_to s c)
+  -- a hint leaves the text as it is
+  explained_text : (s : Session) (c : Command) (said : Said) (answer : AnswerValue) → (command_explained x s c said answer).text ≡ answer.text
+  unfolding command_explained refused_with with_hint
+  explained_text s c done answer = refl
+  explained_text s c (refused why) answer = text_of _ _
+  explained_text s c (table t) answer = refl
+  explained_text s c (tables ts) answer = refl
+  explained_text s c (compared router before now) answer = refl
+  explained_text s c (counted info) answer = refl
 
--- where edits do not say what they changed
-pub quiet_text : (x : ContextValue) (s : Session) (c : Command) → x.is_verbose ≡ false
-    → (named_answer x s (named_command.Command c)).text ≡ reply_text x.branch (reply_to s c)
-unfolding named_answer way_of way_answer plan_way
-quiet_text x s c is_quiet = ap (λ (says : Bool). (way_answer x s (plan_way says c)).text) is_quiet ∙ command_text x s c
+  command_text : (s : Session) (c : Command) → (command_answer x s c None).text ≡ reply_text x.branch (reply_to s c)
+  unfolding command_answer answer_by
+  command_text s c = explained_text s c (reply_to s c) (plan_answer x (reply_to s c)) ∙ plan_text (reply_to s c)
+
+  -- and edits do not say what they changed
+  pub quiet_text : (s : Session) (c : Command) → x.is_verbose ≡ false
+      → (named_answer x s (named_command.Command c)).text ≡ reply_text x.branch (reply_to s c)
+  unfolding named_answer way_of way_answer plan_way
+  quiet_text s c is_quiet = ap (λ (says : Bool). (way_answer x s (plan_way says c)).text) is_quiet ∙ command_text s c

@@ -12,9 +12,10 @@ use Rattle.study_hints.specs.Hints.{command_at}
 use Rattle.refusal_hints.specs.Situation.{SituationValue}
 use Rattle.study_session.specs.declared.context.Context.{Context}
 use Rattle.study_session.specs.Studies.{Study}
+use Rattle.study_session.specs.declared.format.Format.{Format}
 
 -- what routers are called and names stand for, the baseline, the words from the command word on, the branch, and whether each
--- edit says what it changed
+-- edit says what it changed; and the form of the answers
 pub record ContextValue : Type 0 where
   pub called : Called
   pub lookup : Lookup
@@ -22,6 +23,7 @@ pub record ContextValue : Type 0 where
   pub words : List Word
   pub branch : ℕ
   pub is_verbose : Bool
+  pub format : Format
 
 -- what the code hands on
 abbrev pub context_of : {A : Type 0} → Context A → ContextValue
@@ -32,6 +34,7 @@ context_of x = record {
   words = command_at (words x.line.now);
   branch = x.branch;
   is_verbose = x.is_verbose;
+  format = x.format;
 }
 
 -- a line of a study, in a branch
@@ -43,6 +46,7 @@ context_in s branch line = record {
   words = command_at (words line);
   branch = branch;
   is_verbose = s.is_verbose;
+  format = s.format;
 }
 
 -- what is known where the branch has this session

@@ -1,7 +1,9 @@
 pub mod Studies
 pub mod Contexts
+pub mod Formats
 pub mod Explained
 pub mod PlanAnswers
 pub mod Ways
 pub mod NamedCommands
+pub mod Seen
 pub mod Lines

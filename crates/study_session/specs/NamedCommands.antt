@@ -21,8 +21,12 @@ use Rattle.study_session.specs.declared.link_edit.LinkEdit.{LinkEdit}
 use Rattle.study_session.specs.declared.link_edit.LinkEdit.TheVariants as link
 use Rattle.study_answers.specs.Answers.{AnswerValue, refused_answer}
 use Rattle.refusal_hints.specs.CommandHints.{many_links_hint}
+use Rattle.study_json.specs.Fields.{Fields, more_text}
+use Rattle.study_json.specs.Links.{link_json}
+use Rattle.study_documents.specs.Outcomes.{cost_reply}
 use Rattle.study_session.specs.Contexts.{ContextValue, situation}
-use Rattle.study_session.specs.Explained.{with_hint}
+use Rattle.study_session.specs.Explained.{refused_with}
+use Rattle.study_session.specs.Formats.{in_format}
 use Rattle.study_session.specs.PlanAnswers.{command_answer, differing_answer}
 use Rattle.study_session.specs.Ways.{way_of}
 use Rattle.study_session.specs.declared.way.Way.{Way}
@@ -67,6 +71,15 @@ edited_text link.Drop called v = codes " gone " ++ description called v
 unfoldable pub change_text : LinkEdit → Called → Option LinkValue → List ℕ
 change_text edit called v = option_map_or (edited_text edit called) v [] ++ codes "\n"
 
+-- the members of a document about it
+abbrev pub link_fields : LinkEdit → LinkValue → Fields
+link_fields (link.Cost metric) v = cost_reply v metric
+link_fields link.Drop v = (codes "link", link_json v) ∷ []
+
+-- what is said of the link, in a form of answers
+unfoldable pub link_change : ContextValue → LinkEdit → Option LinkValue → List ℕ
+link_change x edit v = in_format x.format (change_text edit x.called v) (more_text (option_map_or (link_fields edit) v []))
+
 abbrev pub many_links : List ℕ × List ℕ
 many_links = (codes "E14", codes "ManyLinks")
 
@@ -74,9 +87,9 @@ module _ (x : ContextValue) (s : Session) where
   -- the answer to an edit of the link with a number, if not several are named
   unfoldable pub link_answer : AreaId → RouterId → LinkName → LinkEdit → Option ℕ → AnswerValue
   link_answer area router name edit None =
-      with_hint (many_links_hint (situation x s) x.words area router name) (refused_answer x.branch many_links)
+      refused_with x many_links (many_links_hint (situation x s) x.words area router name) (refused_answer x.branch many_links)
   link_answer area router name edit (Some number) =
-      command_answer x s (link_edit edit area router number) (Some (change_text edit x.called (link_at (state s) area router number)))
+      command_answer x s (link_edit edit area router number) (Some (link_change x edit (link_at (state s) area router number)))
 
   -- the answer to a command, by how it is carried out
   unfoldable pub way_answer : Way → AnswerValue

@@ -9,10 +9,11 @@ use Rattle.network_names.specs.Names.{called, names_of, stands_for}
 use Rattle.text_words.specs.Words.{Word}
 use Rattle.study_arguments.specs.Values.{Lookup}
 use Rattle.study_text.specs.Shown.{Called}
+use Rattle.study_session.specs.declared.format.Format.{Format}
 use Rattle.study_session.specs.declared.session.StudySession.{StudySession}
 
 -- the sessions of the branches, the baseline, what names stand for, what routers are called, all names, and whether each edit
--- says what it changed
+-- says what it changed; and the form of the answers
 pub record Study : Type 0 where
   pub sessions : Sessions
   pub baseline : Lists
@@ -20,20 +21,22 @@ pub record Study : Type 0 where
   pub called : Called
   pub known : List Word
   pub is_verbose : Bool
+  pub format : Format
 
 -- that of these sessions, compared with a database, where routers and addresses have these names
-abbrev pub study_by : {A : Type 0} → Sessions → Slots → Names A → Bool → Study
-study_by sessions baseline names is_verbose = record {
+abbrev pub study_by : {A : Type 0} → Sessions → Slots → Names A → Bool → Format → Study
+study_by sessions baseline names is_verbose format = record {
   sessions = sessions;
   baseline = lists_of baseline;
   lookup = stands_for names;
   called = called names;
   known = names_of names;
   is_verbose = is_verbose;
+  format = format;
 }
 
 unfoldable pub study_of : {A : Type 0} → StudySession A → Study
-study_of s = study_by (sessions_of s.branches) s.baseline s.names s.is_verbose
+study_of s = study_by (sessions_of s.branches) s.baseline s.names s.is_verbose s.format
 
 -- the database of a branch
 abbrev pub database_in : Study → ℕ → Lists

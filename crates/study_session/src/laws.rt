@@ -9,15 +9,16 @@ ghost use Rattle.study_answers.specs.Answers.{AnswerValue};
 ghost use Rattle.study_session.specs.Studies.{Study};
 ghost use Rattle.study_session.specs.Lines.{IsAnswerTo, after_line};
 
+use crate::format::Format;
 use study_script::plan_lines_mean_the_same;
 
-/// A line that `ospf-plan` takes has the reply that it gives, unless edits say what they changed,
-/// and leaves the sessions that it leaves.
+/// A line that `ospf-plan` takes has the reply that it gives, unless edits say what they changed or
+/// documents are wanted, and leaves the sessions that it leaves.
 ///
 /// The function does nothing: its contract is the law.
 pub fn plan_lines_are_answered_alike()
     ensures text { (s : Study) (line : List ℕ) (branch : ℕ) (c : AnyCommand) (answer : AnswerValue)
-        → s.is_verbose ≡ false → plan_meaning line ≡ Ok (branch, c)
+        → s.is_verbose ≡ false → s.format ≡ Format.Text → plan_meaning line ≡ Ok (branch, c)
         → IsAnswerTo s line (Some answer)
         → answer.text ≡ reply_text branch (reply_to (s.sessions branch) c) }
     ensures sessions { (s : Study) (line : List ℕ) (branch : ℕ) (c : AnyCommand)

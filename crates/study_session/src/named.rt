@@ -7,12 +7,12 @@ ghost use Rattle.branches.specs.Branches.{sessions_of};
 ghost use Rattle.study_answers.specs.Answers.{refused_answer};
 ghost use Rattle.refusal_hints.specs.CommandHints.{many_links_hint};
 ghost use Rattle.study_session.specs.Contexts.{context_of, situation};
-ghost use Rattle.study_session.specs.Explained.{with_hint};
-ghost use Rattle.study_session.specs.NamedCommands.{change_text, link_answer, link_stepped, many_links, named_answer, named_number, named_stepped, number_found, one_of};
+ghost use Rattle.study_session.specs.Explained.{refused_with};
+ghost use Rattle.study_session.specs.NamedCommands.{link_answer, link_change, link_stepped, many_links, named_answer, named_number, named_stepped, number_found, one_of};
 
 use crate::context::Context;
-use crate::explained::with_hint;
-use crate::link_edit::{LinkEdit, change_text};
+use crate::explained::refused_with;
+use crate::link_edit::{LinkEdit, link_change};
 use crate::plan::{differing, plan};
 use crate::way::{Way, way_of};
 use branches::Branches;
@@ -92,7 +92,7 @@ fn found<A: Allocator + Copy>(
     ensures number { IfOk result (λ found. option_map (λ f. f.0) found
         ≡ named_number planner.now.session place.now.0 place.now.1 place.now.2) }
     ensures change { IfOk result (λ found. IfSome found (λ f. f.1.items
-        ≡ change_text edit (context_of context.now).called
+        ≡ link_change (context_of context.now) edit
         (link_at (state planner.now.session) place.now.0 place.now.1 f.0))) }
 {
     let alloc = context.alloc;
@@ -101,7 +101,7 @@ fn found<A: Allocator + Copy>(
         return Ok(None);
     };
     let line = link_line_at(alloc, planner.database(), area, router, number)?;
-    let change = change_text(alloc, context.names, edit, line.as_ref())?;
+    let change = link_change(context, edit, line.as_ref())?;
     Ok(Some((number, change)))
 }
 
@@ -111,16 +111,16 @@ fn many_links<A: Allocator + Copy>(
     planner: &Planner<A>,
     place: &(AreaId, RouterId, LinkName),
 ) -> Result<Answer<A>, AllocError>
-    ensures { IfOk result (λ answer. answer ≡ with_hint (many_links_hint
-        (situation (context_of context.now) planner.now.session)
+    ensures { IfOk result (λ answer. answer ≡ refused_with (context_of context.now) many_links
+        (many_links_hint (situation (context_of context.now) planner.now.session)
         (context_of context.now).words place.now.0 place.now.1 place.now.2)
         (refused_answer context.now.branch many_links)) }
 {
-    let alloc = context.alloc;
-    let answer = Answer::refused(alloc, context.branch, "E14", "ManyLinks")?;
+    let (alloc, texts) = (context.alloc, ("E14", "ManyLinks"));
+    let answer = Answer::refused(alloc, context.branch, texts.0, texts.1)?;
     let situation = context.situation(planner);
     let hint = many_links_hint(alloc, &situation, context.names, context.line, *place)?;
-    with_hint(answer, &hint)
+    refused_with(context, texts, answer, &hint)
 }
 
 /// Carries out an edit of a link that is named, and says what it changed; refused where several

@@ -1,5 +1,5 @@
 -- A study that has begun, and its inputs, which are accepted.
-use Rattle.std.proofs.Common.{◌≡◌, ◌∙◌, ap, sym, subst, refl, ℕ, Bool, List, Option, None, Some, Result, Ok, Err, IfErr, IsErrAnd, inl}
+use Rattle.std.proofs.Common.{◌≡◌, ◌∙◌, ap, sym, subst, refl, ℕ, List, Option, None, Some, Result, Ok, Err, IfErr, IsErrAnd, inl}
 use Rattle.std.specs.Prelude.{IsOk, IfSome}
 use Rattle.lsdb.specs.Lists.{Lists}
 use Rattle.lsdb.specs.Slots.{Slots, lists_of}
@@ -14,15 +14,16 @@ use Rattle.whole_study.specs.Begin.{AreAccepted, Begins, IsBaseline, names_of}
 use Rattle.whole_study.specs.Calls.{MayEndRun}
 use Rattle.whole_study.specs.Given.{Given}
 use Rattle.whole_study.specs.steps.Texts.{IsNamesEnd, IsReadEnd, IsRefusedBaseline, Never}
+use Rattle.whole_study.specs.declared.running.Manner.{Manner}
 use Rattle.whole_study.specs.declared.fault.RunFault.{RunFault}
 use Rattle.whole_study.specs.declared.fault.RunFault.TheVariants.{Dump, Baseline, Names, Read, Write, TooLarge, OutOfMemory}
 
 -- the study of what was opened
-pub begins_of : {A : Type 0} (is_verbose : Bool) (given : Given) (session : Session) (database : Slots) (file : List ℕ) (names : NamesOfFile A) (sessions : Sessions)
+pub begins_of : {A : Type 0} (how : Manner) (given : Given) (session : Session) (database : Slots) (file : List ℕ) (names : NamesOfFile A) (sessions : Sessions)
     (s : Study) → opened given.dump ≡ Ok session → IsBaseline session given.baseline (lists_of database) → file ≡ names_of given
-    → Taken (names_in file) names → sessions ≡ resumed session → s ≡ study_by sessions database names is_verbose → Begins is_verbose given s
-begins_of is_verbose given session database file names sessions s dump baseline is_file taken resume is =
-    subst (Begins is_verbose given) (sym is)
+    → Taken (names_in file) names → sessions ≡ resumed session → s ≡ study_by sessions database names how.is_verbose how.format → Begins how given s
+begins_of how given session database file names sessions s dump baseline is_file taken resume is =
+    subst (Begins how given) (sym is)
     (record {
       session = session;
       dump = dump;
@@ -33,6 +34,7 @@ begins_of is_verbose given session database file names sessions s dump baseline 
       lookup = taken.are.addresses;
       called = taken.are.routers;
       verbose = refl;
+      format = refl;
     })
 
 -- ---- inputs that are accepted
@@ -44,8 +46,8 @@ pub baseline_accepted : (s : Session) (given : Option (List ℕ)) (baseline : Li
 baseline_accepted s None baseline is = tt
 baseline_accepted s (Some bytes) baseline (other, (is, same)) = ok_of (opened bytes) other is
 
-pub accepted_of : (is_verbose : Bool) (given : Given) (s : Study) → Begins is_verbose given s → AreAccepted given
-accepted_of is_verbose given s begins = record {
+pub accepted_of : (how : Manner) (given : Given) (s : Study) → Begins how given s → AreAccepted given
+accepted_of how given s begins = record {
   dump = ok_of (opened given.dump) begins.session begins.dump;
   baseline = baseline_accepted begins.session given.baseline s.baseline begins.baseline;
   names = ok_of (names_in (names_of given)) begins.named begins.names;

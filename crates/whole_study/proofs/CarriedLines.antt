@@ -11,7 +11,7 @@ use Rattle.host_io.proofs.PrefixLemmas.{AppendsPrefix-after, starts_with_front}
 use Rattle.study_session.specs.Studies.{Study}
 use Rattle.study_session.specs.Lines.{IsAnswerTo, after_line}
 use Rattle.whole_study.specs.Lines.{Line}
-use Rattle.whole_study.specs.Run.{Answered, AreAnswered, StopsAtLast, answered_line, error_line, errors_of, goes_on, is_accepted, replies_of, study_after, summary_of}
+use Rattle.whole_study.specs.Run.{Answered, AreAnswered, StopsAtLast, answered_line, error_line, errors_of, goes_on, is_accepted, replies_of, reply_of, study_after, summary_of}
 use Rattle.whole_study.specs.steps.Carrying.{CarriesOut, IsStopBy, WritesPart, Written}
 use Rattle.whole_study.specs.declared.summary.Summary.{Summary}
 
@@ -34,7 +34,7 @@ answered-append s (x ∷ xs) ys a b (first, (rest, (is, (all, whole)))) more = (
       is,
       (
         answered-append (after_line s x.text) xs ys rest b all more,
-        ap (λ (l : List Answered). l ++ b) whole ∙ append_assoc (answered_line x first) rest b,
+        ap (λ (l : List Answered). l ++ b) whole ∙ append_assoc (answered_line s.format x first) rest b,
       ),
     ),
   ),
@@ -82,7 +82,7 @@ first-append false a b e (inr stop) = inr (stops-append a b e stop)
 -- ---- texts
 
 pub replies_of-append : (a b : List Answered) → replies_of (a ++ b) ≡ replies_of a ++ replies_of b
-replies_of-append a b = flat_map-append (λ (x : Answered). x.answer.text) a b
+replies_of-append a b = flat_map-append reply_of a b
 
 errors_of-append : (a b : List Answered) → errors_of (a ++ b) ≡ errors_of a ++ errors_of b
 errors_of-append a b = flat_map-append error_line a b

@@ -8,7 +8,7 @@ use Rattle.study_answers.specs.Answers.{AnswerValue}
 use Rattle.study_session.specs.Studies.{Study}
 use Rattle.study_session.specs.Lines.{IsAnswerTo, after_line}
 use Rattle.whole_study.specs.Lines.{Line, study_lines}
-use Rattle.whole_study.specs.Run.{Answered, AreAnswered, error_line, is_accepted, study_after, summary_of, was_accepted}
+use Rattle.whole_study.specs.Run.{Answered, AreAnswered, error_line, is_accepted, reply_of, study_after, summary_of, was_accepted}
 use Rattle.whole_study.specs.steps.Carrying.{CarriesOut, IsStopBy, WritesPart, Written}
 use Rattle.whole_study.specs.steps.Counting.{AreCounts}
 use Rattle.whole_study.specs.steps.Texts.{HasFewBytes, lines_in, named_text}
@@ -84,13 +84,13 @@ one_stop false false false given e o = (refl, record { front = []; last = given;
 -- a line with an answer
 pub one_answer : (keep_going : Bool) (s : Study) (line : Line) (answer : AnswerValue) (old : Written) (before : Summary) (on : Bool) (after : Study)
     (new : Written) (counted : Summary) → IsAnswerTo s line.text (Some answer) → after ≡ after_line s line.text
-    → on ≡ (keep_going || was_accepted answer.outcome) → Appends old.replies new.replies answer.text
-    → Appends old.errors new.errors (error_line (record { line = line; answer = answer }))
-    → ((done : List Answered) → before ≡ summary_of done → counted ≡ summary_of (done ++ record { line = line; answer = answer } ∷ []))
+    → on ≡ (keep_going || was_accepted answer.outcome) → Appends old.replies new.replies (reply_of (record { line = line; answer = answer; format = s.format }))
+    → Appends old.errors new.errors (error_line (record { line = line; answer = answer; format = s.format }))
+    → ((done : List Answered) → before ≡ summary_of done → counted ≡ summary_of (done ++ record { line = line; answer = answer; format = s.format } ∷ []))
     → CarriesOut keep_going s (line ∷ []) old before on after new counted
 unfolding AreAnswered study_after
 one_answer keep_going s line answer old before on after new counted is same goes replies errors summary =
-    let given : Answered = record { line = line; answer = answer } in
+    let given : Answered = record { line = line; answer = answer; format = s.format } in
     record {
       front = line ∷ [];
       left = [];
@@ -99,18 +99,19 @@ one_answer keep_going s line answer old before on after new counted is same goes
       answered = (Some answer, ([], (is, (refl, refl))));
       stop = one_stop keep_going (was_accepted answer.outcome) on given refl goes;
       study = same;
-      replies = subst (Appends old.replies new.replies) (sym (append-nil answer.text)) replies;
+      replies = subst (Appends old.replies new.replies) (sym (append-nil (reply_of given))) replies;
       errors = subst (Appends old.errors new.errors) (sym (append-nil (error_line given))) errors;
       summary = summary;
     }
 
 -- a part of its answer is written
 pub one_part : (keep_going : Bool) (s : Study) (line : Line) (answer : AnswerValue) (old new : Written) → IsAnswerTo s line.text (Some answer)
-    → AppendsPrefix old.replies new.replies answer.text → AppendsPrefix old.errors new.errors (error_line (record { line = line; answer = answer }))
+    → AppendsPrefix old.replies new.replies (reply_of (record { line = line; answer = answer; format = s.format }))
+    → AppendsPrefix old.errors new.errors (error_line (record { line = line; answer = answer; format = s.format }))
     → WritesPart keep_going s (line ∷ []) old new
 unfolding AreAnswered study_after
 one_part keep_going s line answer old new is replies errors =
-    let given : Answered = record { line = line; answer = answer } in
+    let given : Answered = record { line = line; answer = answer; format = s.format } in
     record {
       given = given ∷ [];
       gives = record {
@@ -121,7 +122,7 @@ one_part keep_going s line answer old new is replies errors =
         stop = stop_either keep_going (keep_going || was_accepted answer.outcome) [] (given ∷ [])
             (one_stop keep_going (was_accepted answer.outcome) (keep_going || was_accepted answer.outcome) given refl refl);
       };
-      replies = subst (AppendsPrefix old.replies new.replies) (sym (append-nil answer.text)) replies;
+      replies = subst (AppendsPrefix old.replies new.replies) (sym (append-nil (reply_of given))) replies;
       errors = subst (AppendsPrefix old.errors new.errors) (sym (append-nil (error_line given))) errors;
     }
 

@@ -3,4 +3,8 @@ pub mod CarryingSteps
 pub mod ReadInputs
 pub mod ReadEnds
 pub mod RunEnds
+pub mod TypedBytes
+pub mod NextLines
+pub mod TypedLines
+pub mod TypedEnds
 pub mod Begun

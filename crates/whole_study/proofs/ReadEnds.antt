@@ -67,11 +67,11 @@ pub or_false : (a b : Bool) → a ≡ false → b ≡ false → (a || b) ≡ fal
 or_false true b e f = absurd cc
 or_false false b e f = f
 
-or_first : (a b : Bool) → b ≡ false → (a || b) ≡ a
+pub or_first : (a b : Bool) → b ≡ false → (a || b) ≡ a
 or_first true b e = refl
 or_first false b e = e
 
-or_second : (a b : Bool) → a ≡ false → (a || b) ≡ b
+pub or_second : (a b : Bool) → a ≡ false → (a || b) ≡ b
 or_second true b e = absurd cc
 or_second false b e = refl
 

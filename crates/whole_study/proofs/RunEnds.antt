@@ -17,7 +17,7 @@ use Rattle.whole_study.specs.Begin.{AreAccepted, Begins}
 use Rattle.whole_study.specs.Calls.{Ends, FitsInputs, HasLonger, IsBeforeReplies, IsTooMuch, MayEndRun, WritesPrefix, most, of_all}
 use Rattle.whole_study.specs.Given.{Given}
 use Rattle.whole_study.specs.Lines.{Line, all_lines}
-use Rattle.whole_study.specs.Run.{Answered, AreAnswered, Gives, IsStop, StopsAtLast, dump_left, dump_of, errors_of, has_passed, is_accepted, replies_of, study_after, summary_of, summary_text, was_accepted, was_failed, was_refused, whole_replies}
+use Rattle.whole_study.specs.Run.{Answered, AreAnswered, Gives, IsStop, StopsAtLast, dump_left, dump_of, errors_of, has_passed, is_accepted, replies_of, study_after, summary_in, summary_of, was_accepted, was_failed, was_refused, whole_replies}
 use Rattle.whole_study.specs.steps.Carrying.{CarriesOut, IsStopBy, Written}
 use Rattle.whole_study.specs.steps.Endings.{MayEndWriting}
 use Rattle.whole_study.specs.steps.Texts.{HasFewBytes, bytes_in, given_in, named_text}
@@ -118,20 +118,20 @@ module _ (keep_going : Bool) (s : Study) (lines : List Line) (old : Written) (be
       dump_is wants dump (subst (λ (b : Bool). dump ≡ cond (wants && b) (Some (dump_of after)) None) (passed_is e) is)
 
   -- the replies and the summary are written
-  pub replies_of_all : before ≡ summary_of [] → (end : Option (List ℕ)) → Appends new.replies end (summary_text counted)
-      → Appends old.replies end (whole_replies one.given)
+  pub replies_of_all : before ≡ summary_of [] → (end : Option (List ℕ)) → Appends new.replies end (summary_in s.format counted)
+      → Appends old.replies end (whole_replies s.format one.given)
   replies_of_all e end last =
-      Appends-trans old.replies new.replies end (replies_of one.given) (summary_text (summary_of one.given)) one.replies
-      (subst (λ (c : Summary). Appends new.replies end (summary_text c)) (counted_is e) last)
+      Appends-trans old.replies new.replies end (replies_of one.given) (summary_in s.format (summary_of one.given)) one.replies
+      (subst (λ (c : Summary). Appends new.replies end (summary_in s.format c)) (counted_is e) last)
 
   -- the replies, and a part of the summary
-  pub replies_part : before ≡ summary_of [] → (end : Option (List ℕ)) → AppendsPrefix new.replies end (summary_text counted)
-      → AppendsPrefix old.replies end (whole_replies one.given)
+  pub replies_part : before ≡ summary_of [] → (end : Option (List ℕ)) → AppendsPrefix new.replies end (summary_in s.format counted)
+      → AppendsPrefix old.replies end (whole_replies s.format one.given)
   replies_part e end last =
-      prefix_both old.replies new.replies end (whole_replies one.given) (replies_of one.given) (summary_text (summary_of one.given)) refl one.replies
-      (subst (λ (c : Summary). AppendsPrefix new.replies end (summary_text c)) (counted_is e) last)
+      prefix_both old.replies new.replies end (whole_replies s.format one.given) (replies_of one.given) (summary_in s.format (summary_of one.given)) refl one.replies
+      (subst (λ (c : Summary). AppendsPrefix new.replies end (summary_in s.format c)) (counted_is e) last)
 
-  pub prefix_after : before ≡ summary_of [] → (end errors : Option (List ℕ)) → AppendsPrefix new.replies end (summary_text counted)
+  pub prefix_after : before ≡ summary_of [] → (end errors : Option (List ℕ)) → AppendsPrefix new.replies end (summary_in s.format counted)
       → errors ≡ new.errors → WritesPrefix keep_going s lines old.replies end old.errors errors
   prefix_after e end errors last same = record {
     given = one.given;
@@ -139,6 +139,28 @@ module _ (keep_going : Bool) (s : Study) (lines : List Line) (old : Written) (be
     errors = subst (λ (x : Option (List ℕ)). AppendsPrefix old.errors x (errors_of one.given)) (sym same)
         (prefix_whole old.errors new.errors (errors_of one.given) one.errors);
   }
+
+-- how a run ends that was carried out, and wrote its summary
+pub ends_by : {A : Type 0} (manner : Manner) (s : Study) (lines : List Line) (old : Written) (before : Summary) (on : Bool) (after : Study) (new : Written)
+    (counted : Summary) → CarriesOut manner.keep_going s lines old before on after new counted → before ≡ summary_of [] → (end errors : Option (List ℕ))
+    → errors ≡ new.errors → (result : Result (Ended A) (RunFault A)) → OnOk result (Appends new.replies end (summary_in s.format counted))
+    → IfOk result (λ ended. (ended.summary ≡ counted)
+    × (bytes_in ended.dump ≡ cond (manner.wants_dump && has_passed counted) (Some (dump_of after)) None))
+    → IfOk result (Ends manner s lines old.replies end old.errors errors)
+ends_by manner s lines old before on after new counted one none end errors same (Ok ended) last (is, dump) =
+    let passed : has_passed ended.summary ≡ list_all is_accepted one.given =
+    ap has_passed is ∙ passed_is manner.keep_going s lines old before on after new counted one none in
+    record {
+      given = one.given;
+      gives = gives_of manner.keep_going s lines old before on after new counted one;
+      replies = replies_of_all manner.keep_going s lines old before on after new counted one none end last;
+      errors = subst (λ (x : Option (List ℕ)). Appends old.errors x (errors_of one.given)) (sym same) one.errors;
+      summary = is ∙ counted_is manner.keep_going s lines old before on after new counted one none;
+      verdict = passed;
+      complete = λ e. complete_of manner.keep_going s lines old before on after new counted one (sym passed ∙ e);
+      dump = dump_end manner.keep_going s lines old before on after new counted one none manner.wants_dump (bytes_in ended.dump) dump;
+    }
+ends_by manner s lines old before on after new counted one none end errors same (Err fault) last is = tt
 
 -- ---- not too much
 
@@ -193,35 +215,35 @@ untouched_after (Ok value) K end = tt
 untouched_after (Err fault) K end = λ before. absurd (not_before fault end before)
 
 -- what holds anyhow holds after a success
-on_success : {T E P : Type 0} (r : Result T E) → P → OnOk r P
+pub on_success : {T E P : Type 0} (r : Result T E) → P → OnOk r P
 on_success (Ok value) holds = holds
 on_success (Err fault) holds = tt
 
 -- ---- the run, from what was read of its inputs
 
-module _ (is_verbose : Bool) (read given : Given) (s : Study) (lines : List Line) (same : read ≡ given) (are : lines ≡ all_lines read.studies)
-    (begins : Begins is_verbose read s) where
-  begins_given : Begins is_verbose given s
-  begins_given = subst (λ (g : Given). Begins is_verbose g s) same begins
+module _ (how : Manner) (read given : Given) (s : Study) (lines : List Line) (same : read ≡ given) (are : lines ≡ all_lines read.studies)
+    (begins : Begins how read s) where
+  begins_given : Begins how given s
+  begins_given = subst (λ (g : Given). Begins how g s) same begins
 
   lines_given : lines ≡ all_lines given.studies
   lines_given = are ∙ ap (λ (g : Given). all_lines g.studies) same
 
   pub ended_for : {A : Type 0} (manner : Manner) (r0 r1 e0 e1 : Option (List ℕ)) (result : Result (Ended A) (RunFault A))
       → IfOk result (Ends manner s lines r0 r1 e0 e1)
-      → IfOk result (λ ended. (t : Study) × (Begins is_verbose given t × Ends manner t (all_lines given.studies) r0 r1 e0 e1 ended))
+      → IfOk result (λ ended. (t : Study) × (Begins how given t × Ends manner t (all_lines given.studies) r0 r1 e0 e1 ended))
   ended_for manner r0 r1 e0 e1 result ends =
       IfOk-weaker result _ _
       (λ ended end. (s, (begins_given, subst (λ (l : List Line). Ends manner s l r0 r1 e0 e1 ended) lines_given end))) ends
 
   pub prefix_for : (K : Type 0) (keep_going : Bool) (r0 r1 e0 e1 : Option (List ℕ)) → WritesPrefix keep_going s lines r0 r1 e0 e1
-      → K ⊎ ((t : Study) × (Begins is_verbose given t × WritesPrefix keep_going t (all_lines given.studies) r0 r1 e0 e1))
+      → K ⊎ ((t : Study) × (Begins how given t × WritesPrefix keep_going t (all_lines given.studies) r0 r1 e0 e1))
   prefix_for K keep_going r0 r1 e0 e1 part =
       inr (s, (begins_given, subst (λ (l : List Line). WritesPrefix keep_going s l r0 r1 e0 e1) lines_given part))
 
   pub inputs_for : {T A : Type 0} (result : Result T (RunFault A)) → (IsTooMuch read → ⊥) → IfErr result MayEndWriting → FitsInputs given result
   inputs_for result few end = record {
-    accepted = on_success result (accepted_of is_verbose given s begins_given);
+    accepted = on_success result (accepted_of how given s begins_given);
     within = on_success result (λ (much : IsTooMuch given). few (subst IsTooMuch (sym same) much));
-    faults = IfErr-weaker result _ _ (λ fault may. writing_end given fault (accepted_of is_verbose given s begins_given) may) end;
+    faults = IfErr-weaker result _ _ (λ fault may. writing_end given fault (accepted_of how given s begins_given) may) end;
   }

@@ -1,5 +1,5 @@
 -- The study at the beginning of a run.
-use Rattle.std.specs.Prelude.{◌≡◌, ℕ, Bool, List, [], Option, None, Some, Ok, IsOk, IfSome, unwrap_or}
+use Rattle.std.specs.Prelude.{◌≡◌, ℕ, List, [], Option, None, Some, Ok, IsOk, IfSome, unwrap_or}
 use Rattle.lsdb.specs.Lists.{Lists}
 use Rattle.edit_history.specs.Session.{Session, state}
 use Rattle.saved_sessions.specs.Opening.{opened}
@@ -9,6 +9,7 @@ use Rattle.network_names.specs.Names.{Named, address_in, name_in}
 use Rattle.study_session.specs.Studies.{Study}
 use Rattle.whole_run.specs.Inputs.{IsAccepted}
 use Rattle.whole_study.specs.Given.{Given}
+use Rattle.whole_study.specs.declared.running.Manner.{Manner}
 
 -- the bytes of the names file; none is as an empty one
 abbrev pub names_of : Given → List ℕ
@@ -20,9 +21,9 @@ abbrev pub IsBaseline : Session → Option (List ℕ) → Lists → Type 0
 IsBaseline s None baseline = baseline ≡ s.base
 IsBaseline s (Some bytes) baseline = (other : Session) × ((opened bytes ≡ Ok other) × (baseline ≡ state other))
 
--- branch 0 goes on with the session of the dump and the others begin at its base; names stand for what the names file says, and
--- edits say what they changed where that is wanted
-pub record Begins (is_verbose : Bool) (given : Given) (s : Study) : Type 0 where
+-- branch 0 goes on with the session of the dump and the others begin at its base; names stand for what the names file says,
+-- edits say what they changed where that is wanted, and answers have the form that is wanted
+pub record Begins (how : Manner) (given : Given) (s : Study) : Type 0 where
   pub session : Session
   pub dump : opened given.dump ≡ Ok session
   pub sessions : s.sessions ≡ resumed session
@@ -31,7 +32,8 @@ pub record Begins (is_verbose : Bool) (given : Given) (s : Study) : Type 0 where
   pub names : names_in (names_of given) ≡ Ok named
   pub lookup : (word : List ℕ) → s.lookup word ≡ address_in named word
   pub called : (router : ℕ) → s.called router ≡ name_in named router
-  pub verbose : s.is_verbose ≡ is_verbose
+  pub verbose : s.is_verbose ≡ how.is_verbose
+  pub format : s.format ≡ how.format
 
 -- dump, baseline and names are accepted
 pub record AreAccepted (given : Given) : Type 0 where

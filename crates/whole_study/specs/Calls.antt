@@ -23,7 +23,7 @@ pub record Ends {A : Type 0} (manner : Manner) (s : Study) (lines : List Line) (
     : Type 0 where
   pub given : List Answered
   pub gives : Gives manner.keep_going s lines given
-  pub replies : Appends old_replies new_replies (whole_replies given)
+  pub replies : Appends old_replies new_replies (whole_replies s.format given)
   pub errors : Appends old_errors new_errors (errors_of given)
   pub summary : ended.summary ≡ summary_of given
   pub verdict : has_passed ended.summary ≡ list_all is_accepted given
@@ -33,7 +33,7 @@ pub record Ends {A : Type 0} (manner : Manner) (s : Study) (lines : List Line) (
 -- a prefix of the replies to the first lines, or to all that a run gives and of the summary
 pub data IsPart (keep_going : Bool) (s : Study) (lines : List Line) (given : List Answered) (replies new_replies : Option (List ℕ)) : Type 0 where
   of_first : GivesFirst keep_going s lines given → AppendsPrefix replies new_replies (replies_of given) → IsPart keep_going s lines given replies new_replies
-  of_all : Gives keep_going s lines given → AppendsPrefix replies new_replies (whole_replies given) → IsPart keep_going s lines given replies new_replies
+  of_all : Gives keep_going s lines given → AppendsPrefix replies new_replies (whole_replies s.format given) → IsPart keep_going s lines given replies new_replies
 
 -- in any case both writers got a prefix of what is given of lines
 pub record WritesPrefix (keep_going : Bool) (s : Study) (lines : List Line) (old_replies new_replies old_errors new_errors : Option (List ℕ)) : Type 0 where
@@ -77,6 +77,16 @@ IsBeforeReplies Read = Unit {0}
 IsBeforeReplies Write = ⊥
 IsBeforeReplies TooLarge = Unit {0}
 IsBeforeReplies OutOfMemory = ⊥
+
+-- a file is refused for what it has
+abbrev pub IsRefusal : {A : Type 0} → RunFault A → Type 0
+IsRefusal (Dump fault) = Unit {0}
+IsRefusal (Baseline fault) = Unit {0}
+IsRefusal (Names refusal) = Unit {0}
+IsRefusal Read = ⊥
+IsRefusal Write = ⊥
+IsRefusal TooLarge = ⊥
+IsRefusal OutOfMemory = ⊥
 
 -- a call succeeds only where all inputs are accepted and not too much, and ends with no fault but of these
 pub record FitsInputs {T A : Type 0} (given : Given) (result : Result T (RunFault A)) : Type 0 where

@@ -4,4 +4,5 @@ pub mod Run
 pub mod Begin
 pub mod Streams
 pub mod Calls
+pub mod Typed
 pub mod steps

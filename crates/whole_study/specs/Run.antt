@@ -5,6 +5,11 @@ use Rattle.lsdb.specs.Text.{text}
 use Rattle.study_answers.specs.declared.answer.Outcome.{Outcome}
 use Rattle.study_answers.specs.declared.answer.Outcome.TheVariants.{Accepted, Refused, Failed}
 use Rattle.study_answers.specs.Answers.{AnswerValue}
+use Rattle.study_documents.specs.Documents.{place_text as document_place}
+use Rattle.study_documents.specs.Summary.{summary_json}
+use Rattle.study_json.specs.JsonText.{json_text}
+use Rattle.study_session.specs.Formats.{in_format}
+use Rattle.study_session.specs.declared.format.Format.{Format}
 use Rattle.study_session.specs.Studies.{Study, database_in}
 use Rattle.study_session.specs.Lines.{IsAnswerTo, after_line}
 use Rattle.whole_study.specs.Lines.{Line, place_text}
@@ -12,21 +17,22 @@ use Rattle.whole_study.specs.declared.summary.Summary.{Summary}
 
 -- ---- lines and their answers
 
--- a line that has an answer, and the answer
+-- a line that has an answer, the answer, and its form
 pub record Answered : Type 0 where
   pub line : Line
   pub answer : AnswerValue
+  pub format : Format
 
-abbrev pub answered_line : Line → Option AnswerValue → List Answered
-answered_line line None = []
-answered_line line (Some answer) = record { line = line; answer = answer } ∷ []
+abbrev pub answered_line : Format → Line → Option AnswerValue → List Answered
+answered_line format line None = []
+answered_line format line (Some answer) = record { line = line; answer = answer; format = format } ∷ []
 
 -- what lines are answered, in order, each after those before it
 unfoldable pub AreAnswered : Study → List Line → List Answered → Type 0
 AreAnswered s [] given = given ≡ []
 AreAnswered s (line ∷ lines) given =
     (first : Option AnswerValue) × ((rest : List Answered)
-    × (IsAnswerTo s line.text first × (AreAnswered (after_line s line.text) lines rest × (given ≡ answered_line line first ++ rest))))
+    × (IsAnswerTo s line.text first × (AreAnswered (after_line s line.text) lines rest × (given ≡ answered_line s.format line first ++ rest))))
 
 -- the study after lines
 unfoldable pub study_after : Study → List Line → Study
@@ -87,9 +93,17 @@ pub record GivesFirst (keep_going : Bool) (s : Study) (lines : List Line) (given
 
 -- ---- what is written
 
+-- the document of a line: its place, and what it is answered
+abbrev pub document_text : Line → List ℕ → List ℕ
+document_text line text = document_place line.file line.number ++ text ++ codes "\n"
+
+-- the reply to a line: a text, or a document
+abbrev pub reply_of : Answered → List ℕ
+reply_of answered = in_format answered.format answered.answer.text (document_text answered.line answered.answer.text)
+
 -- the replies, one after another
 abbrev pub replies_of : List Answered → List ℕ
-replies_of given = flat_map (λ answered. answered.answer.text) given
+replies_of given = flat_map reply_of given
 
 -- the line for standard error of a line that is not accepted: its place, and what is wrong
 abbrev pub error_line : Answered → List ℕ
@@ -129,9 +143,18 @@ counts_text summary =
 abbrev pub summary_text : Summary → List ℕ
 summary_text summary = codes "study " ++ result_word (has_passed summary) ++ counts_text summary ++ codes "\n"
 
+-- the same as a document
+abbrev pub summary_document : Summary → List ℕ
+summary_document summary =
+    json_text (summary_json (has_passed summary) summary.lines summary.refused summary.expectations summary.failed) ++ codes "\n"
+
+-- the summary in a form of answers
+abbrev pub summary_in : Format → Summary → List ℕ
+summary_in format summary = in_format format (summary_text summary) (summary_document summary)
+
 -- the replies, and the summary as the last line
-abbrev pub whole_replies : List Answered → List ℕ
-whole_replies given = replies_of given ++ summary_text (summary_of given)
+abbrev pub whole_replies : Format → List Answered → List ℕ
+whole_replies format given = replies_of given ++ summary_in format (summary_of given)
 
 -- ---- what is left
 

@@ -3,3 +3,4 @@ pub mod Counting
 pub mod Carrying
 pub mod Texts
 pub mod Endings
+pub mod Typing

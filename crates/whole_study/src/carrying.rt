@@ -31,7 +31,7 @@ fn goes_on<A: Allocator>(keep_going: bool, answer: &Answer<A>) -> bool
 
 /// Carries out one line, writes its answer if it has one, and counts it. Returns whether the run
 /// goes on.
-fn carry_out_line<A: Allocator + Copy, W: Write, E: Write>(
+pub(crate) fn carry_out_line<A: Allocator + Copy, W: Write, E: Write>(
     alloc: A,
     session: &mut StudySession<'_, A>,
     line: Line<'_>,
@@ -51,10 +51,11 @@ fn carry_out_line<A: Allocator + Copy, W: Write, E: Write>(
     ensures ended { IfErr result MayEndWriting }
     ensures order { has_failed output.new.errors ≡ true → is_flushed output.new.replies ≡ true }
 {
+    let format = session.format();
     let Some(answer) = session.answer(line.text)? else {
         return Ok(true);
     };
-    write_answer(alloc, line, &answer, output)?;
+    write_answer(alloc, format, line, &answer, output)?;
     summary.count(&answer);
     Ok(goes_on(keep_going, &answer))
 }

@@ -19,7 +19,8 @@ pub struct NamesRefusal<A: Allocator = Global> {
     pub word: Vec<u8, A>,
 }
 
-/// Why a run ended early. Nothing was written but where a writer has failed or memory ran out.
+/// Why a run ended early. Nothing was written but where a writer has failed or memory ran out, and
+/// at a terminal, where it cannot be read any more or too much is typed.
 #[derive(Drop)]
 pub enum RunFault<A: Allocator = Global> {
     /// The dump is refused, for its first fault, which is never `OutOfMemory`.

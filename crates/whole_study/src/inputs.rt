@@ -61,7 +61,7 @@ pub(crate) struct Texts<'a, A: Allocator = Global> {
 
 /// The greatest length of a names file and of a study, in bytes, and the greatest number of
 /// studies.
-const MOST: usize = 1_048_576;
+pub(crate) const MOST: usize = 1_048_576;
 
 /// The fault of a dump that is longer than the limit.
 const TOO_LARGE: DumpFault = DumpFault {

@@ -18,8 +18,14 @@ mod summary;
 mod carrying;
 mod running;
 
+// A run at a terminal.
+mod dialog;
+mod typing;
+
+pub use dialog::converse;
 pub use fault::{NamesRefusal, RunFault};
 pub use inputs::{RunFiles, StudyFile};
 pub use output::Output;
 pub use running::{Ended, Manner, run};
 pub use summary::Summary;
+pub use typing::Terminal;

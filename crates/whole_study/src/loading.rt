@@ -13,6 +13,7 @@ ghost use Rattle.whole_study.specs.steps.Texts.{IsNamesEnd, IsReadEnd, IsRefused
 
 use crate::fault::{NamesRefusal, RunFault};
 use crate::inputs::Texts;
+use crate::running::Manner;
 use branches::Branches;
 use lsdb::{Database, DumpFault, DumpFaultKind};
 use network_names::{Names, NamesError, read_names};
@@ -102,14 +103,14 @@ fn names_text<A: Allocator>(names: &Option<Vec<u8, A>>) -> &[u8]
 }
 
 /// The session of a run: that of the dump, compared with the baseline, with the names. Edits say
-/// what they changed where that is wanted.
+/// what they changed where that is wanted, and answers have the form that is wanted.
 pub(crate) fn load<'t, A: Allocator + Copy>(
     alloc: A,
     texts: &'t Texts<'_, A>,
-    is_verbose: bool,
+    manner: Manner,
 ) -> Result<StudySession<'t, A>, RunFault<A>>
     ensures begins { IfOk result
-        (λ session. Begins is_verbose (given_in texts.now) (study_of session)) }
+        (λ session. Begins manner (given_in texts.now) (study_of session)) }
     ensures end { IfErr result (MayEndRun (given_in texts.now)) }
     ensures early { IfErr result MayEndLoading }
 {
@@ -117,5 +118,10 @@ pub(crate) fn load<'t, A: Allocator + Copy>(
     let baseline = baseline_of(alloc, &mut planner, &texts.baseline)?;
     let names = load_names(alloc, names_text(&texts.names))?;
     let branches = Branches::resume(alloc, planner);
-    Ok(StudySession::new(branches, baseline, names, is_verbose))
+    let Manner {
+        is_verbose,
+        format,
+        ..
+    } = manner;
+    Ok(StudySession::new(branches, baseline, names, is_verbose, format))
 }

@@ -5,7 +5,7 @@ ghost use Rattle.std.specs.Io.KnownBytes.{Appends, Keeps};
 ghost use Rattle.host_io.specs.Watched.{inner_of, has_failed, is_flushed};
 ghost use Rattle.host_io.specs.WholeText.{AppendsPrefix};
 ghost use Rattle.whole_study.specs.Lines.{place_text};
-ghost use Rattle.whole_study.specs.Run.{error_line, summary_text, was_accepted};
+ghost use Rattle.whole_study.specs.Run.{document_text, error_line, reply_of, summary_in, was_accepted};
 ghost use Rattle.whole_study.specs.Streams.{has_writer_failed};
 ghost use Rattle.whole_study.specs.steps.Carrying.{line_at};
 ghost use Rattle.whole_study.specs.steps.Endings.{MayEndWriting};
@@ -16,6 +16,8 @@ use host_io::{Watched, WriteFault, write_and_flush, write_whole};
 use std::alloc::{AllocError, Allocator};
 use std::io::Write;
 use study_answers::{Answer, Outcome};
+use study_documents::push_place;
+use study_session::Format;
 use study_text::push_number;
 
 /// The writers of a run.
@@ -68,7 +70,7 @@ pub(crate) fn was_accepted(outcome: Outcome) -> bool
 }
 
 /// Flushes a writer.
-fn flush<W: Write>(writer: &mut Watched<W>) -> Result<(), WriteFault>
+pub(crate) fn flush<W: Write>(writer: &mut Watched<W>) -> Result<(), WriteFault>
     requires { has_failed writer.old ≡ false }
     ensures bytes { Keeps (W.contents (inner_of writer.old)) (W.contents (inner_of writer.new)) }
     ensures failed { IsErr result ↔ (has_failed writer.new ≡ true) }
@@ -77,30 +79,79 @@ fn flush<W: Write>(writer: &mut Watched<W>) -> Result<(), WriteFault>
     writer.flush().map_err(|_| WriteFault)
 }
 
-/// Writes the reply to a line, and where the line is not accepted the line for standard error,
-/// before which the replies are flushed.
-pub(crate) fn write_answer<A: Allocator + Copy, W: Write, E: Write>(
+/// The document of a line, with the end of the line: its place, and what it is answered.
+fn document_text<A: Allocator + Copy>(
     alloc: A,
+    line: Line<'_>,
+    answer: &[u8],
+) -> Result<Vec<u8, A>, AllocError>
+    ensures { IfOk result (λ text. text.items ≡ document_text (line_at line.entry) answer.now) }
+{
+    let mut text = Vec::new(alloc);
+    push_place(&mut text, line.file, line.number)?;
+    text.extend_from_slice(answer)?;
+    text.push(b'\n')?;
+    Ok(text)
+}
+
+/// Writes the reply to a line: a text, or a document.
+fn write_reply<A: Allocator + Copy, W: Write, E: Write>(
+    alloc: A,
+    format: Format,
     line: Line<'_>,
     answer: &Answer<A>,
     output: &mut Output<W, E>,
 ) -> Result<(), RunFault<A>>
     requires { has_writer_failed output.old ≡ false }
     ensures replies { OnOk result (Appends (W.contents (inner_of output.old.replies))
-        (W.contents (inner_of output.new.replies)) answer.now.text) }
+        (W.contents (inner_of output.new.replies)) (reply_of
+        (record { line = line_at line.entry; answer = answer.now; format = format }))) }
+    ensures part { AppendsPrefix (W.contents (inner_of output.old.replies))
+        (W.contents (inner_of output.new.replies)) (reply_of
+        (record { line = line_at line.entry; answer = answer.now; format = format })) }
+    ensures errors { output.new.errors ≡ output.old.errors }
+    ensures failed { (result ≡ Err RunFault.Write) ↔ (has_writer_failed output.new ≡ true) }
+    ensures ended { IfErr result MayEndWriting }
+{
+    match format {
+        Format::Text => write_whole(&mut output.replies, answer.text.as_slice())?,
+        Format::Json => {
+            let text = document_text(alloc, line, answer.text.as_slice())?;
+            write_whole(&mut output.replies, text.as_slice())?;
+        }
+    }
+    Ok(())
+}
+
+/// Writes the reply to a line, and where the line is not accepted the line for standard error,
+/// before which the replies are flushed.
+pub(crate) fn write_answer<A: Allocator + Copy, W: Write, E: Write>(
+    alloc: A,
+    format: Format,
+    line: Line<'_>,
+    answer: &Answer<A>,
+    output: &mut Output<W, E>,
+) -> Result<(), RunFault<A>>
+    requires { has_writer_failed output.old ≡ false }
+    ensures replies { OnOk result (Appends (W.contents (inner_of output.old.replies))
+        (W.contents (inner_of output.new.replies)) (reply_of
+        (record { line = line_at line.entry; answer = answer.now; format = format }))) }
     ensures errors { OnOk result (Appends (E.contents (inner_of output.old.errors))
         (E.contents (inner_of output.new.errors))
-        (error_line (record { line = line_at line.entry; answer = answer.now }))) }
+        (error_line
+        (record { line = line_at line.entry; answer = answer.now; format = format }))) }
     ensures replies_part { AppendsPrefix (W.contents (inner_of output.old.replies))
-        (W.contents (inner_of output.new.replies)) answer.now.text }
+        (W.contents (inner_of output.new.replies)) (reply_of
+        (record { line = line_at line.entry; answer = answer.now; format = format })) }
     ensures errors_part { AppendsPrefix (E.contents (inner_of output.old.errors))
         (E.contents (inner_of output.new.errors))
-        (error_line (record { line = line_at line.entry; answer = answer.now })) }
+        (error_line
+        (record { line = line_at line.entry; answer = answer.now; format = format })) }
     ensures failed { (result ≡ Err RunFault.Write) ↔ (has_writer_failed output.new ≡ true) }
     ensures ended { IfErr result MayEndWriting }
     ensures order { has_failed output.new.errors ≡ true → is_flushed output.new.replies ≡ true }
 {
-    write_whole(&mut output.replies, answer.text.as_slice())?;
+    write_reply(alloc, format, line, answer, output)?;
     if was_accepted(answer.outcome) {
         return Ok(());
     }
@@ -136,20 +187,21 @@ fn write_error<A: Allocator + Copy, W: Write, E: Write>(
 /// Writes the summary, the last line of the replies, and flushes them.
 pub(crate) fn write_summary<A: Allocator + Copy, W: Write, E: Write>(
     alloc: A,
+    format: Format,
     summary: &Summary,
     output: &mut Output<W, E>,
 ) -> Result<(), RunFault<A>>
     requires { has_writer_failed output.old ≡ false }
     ensures whole { OnOk result (Appends (W.contents (inner_of output.old.replies))
-        (W.contents (inner_of output.new.replies)) (summary_text summary.now)) }
+        (W.contents (inner_of output.new.replies)) (summary_in format summary.now)) }
     ensures part { AppendsPrefix (W.contents (inner_of output.old.replies))
-        (W.contents (inner_of output.new.replies)) (summary_text summary.now) }
+        (W.contents (inner_of output.new.replies)) (summary_in format summary.now) }
     ensures errors { output.new.errors ≡ output.old.errors }
     ensures failed { (result ≡ Err RunFault.Write) ↔ (has_writer_failed output.new ≡ true) }
     ensures ended { IfErr result MayEndWriting }
     ensures flushed { OnOk result (is_flushed output.new.replies ≡ true) }
 {
-    let text = summary_line(alloc, summary)?;
+    let text = summary_line(alloc, format, summary)?;
     write_and_flush(&mut output.replies, text.as_slice())?;
     Ok(())
 }

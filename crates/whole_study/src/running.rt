@@ -1,13 +1,15 @@
 //! The whole run: inputs are read, studies are carried out, and their replies are written.
 
 ghost use Rattle.std.specs.Prelude.{◌≡◌, ◌&&◌, ◌||◌, ◌⊎◌, ◌↔◌, ◌≤◌, All, IfErr, IfOk, None, OnOk, Some, false, if◌then◌else◌, length, true};
+ghost use Rattle.std.specs.Io.KnownBytes.{Appends};
 ghost use Rattle.host_io.specs.Watched.{inner_of, has_failed, is_flushed};
+ghost use Rattle.host_io.specs.WholeText.{AppendsPrefix};
 ghost use Rattle.study_session.specs.Studies.{Study, study_of};
 ghost use Rattle.whole_study.specs.Begin.{Begins};
 ghost use Rattle.whole_study.specs.Calls.{Ends, FitsInputs, IsBeforeReplies, WritesPrefix, most};
 ghost use Rattle.whole_study.specs.Given.{Given};
 ghost use Rattle.whole_study.specs.Lines.{all_lines};
-ghost use Rattle.whole_study.specs.Run.{dump_of, has_passed};
+ghost use Rattle.whole_study.specs.Run.{dump_of, has_passed, summary_in};
 ghost use Rattle.whole_study.specs.Streams.{HaveBytes, has_file_failed, has_study_failed, has_writer_failed};
 ghost use Rattle.whole_study.specs.steps.Endings.{MayEndWriting};
 ghost use Rattle.whole_study.specs.steps.Texts.{HasFewBytes, bytes_in, lines_in};
@@ -20,7 +22,7 @@ use crate::output::{Output, write_summary};
 use crate::summary::Summary;
 use std::alloc::{AllocError, Allocator, Global};
 use std::io::{Read, Write};
-use study_session::StudySession;
+use study_session::{Format, StudySession};
 
 /// How a run is made.
 #[derive(Clone, Copy, Debug, PartialEq, Eq)]
@@ -31,6 +33,8 @@ pub struct Manner {
     pub wants_dump: bool,
     /// Whether each edit says what it changed.
     pub is_verbose: bool,
+    /// In which form lines are answered.
+    pub format: Format,
 }
 
 /// How a run ended that carried its studies out.
@@ -66,13 +70,13 @@ pub fn run<A: Allocator + Copy, R: Read, S: Read, W: Write, E: Write>(
 
     // What is written, counted and left, where the bytes of the inputs are known.
     ensures ended { (given : Given) → HaveBytes R.remaining S.remaining files.old studies.old given
-        → IfOk result (λ ended. (s : Study) × (Begins manner.is_verbose given s
+        → IfOk result (λ ended. (s : Study) × (Begins manner given s
         × Ends manner s (all_lines given.studies)
         (W.contents (inner_of output.old.replies)) (W.contents (inner_of output.new.replies))
         (E.contents (inner_of output.old.errors)) (E.contents (inner_of output.new.errors))
         ended)) }
     ensures prefix { (given : Given) → HaveBytes R.remaining S.remaining files.old studies.old given
-        → (output.new ≡ output.old) ⊎ ((s : Study) × (Begins manner.is_verbose given s
+        → (output.new ≡ output.old) ⊎ ((s : Study) × (Begins manner given s
         × WritesPrefix manner.keep_going s (all_lines given.studies)
         (W.contents (inner_of output.old.replies)) (W.contents (inner_of output.new.replies))
         (E.contents (inner_of output.old.errors)) (E.contents (inner_of output.new.errors)))) }
@@ -90,7 +94,7 @@ pub fn run<A: Allocator + Copy, R: Read, S: Read, W: Write, E: Write>(
     ensures order { has_failed output.new.errors ≡ true → is_flushed output.new.replies ≡ true }
 {
     let texts = read_all(alloc, files, studies)?;
-    let mut session = load(alloc, &texts, manner.is_verbose)?;
+    let mut session = load(alloc, &texts, manner)?;
     run_studies(alloc, manner, &mut session, &texts.studies, output)
 }
 
@@ -116,6 +120,7 @@ fn run_studies<A: Allocator + Copy, W: Write, E: Write>(
     ensures flushed { OnOk result (is_flushed output.new.replies ≡ true) }
     ensures order { has_failed output.new.errors ≡ true → is_flushed output.new.replies ≡ true }
 {
+    let format = session.format();
     let mut summary = Summary::new();
     carry_out(
         alloc,
@@ -125,7 +130,32 @@ fn run_studies<A: Allocator + Copy, W: Write, E: Write>(
         output,
         &mut summary,
     )?;
-    write_summary(alloc, &summary, output)?;
+    finish(alloc, manner, format, session, output, summary)
+}
+
+/// Writes the summary in the form of the answers, and makes the dump that is left.
+pub(crate) fn finish<A: Allocator + Copy, W: Write, E: Write>(
+    alloc: A,
+    manner: Manner,
+    format: Format,
+    session: &mut StudySession<'_, A>,
+    output: &mut Output<W, E>,
+    summary: Summary,
+) -> Result<Ended<A>, RunFault<A>>
+    requires open { has_writer_failed output.old ≡ false }
+    ensures replies { OnOk result (Appends (W.contents (inner_of output.old.replies))
+        (W.contents (inner_of output.new.replies)) (summary_in format summary)) }
+    ensures part { AppendsPrefix (W.contents (inner_of output.old.replies))
+        (W.contents (inner_of output.new.replies)) (summary_in format summary) }
+    ensures errors { output.new.errors ≡ output.old.errors }
+    ensures ended { IfOk result (λ ended. (ended.summary ≡ summary)
+        × (bytes_in ended.dump ≡ (if manner.wants_dump && has_passed summary
+        then Some (dump_of (study_of session.old)) else None))) }
+    ensures write { (result ≡ Err RunFault.Write) ↔ (has_writer_failed output.new ≡ true) }
+    ensures fault { IfErr result MayEndWriting }
+    ensures flushed { OnOk result (is_flushed output.new.replies ≡ true) }
+{
+    write_summary(alloc, format, &summary, output)?;
     let dump = dump_left(session, manner.wants_dump, &summary)?;
     Ok(Ended { summary, dump })
 }

@@ -2,11 +2,14 @@
 
 ghost use Rattle.std.specs.Prelude.{◌≡◌, ◌++◌, ◌∷◌, [], IfOk, List, OnOk};
 ghost use Rattle.whole_study.specs.Lines.{Line};
-ghost use Rattle.whole_study.specs.Run.{Answered, counts_text, has_passed, result_word, summary_of, summary_text, with_count};
+ghost use Rattle.whole_study.specs.Run.{Answered, counts_text, has_passed, result_word, summary_document, summary_in, summary_of, summary_text, with_count};
+ghost use Rattle.study_session.specs.declared.format.Format.{Format as AnyFormat};
 ghost use Rattle.whole_study.specs.steps.Counting.{Grows, HasRoom};
 
 use std::alloc::{AllocError, Allocator};
 use study_answers::{Answer, Outcome};
+use study_documents::{Counted, push_summary};
+use study_session::Format;
 use study_text::push_number;
 
 /// How many lines had an answer, and what became of them.
@@ -45,8 +48,9 @@ impl Summary {
     /// Counts an answer.
     pub(crate) fn count<A: Allocator>(&mut self, answer: &Answer<A>)
         requires { HasRoom 1 self.old }
-        ensures counted { (done : List Answered) (line : Line) → self.old ≡ summary_of done
-            → self.new ≡ summary_of (done ++ record { line = line; answer = answer.now } ∷ []) }
+        ensures counted { (done : List Answered) (line : Line) (format : AnyFormat)
+            → self.old ≡ summary_of done → self.new ≡ summary_of
+            (done ++ record { line = line; answer = answer.now; format = format } ∷ []) }
         ensures grows { Grows 1 self.old self.new }
     {
         self.lines += 1;
@@ -94,11 +98,54 @@ fn push_counts<A: Allocator + Copy>(
     push_count(text, " failed ", summary.failed)
 }
 
-/// The last line of a run: `study RESULT lines N refused N expectations N failed N`.
-pub(crate) fn summary_line<A: Allocator + Copy>(
+/// What the last document of a run counts.
+fn counted(summary: &Summary) -> Counted
+    ensures { result ≡ record {
+      has_passed = has_passed summary.now;
+      lines = summary.now.lines;
+      refused = summary.now.refused;
+      expectations = summary.now.expectations;
+      failed = summary.now.failed;
+    } }
+{
+    Counted {
+        has_passed: summary.has_passed(),
+        lines: summary.lines,
+        refused: summary.refused,
+        expectations: summary.expectations,
+        failed: summary.failed,
+    }
+}
+
+/// The last document of a run.
+fn summary_document<A: Allocator + Copy>(
     alloc: A,
     summary: &Summary,
 ) -> Result<Vec<u8, A>, AllocError>
+    ensures { IfOk result (λ text. text.items ≡ summary_document summary.now) }
+{
+    let mut text = Vec::new(alloc);
+    push_summary(&mut text, counted(summary))?;
+    text.push(b'\n')?;
+    Ok(text)
+}
+
+/// The last line of a run, in the form of the answers.
+pub(crate) fn summary_line<A: Allocator + Copy>(
+    alloc: A,
+    format: Format,
+    summary: &Summary,
+) -> Result<Vec<u8, A>, AllocError>
+    ensures { IfOk result (λ text. text.items ≡ summary_in format summary.now) }
+{
+    match format {
+        Format::Text => summary_text(alloc, summary),
+        Format::Json => summary_document(alloc, summary),
+    }
+}
+
+/// The last line of a run: `study RESULT lines N refused N expectations N failed N`.
+fn summary_text<A: Allocator + Copy>(alloc: A, summary: &Summary) -> Result<Vec<u8, A>, AllocError>
     ensures { IfOk result (λ text. text.items ≡ summary_text summary.now) }
 {
     let mut text = Vec::new(alloc);

@@ -12,5 +12,6 @@ pub record IsRead (found : Found) (o : Options) : Type 0 where
   pub names : option_map (λ name. name.now) o.names ≡ first_value found (codes "names")
   pub keep_going : o.keep_going ≡ nat_lt 0 (count_of (codes "keep-going") (rows_of found))
   pub verbose : o.verbose ≡ nat_lt 0 (count_of (codes "verbose") (rows_of found))
+  pub format : option_map (λ word. word.now) o.format ≡ first_value found (codes "format")
   pub out : option_map (λ name. name.now) o.out ≡ first_value found (codes "out")
   pub studies : map (λ name. name.now) o.studies.items ≡ values_in found (codes "studies")

@@ -13,9 +13,10 @@ unfolding command_answer
 returns-clause-answer g c =
     let change = option_map (λ text. text.items) c.args.change in
     let said = said_by c.in_ok-reply.reply in
-    explained_before c.refused_commands_change_nothing.ensures (context_of c.args.context.now) (sessions_of c.args.branches.now) (sessions_of c.step.new.self)
-    c.args.command.now c.in_ok-reply.ensures.step.sessions c.replied.result (answer_by c.args.context.now.branch change) said
-    (answer_by c.args.context.now.branch change said) c.in_ok-reply.ensures.step.reply refl c.replied.ensures.answer
+    let x = context_of c.args.context.now in
+    explained_before c.refused_commands_change_nothing.ensures x (sessions_of c.args.branches.now) (sessions_of c.step.new.self)
+    c.args.command.now c.in_ok-reply.ensures.step.sessions c.replied.result (answer_by x change) said
+    (answer_by x change said) c.in_ok-reply.ensures.step.reply refl c.replied.ensures.answer
 
 pub returns-clause-sessions : goal.returns-clause-sessions
 returns-clause-sessions g c = if_ok c.replied.result (c.replied.ensures.kept ∙ c.in_ok-reply.ensures.step.sessions)

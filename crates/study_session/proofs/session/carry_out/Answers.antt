@@ -28,19 +28,19 @@ returns-in-Named g c = record {
 
 -- questions and expectations leave the sessions as they were
 pub returns-in-See : goal.returns-in-See
-unfolding sessions_in
+unfolding IsAnswerIn sessions_in
 returns-in-See g c = record {
-  answer = answered (context_of c.args.context.now) (sessions_of c.args.branches.now c.args.context.now.branch) c.answer_question.result
-      (ap asked c.in-See.is) c.answer_question.ensures.answer;
-  sessions = if_ok c.answer_question.result (left_by c.args.context.now.branch (sessions_of c.args.branches.now) (sessions_of c.answer_question.new.branches)
-      (ap asked c.in-See.is) c.answer_question.ensures.kept);
+  answer = answered (context_of c.args.context.now) (sessions_of c.args.branches.now c.args.context.now.branch) c.seen.result
+      (ap asked c.in-See.is) c.seen.ensures.answer;
+  sessions = if_ok c.seen.result (left_by c.args.context.now.branch (sessions_of c.args.branches.now) (sessions_of c.seen.new.branches)
+      (ap asked c.in-See.is) c.seen.ensures.kept);
 }
 
 pub returns-in-Expect : goal.returns-in-Expect
-unfolding sessions_in
+unfolding IsAnswerIn sessions_in
 returns-in-Expect g c = record {
-  answer = answered (context_of c.args.context.now) (sessions_of c.args.branches.now c.args.context.now.branch) c.answer_expectation.result
-      (ap asked c.in-Expect.is) c.answer_expectation.ensures.answer;
-  sessions = if_ok c.answer_expectation.result (left_by c.args.context.now.branch (sessions_of c.args.branches.now) (sessions_of c.answer_expectation.new.branches)
-      (ap asked c.in-Expect.is) c.answer_expectation.ensures.kept);
+  answer = answered (context_of c.args.context.now) (sessions_of c.args.branches.now c.args.context.now.branch) c.expected.result
+      (ap asked c.in-Expect.is) c.expected.ensures.answer;
+  sessions = if_ok c.expected.result (left_by c.args.context.now.branch (sessions_of c.args.branches.now) (sessions_of c.expected.new.branches)
+      (ap asked c.in-Expect.is) c.expected.ensures.kept);
 }

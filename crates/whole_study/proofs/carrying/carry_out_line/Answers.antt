@@ -19,15 +19,16 @@ returns-in_default-clause-part g c = part_none c.args.keep_going (study_of c.arg
 pub returns-in_err-write_answer-clause-part : goal.returns-in_err-write_answer-clause-part
 returns-in_err-write_answer-clause-part g c =
     one_part c.args.keep_going (study_of c.args.session.now) (line_at c.args.line) c.in-Some.answer _ _
-    (rw c.in-Some.is at c.in_ok-answer.ensures.answer) c.write_answer.ensures.replies_part c.write_answer.ensures.errors_part
+    (rw c.in-Some.is at c.in_ok-answer.ensures.answer) (rw c.format-format.ensures at c.write_answer.ensures.replies_part) c.write_answer.ensures.errors_part
 
 pub returns-clause-carried : goal.returns-clause-carried
 returns-clause-carried g c =
     one_answer c.args.keep_going (study_of c.args.session.now) (line_at c.args.line) c.in-Some.answer _ c.args.summary.now _ _ _ _
     (rw c.in-Some.is at c.in_ok-answer.ensures.answer) c.in_ok-answer.ensures.study c.goes_on.ensures
-    c.in_ok-write_answer.ensures.replies c.in_ok-write_answer.ensures.errors (λ done e. c.count.ensures.counted done (line_at c.args.line) e)
+    (rw c.format-format.ensures at c.in_ok-write_answer.ensures.replies) c.in_ok-write_answer.ensures.errors
+    (λ done e. c.count.ensures.counted done (line_at c.args.line) (study_of c.args.session.now).format e)
 
 pub returns-clause-part : goal.returns-clause-part
 returns-clause-part g c =
     one_part c.args.keep_going (study_of c.args.session.now) (line_at c.args.line) c.in-Some.answer _ _
-    (rw c.in-Some.is at c.in_ok-answer.ensures.answer) c.write_answer.ensures.replies_part c.write_answer.ensures.errors_part
+    (rw c.in-Some.is at c.in_ok-answer.ensures.answer) (rw c.format-format.ensures at c.write_answer.ensures.replies_part) c.write_answer.ensures.errors_part

@@ -27,6 +27,6 @@ returns-in_err-names-clause-early g c =
 
 pub returns-clause-begins : goal.returns-clause-begins
 returns-clause-begins g c =
-    begins_of c.args.is_verbose (given_in c.args.texts.now) c.in_ok-planner.planner.session _ c.names_text.result.now _ _ _
+    begins_of c.args.manner (given_in c.args.texts.now) c.in_ok-planner.planner.session _ c.names_text.result.now _ _ _
     (rw c.deref.ensures.value at c.in_ok-planner.ensures.opened) c.in_ok-baseline.ensures.baseline c.names_text.ensures c.in_ok-names.ensures.taken
     (rw c.baseline_of.ensures.kept at c.resume-branches.ensures) c.new.ensures

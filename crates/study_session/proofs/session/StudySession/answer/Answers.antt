@@ -18,7 +18,7 @@ returns-in-Ok-None-clause-answer g c =
 pub returns-in-Ok-None-clause-study : goal.returns-in-Ok-None-clause-study
 unfolding after_line study_of
 returns-in-Ok-None-clause-study g c =
-    ap (λ (all : Sessions). study_by all c.args.self.now.baseline c.args.self.now.names c.args.self.now.is_verbose)
+    ap (λ (all : Sessions). study_by all c.args.self.now.baseline c.args.self.now.names c.args.self.now.is_verbose c.args.self.now.format)
     (none_after (study_of c.args.self.now) (meaning (stands_for c.args.self.now.names) c.args.line.now)
     (rw c.in-Ok-None.field-0-is at c.in-Ok-None.ensures.value))
 
@@ -33,7 +33,7 @@ returns-in_ok-answer-in-Ok-Some-clause-answer g c =
 pub returns-in_ok-answer-in-Ok-Some-clause-study : goal.returns-in_ok-answer-in-Ok-Some-clause-study
 unfolding after_line study_of
 returns-in_ok-answer-in-Ok-Some-clause-study g c =
-    ap (λ (all : Sessions). study_by all c.args.self.now.baseline c.args.self.now.names c.args.self.now.is_verbose)
+    ap (λ (all : Sessions). study_by all c.args.self.now.baseline c.args.self.now.names c.args.self.now.is_verbose c.args.self.now.format)
     (c.in_ok-answer-in-Ok-Some.ensures.sessions
     ∙ some_after (study_of c.args.self.now) (meaning (stands_for c.args.self.now.names) c.args.line.now)
     c.in-Ok-Some.branch (asked c.in-Ok-Some.command) (rw c.in-Ok-Some.field-0-is at c.in-Ok-Some.ensures.value))
@@ -49,6 +49,6 @@ returns-in_ok-faulty-in-Err-Fault-clause-answer g c =
 pub returns-in_ok-faulty-in-Err-Fault-clause-study : goal.returns-in_ok-faulty-in-Err-Fault-clause-study
 unfolding after_line study_of
 returns-in_ok-faulty-in-Err-Fault-clause-study g c =
-    ap (λ (all : Sessions). study_by all c.args.self.now.baseline c.args.self.now.names c.args.self.now.is_verbose)
+    ap (λ (all : Sessions). study_by all c.args.self.now.baseline c.args.self.now.names c.args.self.now.is_verbose c.args.self.now.format)
     (fault_after (study_of c.args.self.now) (meaning (stands_for c.args.self.now.names) c.args.line.now)
     (fault_at c.in-Err-Fault.fault) (rw c.in-Err-Fault.field-0-is at c.in-Err-Fault.ensures.value))

@@ -5,11 +5,11 @@ use Rattle.study_script.specs.Expected.{expected}
 use Rattle.refusal_hints.specs.ExpectationHints.{expectation_hint}
 use Rattle.study_session.specs.Contexts.{context_of, situation}
 use Rattle.study_session.specs.Explained.{explained}
-use Rattle.study_session.specs.Lines.{IsAnswerIn}
-use Rattle.study_session.proofs.session.answer_expectation.Goals as goal
+use Rattle.study_session.specs.Seen.{IsExpectedText}
+use Rattle.study_session.proofs.expected.expected_text.Goals as goal
 
 pub returns-clause-answer : goal.returns-clause-answer
-unfolding IsAnswerIn
+unfolding IsExpectedText
 returns-clause-answer g c =
     let x = context_of c.args.context.now in
     let plain = c.in_ok-answer.answer in

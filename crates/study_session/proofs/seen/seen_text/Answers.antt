@@ -4,11 +4,11 @@ use Rattle.branches.specs.Branches.{Sessions}
 use Rattle.refusal_hints.specs.QuestionHints.{question_hint}
 use Rattle.study_session.specs.Contexts.{context_of, situation}
 use Rattle.study_session.specs.Explained.{explained}
-use Rattle.study_session.specs.Lines.{IsAnswerIn}
-use Rattle.study_session.proofs.session.answer_question.Goals as goal
+use Rattle.study_session.specs.Seen.{IsSeenText}
+use Rattle.study_session.proofs.seen.seen_text.Goals as goal
 
 pub returns-clause-answer : goal.returns-clause-answer
-unfolding IsAnswerIn
+unfolding IsSeenText
 returns-clause-answer g c =
     let x = context_of c.args.context.now in
     let plain = c.in_ok-answer.answer in

@@ -1,0 +1,7 @@
+use Rattle.std.proofs.Common.{◌≡◌, ◌++◌, map, take}
+use Rattle.document_answers.specs.OwnDocuments.{condition_help}
+use Rattle.document_answers.proofs.help.push_conditions.Given as goal
+
+-- the lines of the conditions so far
+abbrev pub invariant-loop-word : goal.invariant-loop-word
+invariant-loop-word g l = l.lines.items ≡ l.initial.lines.items ++ map condition_help (take l.word-index l.word-items)

@@ -1,0 +1,10 @@
+pub mod Documented
+pub mod LinkDocuments
+pub mod RouteDocuments
+pub mod ExplainDocuments
+pub mod ChangeDocuments
+pub mod LoopDocuments
+pub mod AuditDocuments
+pub mod OwnDocuments
+pub mod Questions
+pub mod Expectations
