@@ -7,7 +7,7 @@ use findings::Feature;
 use frr_text::fields::LsType;
 
 /// A database that FRR prints, by the LS type of its LSAs.
-#[derive(Clone, Copy, Debug)]
+#[derive(Clone, Copy)]
 pub(crate) enum Table {
     /// LSAs of this type, which are read.
     Read(LsType),
