@@ -27,8 +27,7 @@ is_notice (findings.NotRead feature count) = is_left_out feature
 is_notice (findings.LeftOut scope feature count) = is_left_out feature
 is_notice _ = false
 
-abbrev pub notice_of : Finding → Option Finding
-notice_of finding = if is_notice finding then Some finding else None
-
-abbrev pub warning_of : Finding → Option Finding
-warning_of finding = if is_notice finding then None else Some finding
+-- the finding, where it is a notice, or where it is none
+abbrev pub chosen : Bool → Finding → Option Finding
+chosen true finding = if is_notice finding then Some finding else None
+chosen false finding = if is_notice finding then None else Some finding

@@ -2,8 +2,8 @@
 //!
 //! The reader of each format finds [`Part`]s, and [`sorted`] makes the [`Content`] of the file of
 //! them. A [`Finding`] is what is missing in a file or in the database that files make, or cannot
-//! be used; [`finding_lines`] has a line for each. Those that do not matter to the planner are its
-//! [`notices`].
+//! be used; [`finding_lines`] has a line for each. Some are no more than
+//! notices ([`is_notice`]): they do not matter to the planner.
 #![tactic(auto)]
 
 // What is missing, or cannot be used, and its words.
@@ -25,7 +25,7 @@ pub use feature::Feature;
 pub use finding::Finding;
 pub use frame_warning::FrameWarning;
 pub use lines::finding_lines;
-pub use notice::{is_notice, is_opaque_type, notices, warnings};
+pub use notice::{choose, is_notice, is_opaque_type};
 pub use part::Part;
 pub use reported_lsa::ReportedLsa;
 pub use unused_reason::UnusedReason;

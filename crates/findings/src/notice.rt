@@ -2,7 +2,7 @@
 
 ghost use Rattle.std.specs.Prelude.{◌≡◌, IfOk};
 ghost use Rattle.std.specs.List.{filter_map};
-ghost use Rattle.findings.specs.Notices.{is_left_out, is_notice, is_opaque_type, notice_of, warning_of};
+ghost use Rattle.findings.specs.Notices.{chosen, is_left_out, is_notice, is_opaque_type};
 
 use crate::feature::Feature;
 use crate::finding::Finding;
@@ -38,58 +38,31 @@ pub fn is_notice(finding: Finding) -> bool
     }
 }
 
-/// The finding, if it is a notice.
-fn notice_of(finding: Finding) -> Option<Finding>
-    ensures { result ≡ notice_of finding }
+/// The finding, if it is a notice, or, where `notices` is false, if it is none.
+fn chosen(notices: bool, finding: Finding) -> Option<Finding>
+    ensures { result ≡ chosen notices finding }
 {
-    if is_notice(finding) {
+    if is_notice(finding) == notices {
         Some(finding)
     } else {
         None
     }
 }
 
-/// The finding, unless it is a notice.
-fn warning_of(finding: Finding) -> Option<Finding>
-    ensures { result ≡ warning_of finding }
-{
-    if is_notice(finding) {
-        None
-    } else {
-        Some(finding)
-    }
-}
-
-/// The notices among findings, in their order.
+/// The notices among findings, or, where `notices` is false, the others, in their order.
 ///
 /// # Errors
 ///
 /// Memory ran out.
-pub fn notices<A: Allocator + Copy>(
+pub fn choose<A: Allocator + Copy>(
     alloc: A,
+    notices: bool,
     findings: &[Finding],
 ) -> Result<Vec<Finding, A>, AllocError>
-    ensures { IfOk result (λ found. found.items ≡ filter_map notice_of findings.now) }
+    ensures { IfOk result (λ found. found.items ≡ filter_map (chosen notices) findings.now) }
 {
     findings
         .iter()
-        .filter_map(|finding| notice_of(*finding))
-        .collect(alloc)
-}
-
-/// The findings that are no notices, in their order.
-///
-/// # Errors
-///
-/// Memory ran out.
-pub fn warnings<A: Allocator + Copy>(
-    alloc: A,
-    findings: &[Finding],
-) -> Result<Vec<Finding, A>, AllocError>
-    ensures { IfOk result (λ found. found.items ≡ filter_map warning_of findings.now) }
-{
-    findings
-        .iter()
-        .filter_map(|finding| warning_of(*finding))
+        .filter_map(|finding| chosen(notices, *finding))
         .collect(alloc)
 }

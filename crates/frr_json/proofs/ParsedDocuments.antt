@@ -10,7 +10,7 @@ use Rattle.findings.specs.declared.part.Part.{Part}
 use Rattle.frr_json.proofs.Joined.{cut}
 use Rattle.frr_json.specs.declared.table.Table.{Table}
 use Rattle.frr_json.specs.declared.table.Table.TheVariants as tables
-use Rattle.frr_json.specs.ParsedDocuments.{area_named, parsed_item, lsas_in, parsed_array, areas_in, parsed_of, read_in, not_read_in}
+use Rattle.frr_json.specs.ParsedDocuments.{area_named, parsed_item, lsas_in, parsed_array, areas_in, parsed_of, tables_in}
 
 module _ {A : Type 0} where
   lsas_step : (table : Table) (area : Option AreaId) (json : Json) (items : Items)
@@ -70,23 +70,20 @@ module _ {A : Type 0} where
       sym (append-nil before) ∙ ap (λ (y : List (Part A)). before ++ y) (sym (areas_nil table))
       ∙ ap (λ (ms : List (Bor (List ℕ) × Value A)). before ++ areas_in table (members_view ms)) (sym (drop_all i xs le)) ∙ h
 
-  pub types_joined : (json : Json) (first second third fourth fifth : List (Part A))
-      → first ≡ parsed_of (tables.Read types.Router) json → second ≡ first ++ parsed_of (tables.Read types.Network) json → third ≡ second ++ parsed_of (tables.Read types.Summary) json
-      → fourth ≡ third ++ parsed_of (tables.Read types.AsbrSummary) json → fifth ≡ fourth ++ parsed_of (tables.Read types.External) json → fifth ≡ read_in json
-  unfolding read_in
-  types_joined json first second third fourth fifth one two three four five =
-      five
-      ∙ ap (λ (x : List (Part A)). x ++ parsed_of (tables.Read types.External) json)
+  pub types_joined : (json : Json) (first second third fourth fifth sixth seventh eighth ninth : List (Part A))
+      → first ≡ parsed_of (tables.Read types.Router) json → second ≡ first ++ parsed_of (tables.Read types.Network) json
+      → third ≡ second ++ parsed_of (tables.Read types.Summary) json → fourth ≡ third ++ parsed_of (tables.Read types.AsbrSummary) json
+      → fifth ≡ fourth ++ parsed_of (tables.Read types.External) json → sixth ≡ fifth ++ parsed_of tables.Nssa json
+      → seventh ≡ sixth ++ parsed_of tables.LinkOpaque json → eighth ≡ seventh ++ parsed_of tables.AreaOpaque json
+      → ninth ≡ eighth ++ parsed_of tables.AsOpaque json → ninth ≡ tables_in json
+  unfolding tables_in
+  types_joined json first second third fourth fifth sixth seventh eighth ninth one two three four five six seven eight nine =
+      nine
+      ∙ ap (λ (x : List (Part A)). x ++ parsed_of tables.AsOpaque json)
+      (eight ∙ ap (λ (x : List (Part A)). x ++ parsed_of tables.AreaOpaque json)
+      (seven ∙ ap (λ (x : List (Part A)). x ++ parsed_of tables.LinkOpaque json)
+      (six ∙ ap (λ (x : List (Part A)). x ++ parsed_of tables.Nssa json)
+      (five ∙ ap (λ (x : List (Part A)). x ++ parsed_of (tables.Read types.External) json)
       (four ∙ ap (λ (x : List (Part A)). x ++ parsed_of (tables.Read types.AsbrSummary) json)
       (three ∙ ap (λ (x : List (Part A)). x ++ parsed_of (tables.Read types.Summary) json)
-      (two ∙ ap (λ (x : List (Part A)). x ++ parsed_of (tables.Read types.Network) json) one)))
-
-  pub others_joined : (json : Json) (first second third fourth : List (Part A))
-      → first ≡ parsed_of tables.Nssa json → second ≡ first ++ parsed_of tables.LinkOpaque json → third ≡ second ++ parsed_of tables.AreaOpaque json
-      → fourth ≡ third ++ parsed_of tables.AsOpaque json → fourth ≡ not_read_in json
-  unfolding not_read_in
-  others_joined json first second third fourth one two three four =
-      four
-      ∙ ap (λ (x : List (Part A)). x ++ parsed_of tables.AsOpaque json)
-      (three ∙ ap (λ (x : List (Part A)). x ++ parsed_of tables.AreaOpaque json)
-      (two ∙ ap (λ (x : List (Part A)). x ++ parsed_of tables.LinkOpaque json) one))
+      (two ∙ ap (λ (x : List (Part A)). x ++ parsed_of (tables.Read types.Network) json) one)))))))

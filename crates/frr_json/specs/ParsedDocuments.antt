@@ -78,16 +78,12 @@ module _ {A : Type 0} where
   abbrev pub parsed_of : Table → Json → List (Part A)
   parsed_of table json = found_parsed table (get (table_name table) json)
 
-  -- the LSAs of all databases of an object that are read, in the order of LS types
-  unfoldable pub read_in : Json → List (Part A)
-  read_in json =
+  -- the LSAs of all databases of an object, in the order of LS types
+  unfoldable pub tables_in : Json → List (Part A)
+  tables_in json =
       parsed_of (tables.Read types.Router) json ++ parsed_of (tables.Read types.Network) json ++ parsed_of (tables.Read types.Summary) json
-      ++ parsed_of (tables.Read types.AsbrSummary) json ++ parsed_of (tables.Read types.External) json
-
-  -- the LSAs of the others
-  unfoldable pub not_read_in : Json → List (Part A)
-  not_read_in json =
-      parsed_of tables.Nssa json ++ parsed_of tables.LinkOpaque json ++ parsed_of tables.AreaOpaque json ++ parsed_of tables.AsOpaque json
+      ++ parsed_of (tables.Read types.AsbrSummary) json ++ parsed_of (tables.Read types.External) json ++ parsed_of tables.Nssa json
+      ++ parsed_of tables.LinkOpaque json ++ parsed_of tables.AreaOpaque json ++ parsed_of tables.AsOpaque json
 
 -- the object has this database
 abbrev pub has_table : Table → Json → Bool
@@ -114,8 +110,8 @@ abbrev pub has_database : Json → Bool
 has_database json = has_tables (root_of json)
 
 -- what a document contains
-unfoldable pub parsed_in : {A : Type 0} → Json → List (Part A)
-parsed_in json = read_in (root_of json) ++ not_read_in (root_of json)
+abbrev pub parsed_in : {A : Type 0} → Json → List (Part A)
+parsed_in json = tables_in (root_of json)
 
 -- a text that can only be an object: its first word begins with a brace (123)
 abbrev pub begins_object : Word → Bool

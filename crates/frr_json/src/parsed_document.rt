@@ -5,7 +5,7 @@ ghost use Rattle.json.specs.Find.{as_object};
 ghost use Rattle.json.specs.Value.{value_view, items_view, members_view};
 ghost use Rattle.frr_text.specs.ParsedParts.{rebuilt};
 ghost use Rattle.frr_json.specs.Bodies.{body_in};
-ghost use Rattle.frr_json.specs.ParsedDocuments.{area_named, parsed_lsa, parsed_item, lsas_in, parsed_array, areas_in, parsed_areas, parsed_database, parsed_of, read_in, not_read_in, parsed_in, has_table, has_tables, only_member, root_of, has_database};
+ghost use Rattle.frr_json.specs.ParsedDocuments.{area_named, parsed_lsa, parsed_item, lsas_in, parsed_array, areas_in, parsed_areas, parsed_database, parsed_of, tables_in, parsed_in, has_table, has_tables, only_member, root_of, has_database};
 
 use crate::body::body_in;
 use crate::header::header_in;
@@ -184,48 +184,33 @@ fn with_table<A: Allocator + Copy>(
     }
 }
 
-/// The LSAs of all databases of an object that are read, in rising order of LS types.
-fn parse_read<A: Allocator + Copy>(
+/// The LSAs of all databases of an object, in rising order of LS types.
+fn parse_tables<A: Allocator + Copy>(
     alloc: A,
     json: &Value<'_, A>,
 ) -> Result<Vec<Part<A>, A>, AllocError>
-    ensures { IfOk result (λ parsed. parsed.items ≡ read_in (value_view json.now)) }
+    ensures { IfOk result (λ parsed. parsed.items ≡ tables_in (value_view json.now)) }
 {
     let parsed = with_table(alloc, Vec::new(alloc), Table::Read(LsType::Router), json)?;
     let parsed = with_table(alloc, parsed, Table::Read(LsType::Network), json)?;
     let parsed = with_table(alloc, parsed, Table::Read(LsType::Summary), json)?;
     let parsed = with_table(alloc, parsed, Table::Read(LsType::AsbrSummary), json)?;
     let parsed = with_table(alloc, parsed, Table::Read(LsType::External), json)?;
-    Ok(parsed)
-}
-
-/// The LSAs of all other databases of an object, in rising order of LS types.
-fn parse_not_read<A: Allocator + Copy>(
-    alloc: A,
-    json: &Value<'_, A>,
-) -> Result<Vec<Part<A>, A>, AllocError>
-    ensures { IfOk result (λ parsed. parsed.items ≡ not_read_in (value_view json.now)) }
-{
-    let parsed = with_table(alloc, Vec::new(alloc), Table::Nssa, json)?;
+    let parsed = with_table(alloc, parsed, Table::Nssa, json)?;
     let parsed = with_table(alloc, parsed, Table::LinkOpaque, json)?;
     let parsed = with_table(alloc, parsed, Table::AreaOpaque, json)?;
     let parsed = with_table(alloc, parsed, Table::AsOpaque, json)?;
     Ok(parsed)
 }
 
-/// What a document contains: the LSAs that are read, and after them the others, of which only the
-/// kind counts.
-#[tactic(auto, unfolding(crate::specs::ParsedDocuments::parsed_in))]
+/// What a document contains: the LSAs of each type, in rising order of LS types.
 pub(crate) fn parse_all<A: Allocator + Copy>(
     alloc: A,
     json: &Value<'_, A>,
 ) -> Result<Vec<Part<A>, A>, AllocError>
     ensures { IfOk result (λ parsed. parsed.items ≡ parsed_in (value_view json.now)) }
 {
-    let root = root_of(json);
-    let mut parsed = parse_read(alloc, root)?;
-    parsed.append(&mut parse_not_read(alloc, root)?)?;
-    Ok(parsed)
+    parse_tables(alloc, root_of(json))
 }
 
 /// Whether the object has this database.

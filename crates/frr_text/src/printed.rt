@@ -18,8 +18,8 @@ use std::alloc::{AllocError, Allocator};
 /// and line feeds only separate words.
 ///
 /// The LSAs are those that the printed fields make. Each has the very checksum and length that were
-/// printed, and none has a time stamp. Each heading of an area reports its kind. Rows of lists, which
-/// have no bodies, are counted.
+/// printed, and none has a time stamp. Each heading of an area reports its kind. Rows of lists,
+/// which have no bodies, are counted.
 ///
 /// # Errors
 ///

@@ -1,13 +1,13 @@
 //! Lines of findings, by where they are printed.
 
-ghost use Rattle.std.specs.Prelude.{◌≡◌, ◌++◌, OnOk};
+ghost use Rattle.std.specs.Prelude.{◌≡◌, ◌++◌, OnOk, false, true};
 ghost use Rattle.std.specs.List.{filter_map};
 ghost use Rattle.std.specs.String.{string_bytes};
 ghost use Rattle.findings.specs.Lines.{finding_lines};
-ghost use Rattle.findings.specs.Notices.{notice_of, warning_of};
+ghost use Rattle.findings.specs.Notices.{chosen};
 
 use crate::fault::ExitFault;
-use findings::{Finding, finding_lines, notices, warnings};
+use findings::{Finding, choose, finding_lines};
 use std::alloc::Global;
 
 /// The lines of findings: notices go to standard output, and change no status; warnings go to
@@ -38,15 +38,15 @@ impl Report {
     ) -> Result<(), ExitFault<'a>>
         ensures notices { OnOk result (string_bytes self.new.notices
             ≡ string_bytes self.old.notices
-            ++ finding_lines name.now (filter_map notice_of findings.now)) }
+            ++ finding_lines name.now (filter_map (chosen true) findings.now)) }
         ensures warnings { OnOk result (string_bytes self.new.warnings
             ≡ string_bytes self.old.warnings
-            ++ finding_lines name.now (filter_map warning_of findings.now)) }
+            ++ finding_lines name.now (filter_map (chosen false) findings.now)) }
     {
-        let notices = notices(alloc, findings)?;
+        let notices = choose(alloc, true, findings)?;
         let lines = finding_lines(alloc, name, &notices)?;
         self.notices.push_str(lines.as_str())?;
-        let warnings = warnings(alloc, findings)?;
+        let warnings = choose(alloc, false, findings)?;
         let lines = finding_lines(alloc, name, &warnings)?;
         self.warnings.push_str(lines.as_str())?;
         Ok(())
