@@ -69,10 +69,6 @@ is_same_feature feature other = feature_number feature == feature_number other
 
 -- ---- all findings
 
--- the finding of a number, unless that is 0
-abbrev pub unless_none : ℕ → Finding → List Finding
-unless_none count finding = if count == 0 then [] else finding ∷ []
-
 module _ {A : Type 0} where
   abbrev pub warning_of : Part A → Option FrameWarning
   warning_of (parts.Lsa observation) = None
@@ -129,15 +125,16 @@ module _ {A : Type 0} where
 
   -- the number of LSAs and rows whose fields cannot be read, unless it is 0
   abbrev pub unread : List (Part A) → List Finding
-  unread these = unless_none (count_by is_unreadable these) (Unreadable (count_by is_unreadable these))
+  unread these = if count_by is_unreadable these == 0 then [] else Unreadable (count_by is_unreadable these) ∷ []
 
   -- the number of LSAs that are not read, which this feature shows, unless it is 0
   abbrev pub not_read : Feature → List (Part A) → List Finding
-  not_read feature these = unless_none (count_by (is_not_read feature) these) (NotRead feature (count_by (is_not_read feature) these))
+  not_read feature these =
+      if count_by (is_not_read feature) these == 0 then [] else NotRead feature (count_by (is_not_read feature) these) ∷ []
 
   -- the number of rows of lists, unless it is 0
   abbrev pub listed : List (Part A) → List Finding
-  listed these = unless_none (count_by is_listed these) (Listed (count_by is_listed these))
+  listed these = if count_by is_listed these == 0 then [] else Listed (count_by is_listed these) ∷ []
 
   -- the numbers of what is not read
   unfoldable pub all_unread : List (Part A) → List Finding

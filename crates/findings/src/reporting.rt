@@ -1,8 +1,8 @@
 //! The findings of a file: warnings by their reasons, and what is reported one by one.
 
 ghost use Rattle.std.specs.Prelude.{◌≡◌, ◌++◌, IfOk, OnOk};
-ghost use Rattle.std.specs.List.{count_by, filter_map};
-ghost use Rattle.findings.specs.Reporting.{all_unread, counted, finding_of, findings_of, frame_findings, is_listed, is_not_read, is_unreadable, number_of, unless_none, warning_of};
+ghost use Rattle.std.specs.List.{filter_map};
+ghost use Rattle.findings.specs.Reporting.{all_unread, counted, finding_of, findings_of, frame_findings, is_listed, is_not_read, is_unreadable, listed, not_read, number_of, unread, warning_of};
 
 use crate::feature::{Feature, is_same_feature};
 use crate::finding::Finding;
@@ -158,26 +158,48 @@ fn single_findings<A: Allocator + Copy>(
         .collect(alloc)
 }
 
-/// The number of LSAs that are not read, which this feature shows.
-fn not_read_count<A: Allocator + Copy>(feature: Feature, parts: &[Part<A>]) -> usize
-    ensures { result ≡ count_by (is_not_read feature) parts.now }
+/// Adds the number of LSAs and rows whose fields cannot be read, unless it is 0.
+fn put_unread<A: Allocator + Copy>(
+    findings: &mut Vec<Finding, A>,
+    parts: &[Part<A>],
+) -> Result<(), AllocError>
+    ensures { OnOk result (findings.new.items ≡ findings.old.items ++ unread parts.now) }
 {
-    parts
-        .iter()
-        .filter(|part| is_not_read(feature, *part))
-        .count()
+    let count = parts.iter().filter(|part| is_unreadable(*part)).count();
+    if count != 0 {
+        findings.push(Finding::Unreadable(count))?;
+    }
+    Ok(())
 }
 
-/// Adds a finding of a number, unless that is 0.
-fn put_counted<A: Allocator + Copy>(
+/// Adds the number of LSAs that are not read, which this feature shows, unless it is 0.
+fn put_not_read<A: Allocator + Copy>(
     findings: &mut Vec<Finding, A>,
-    count: usize,
-    finding: Finding,
+    feature: Feature,
+    parts: &[Part<A>],
 ) -> Result<(), AllocError>
-    ensures { OnOk result (findings.new.items ≡ findings.old.items ++ unless_none count finding) }
+    ensures { OnOk result (findings.new.items ≡ findings.old.items ++ not_read feature parts.now) }
 {
+    let count = parts
+        .iter()
+        .filter(|part| is_not_read(feature, *part))
+        .count();
     if count != 0 {
-        findings.push(finding)?;
+        findings.push(Finding::NotRead(feature, count))?;
+    }
+    Ok(())
+}
+
+/// Adds the number of rows of lists, unless it is 0.
+fn put_listed<A: Allocator + Copy>(
+    findings: &mut Vec<Finding, A>,
+    parts: &[Part<A>],
+) -> Result<(), AllocError>
+    ensures { OnOk result (findings.new.items ≡ findings.old.items ++ listed parts.now) }
+{
+    let count = parts.iter().filter(|part| is_listed(*part)).count();
+    if count != 0 {
+        findings.push(Finding::Listed(count))?;
     }
     Ok(())
 }
@@ -191,14 +213,10 @@ fn put_all_unread<A: Allocator + Copy>(
 ) -> Result<(), AllocError>
     ensures { OnOk result (findings.new.items ≡ findings.old.items ++ all_unread parts.now) }
 {
-    let unread = parts.iter().filter(|part| is_unreadable(*part)).count();
-    put_counted(findings, unread, Finding::Unreadable(unread))?;
-    let nssa = not_read_count(Feature::Nssa, parts);
-    put_counted(findings, nssa, Finding::NotRead(Feature::Nssa, nssa))?;
-    let opaque = not_read_count(Feature::Opaque, parts);
-    put_counted(findings, opaque, Finding::NotRead(Feature::Opaque, opaque))?;
-    let listed = parts.iter().filter(|part| is_listed(*part)).count();
-    put_counted(findings, listed, Finding::Listed(listed))
+    put_unread(findings, parts)?;
+    put_not_read(findings, Feature::Nssa, parts)?;
+    put_not_read(findings, Feature::Opaque, parts)?;
+    put_listed(findings, parts)
 }
 
 /// The findings of a file with these parts.

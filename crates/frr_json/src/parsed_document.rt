@@ -5,7 +5,7 @@ ghost use Rattle.json.specs.Find.{as_object};
 ghost use Rattle.json.specs.Value.{value_view, items_view, members_view};
 ghost use Rattle.frr_text.specs.ParsedParts.{rebuilt};
 ghost use Rattle.frr_json.specs.Bodies.{body_in};
-ghost use Rattle.frr_json.specs.ParsedDocuments.{area_named, parsed_lsa, parsed_item, lsas_in, parsed_array, areas_in, parsed_areas, parsed_database, parsed_of, tables_in, parsed_in, has_table, has_tables, only_member, root_of, has_database};
+ghost use Rattle.frr_json.specs.ParsedDocuments.{area_named, parsed_lsa, parsed_item, lsas_in, parsed_array, areas_in, parsed_areas, parsed_of, tables_in, parsed_in, has_table, has_tables, only_member, root_of, has_database};
 
 use crate::body::body_in;
 use crate::header::header_in;
@@ -151,23 +151,6 @@ fn with_all_areas<A: Allocator + Copy>(
     }
 }
 
-/// What was read before, and after it the LSAs of a database.
-fn with_database<A: Allocator + Copy>(
-    alloc: A,
-    parsed: Vec<Part<A>, A>,
-    table: Table,
-    json: &Value<'_, A>,
-) -> Result<Vec<Part<A>, A>, AllocError>
-    ensures { IfOk result (λ all. all.items
-        ≡ parsed.items ++ parsed_database table (value_view json.now)) }
-{
-    if is_as_wide(table) {
-        with_array(alloc, parsed, table, None, json)
-    } else {
-        with_all_areas(alloc, parsed, table, json)
-    }
-}
-
 /// What was read before, and after it the LSAs of this database of an object.
 fn with_table<A: Allocator + Copy>(
     alloc: A,
@@ -179,8 +162,14 @@ fn with_table<A: Allocator + Copy>(
         ≡ parsed.items ++ parsed_of table (value_view json.now)) }
 {
     match json.get(table_name(table)) {
-        Some(database) => with_database(alloc, parsed, table, database),
         None => Ok(parsed),
+        Some(database) => {
+            if is_as_wide(table) {
+                with_array(alloc, parsed, table, None, database)
+            } else {
+                with_all_areas(alloc, parsed, table, database)
+            }
+        }
     }
 }
 
