@@ -96,14 +96,20 @@ has_tables json =
     || has_table (tables.Read types.AsbrSummary) json || has_table (tables.Read types.External) json || has_table tables.Nssa json
     || has_table tables.LinkOpaque json || has_table tables.AreaOpaque json || has_table tables.AsOpaque json
 
--- the value of the only member of an object, else all of it
-abbrev pub only_member : Json → Option Members → Json
-only_member json (Some (member name value no_members)) = value
-only_member json _ = json
+-- the value of the only member of an object
+unfoldable pub only_member : Option Members → Option Json
+only_member None = None
+only_member (Some no_members) = None
+only_member (Some (member name value no_members)) = Some value
+only_member (Some (member name value (member second other members))) = None
+
+abbrev pub value_or : Json → Option Json → Json
+value_or json None = json
+value_or json (Some value) = value
 
 -- what has the databases: the document, or, where it has none, its only member, under which those of a VRF stand
 abbrev pub root_of : Json → Json
-root_of json = if has_tables json then json else only_member json (as_object json)
+root_of json = if has_tables json then json else value_or json (only_member (as_object json))
 
 -- the document has a database
 abbrev pub has_database : Json → Bool

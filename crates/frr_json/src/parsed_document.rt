@@ -1,6 +1,6 @@
 //! What the parts of a document contain.
 
-ghost use Rattle.std.specs.Prelude.{◌≡◌, ◌++◌, IfOk};
+ghost use Rattle.std.specs.Prelude.{◌≡◌, ◌++◌, IfOk, option_map};
 ghost use Rattle.json.specs.Find.{as_object};
 ghost use Rattle.json.specs.Value.{value_view, items_view, members_view};
 ghost use Rattle.frr_text.specs.ParsedParts.{rebuilt};
@@ -224,14 +224,16 @@ fn has_tables<A: Allocator>(json: &Value<'_, A>) -> bool
         || has_table(Table::AsOpaque, json)
 }
 
-/// The value of the only member of an object, else all of it.
-fn only_member<'v, 'a, A: Allocator>(json: &'v Value<'a, A>) -> &'v Value<'a, A>
-    ensures { value_view result.now
-        ≡ only_member (value_view json.now) (as_object (value_view json.now)) }
+/// The value of the only member of an object.
+#[tactic(auto, unfolding(crate::specs::ParsedDocuments::only_member))]
+fn only_member<'v, 'a, A: Allocator>(json: &'v Value<'a, A>) -> Option<&'v Value<'a, A>>
+    ensures { option_map (λ value. value_view value.now) result
+        ≡ only_member (as_object (value_view json.now)) }
 {
-    match members_of(json) {
-        Some([(_name, value)]) => value,
-        _ => json,
+    let members = members_of(json)?;
+    match members {
+        [member] => Some(&member.1),
+        _ => None,
     }
 }
 
@@ -241,9 +243,11 @@ fn root_of<'v, 'a, A: Allocator>(json: &'v Value<'a, A>) -> &'v Value<'a, A>
     ensures { value_view result.now ≡ root_of (value_view json.now) }
 {
     if has_tables(json) {
-        json
-    } else {
-        only_member(json)
+        return json;
+    }
+    match only_member(json) {
+        Some(value) => value,
+        None => json,
     }
 }
 
