@@ -26,6 +26,14 @@ pub enum Finding {
     Unused(ReportedLsa, UnusedReason),
     /// This number of LSAs or rows is printed whose fields cannot be read.
     Unreadable(usize),
+    /// This number of LSAs is printed of types that are not read, which the planner leaves out.
+    NotRead(Feature, usize),
+    /// This number of rows is printed of a list of LSAs, which has no bodies.
+    Listed(usize),
+    /// The agent of a walk does not have the objects that were asked for (RFC 3416, 4.2.1).
+    NoSuchObject,
+    /// The file contains no LSA, no kind of an area and no header of an LSA.
+    Empty,
     /// The value of `ospfImportAsExtern` of the area is not one of the three kinds (RFC 4750).
     UnreadableKind(AreaId),
     /// An object's name has an unknown form, or its index does not fit its table (RFC 4750).
@@ -60,6 +68,10 @@ impl fmt::Display for Finding {
             Finding::Cut(offset) => write!(f, "Cut at {offset}"),
             Finding::Unused(lsa, reason) => write!(f, "{reason} {lsa}"),
             Finding::Unreadable(count) => write!(f, "Unreadable {count}"),
+            Finding::NotRead(feature, count) => write!(f, "{feature} {count}"),
+            Finding::Listed(count) => write!(f, "List {count} (use --against)"),
+            Finding::NoSuchObject => write!(f, "NoSuchObject"),
+            Finding::Empty => write!(f, "Empty"),
             Finding::UnreadableKind(area) => write!(f, "Kind area {area}"),
             Finding::UnreadableName => write!(f, "Name"),
             Finding::Nssa(area) => write!(f, "Nssa area {area}"),
