@@ -673,10 +673,10 @@ def named(files: list[Contents]) -> list[str]:
 
 
 def contradicted(files: list[Contents]) -> list[str]:
-    """The lines of the areas that files report both as stub areas and as others."""
+    """The lines of the areas that files report both as stub areas or not-so-stubby ones and as others."""
     kinds: dict[int, set[bool]] = collections.defaultdict(set)
     for area, kind in (kind for file in files for kind in file.kinds):
-        kinds[area].add(kind == "stub")
+        kinds[area].add(kind != "ordinary")
     return [f"database: BothKinds area {address(area)}" for area in sorted(kinds) if len(kinds[area]) == 2]
 
 
@@ -702,9 +702,26 @@ def ends_of(lsa: bytes, kinds: tuple[int, ...]) -> set[bytes]:
     return found
 
 
-def lacking(areas: dict[int, list[bytes]], as_wide: list[bytes]) -> list[str]:
-    """The lines of what a database lacks, as far as its LSAs show, and of what the planner leaves out of it."""
-    lines: list[str] = []
+def live_routers(lsas: list[bytes]) -> list[bytes]:
+    return [lsa for lsa in lsas if lsa[3] == 1 and not is_at_max_age(lsa)]
+
+
+def lacking_borders(areas: dict[int, list[bytes]]) -> list[str]:
+    """The lines of what a database lacks of area border routers, and of those whose router-LSA in the backbone has no
+    links."""
+    backbone = areas.get(0, [])
+    borders = {lsa[4:8] for lsas in areas.values() for lsa in live_routers(lsas) if lsa[20] & 1}
+    linked = {lsa[4:8] for area, lsas in areas.items() if area for lsa in live_routers(lsas) if lsa[22:24] != b"\0\0"}
+    unlinked = {lsa[4:8] for lsa in live_routers(backbone) if lsa[22:24] == b"\0\0"}
+    lines = ["database: Missing area 0.0.0.0"] if borders and 0 not in areas else []
+    lines += lacks_of(borders, {lsa[4:8] for lsa in backbone if lsa[3] == 1}, "abr")
+    return lines + [f"database: NoLinks area 0.0.0.0 router {address(router)}" for router in sorted(unlinked & linked)]
+
+
+def lacking(areas: dict[int, list[bytes]], stubs: set[int], as_wide: list[bytes]) -> list[str]:
+    """The lines of what a database with these stub areas lacks, as far as its LSAs show, and of what the planner leaves
+    out of it."""
+    lines = lacking_borders(areas)
     anywhere: set[bytes] = set()
     for area, lsas in sorted(areas.items()):
         live = [lsa for lsa in lsas if not is_at_max_age(lsa)]
@@ -718,7 +735,10 @@ def lacking(areas: dict[int, list[bytes]], as_wide: list[bytes]) -> list[str]:
         lines += lacks_of(networks, {lsa[4:8] for lsa in lsas if lsa[3] == 2}, f"area {address(area)} network")
         lines += left_out(lsas, f" area {address(area)}")
     asbrs = {lsa[8:12] for lsa in as_wide if lsa[3] == 5 and not is_at_max_age(lsa)}
-    return lines + lacks_of(asbrs, anywhere, "asbr") + left_out(as_wide, "")
+    speakers = {lsa[4:8] for area, lsas in areas.items() if area not in stubs for lsa in live_routers(lsas) if lsa[20] & 2}
+    lines += lacks_of(asbrs, anywhere, "asbr")
+    lines += lacks_of(speakers, {lsa[8:12] for lsa in as_wide if lsa[3] == 5}, "externals")
+    return lines + left_out(as_wide, "")
 
 
 def dump_of(files: list[Contents], keeps: bool = False) -> bytes:
@@ -733,7 +753,7 @@ def dump_of(files: list[Contents], keeps: bool = False) -> bytes:
         raise Refused("TooManyLsas")
     dump = b"OSWP\1" + bytes([len(areas)])
     for area in areas:
-        is_stub = area != 0 and (area, "stub") in kinds
+        is_stub = area != 0 and ((area, "stub") in kinds or (area, "nssa") in kinds)
         dump += area.to_bytes(4, "big") + bytes([is_stub]) + len(lsas[area]).to_bytes(2, "big") + b"".join(lsas[area])
     dump += len(lsas[None]).to_bytes(2, "big") + b"".join(lsas[None])
     if len(dump) > LONGEST_DUMP:

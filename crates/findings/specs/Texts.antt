@@ -86,5 +86,11 @@ finding_text (findings.Newer place) = codes "Newer " ++ place_text place
 finding_text (findings.MissingRouter area router) = codes "Missing area " ++ address_text area.0 ++ codes " router " ++ address_text router.0
 finding_text (findings.MissingNetwork area network) =
     codes "Missing area " ++ address_text area.0 ++ codes " network " ++ address_text network.0
+finding_text findings.MissingBackbone = codes "Missing area 0.0.0.0"
+finding_text (findings.MissingAbr router) = codes "Missing abr " ++ address_text router.0
 finding_text (findings.MissingAsbr router) = codes "Missing asbr " ++ address_text router.0
+finding_text (findings.MissingExternals router) = codes "Missing externals " ++ address_text router.0
+finding_text (findings.NoLinks router) = codes "NoLinks area 0.0.0.0 router " ++ address_text router.0
+finding_text (findings.Raised one) = codes "Raised " ++ reported_text one
+finding_text (findings.NotDue one) = codes "NotDue " ++ reported_text one
 finding_text (findings.LeftOut scope feature count) = feature_name feature ++ codes " " ++ scope_text scope ++ decimal count
