@@ -30,7 +30,7 @@ returns g c =
     } in
     let those = c.deref.ensures.value ∙ sym c.deref-2.ensures.value in
     let head =
-        subst (λ x. c.push_head.new.text.items ≡ text ++ head_text called (option_copied c.as_ref.result) x) those c.in_ok-push_head.ensures in
+    subst (λ x. c.push_head.new.text.items ≡ text ++ head_text called (option_copied c.as_ref.result) x) those c.in_ok-push_head.ensures in
     let is : e ≡ c.args.explanation.now = same ∙ c.explanation.view_is in
     on_ok_weaker c.push_lines-3.result
     (λ last. subst (λ (x : ExplanationValue). c.push_lines-3.new.text.items ≡ text ++ explanation_text called x) is
