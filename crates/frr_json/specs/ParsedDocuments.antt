@@ -101,7 +101,7 @@ unfoldable pub only_member : Option Members → Option Json
 only_member None = None
 only_member (Some no_members) = None
 only_member (Some (member name value no_members)) = Some value
-only_member (Some (member name value (member second other members))) = None
+only_member (Some (member name value (member second other others))) = None
 
 abbrev pub value_or : Json → Option Json → Json
 value_or json None = json

@@ -5,7 +5,7 @@ ghost use Rattle.json.specs.Find.{as_object};
 ghost use Rattle.json.specs.Value.{value_view, items_view, members_view};
 ghost use Rattle.frr_text.specs.ParsedParts.{rebuilt};
 ghost use Rattle.frr_json.specs.Bodies.{body_in};
-ghost use Rattle.frr_json.specs.ParsedDocuments.{area_named, parsed_lsa, parsed_item, lsas_in, parsed_array, areas_in, parsed_areas, parsed_of, tables_in, parsed_in, has_table, has_tables, only_member, root_of, has_database};
+ghost use Rattle.frr_json.specs.ParsedDocuments.{area_named, parsed_lsa, parsed_item, lsas_in, parsed_array, areas_in, parsed_areas, parsed_of, tables_in, parsed_in, has_table, has_tables, only_member, has_database};
 
 use crate::body::body_in;
 use crate::header::header_in;
@@ -192,16 +192,6 @@ fn parse_tables<A: Allocator + Copy>(
     Ok(parsed)
 }
 
-/// What a document contains: the LSAs of each type, in rising order of LS types.
-pub(crate) fn parse_all<A: Allocator + Copy>(
-    alloc: A,
-    json: &Value<'_, A>,
-) -> Result<Vec<Part<A>, A>, AllocError>
-    ensures { IfOk result (λ parsed. parsed.items ≡ parsed_in (value_view json.now)) }
-{
-    parse_tables(alloc, root_of(json))
-}
-
 /// Whether the object has this database.
 fn has_table<A: Allocator>(table: Table, json: &Value<'_, A>) -> bool
     ensures { result ≡ has_table table (value_view json.now) }
@@ -225,29 +215,32 @@ fn has_tables<A: Allocator>(json: &Value<'_, A>) -> bool
 }
 
 /// The value of the only member of an object.
-#[tactic(auto, unfolding(crate::specs::ParsedDocuments::only_member))]
+#[tactic(auto, using(crate::proofs::OnlyMember::not_one), unfolding(crate::specs::ParsedDocuments::only_member))]
 fn only_member<'v, 'a, A: Allocator>(json: &'v Value<'a, A>) -> Option<&'v Value<'a, A>>
     ensures { option_map (λ value. value_view value.now) result
         ≡ only_member (as_object (value_view json.now)) }
 {
     let members = members_of(json)?;
-    match members {
-        [member] => Some(&member.1),
-        _ => None,
+    if members.len() != 1 {
+        return None;
     }
+    Some(&members[0].1)
 }
 
-/// What has the databases: the document, or, where it has none, its only member. Under its name FRR
-/// prints the databases of a VRF.
-fn root_of<'v, 'a, A: Allocator>(json: &'v Value<'a, A>) -> &'v Value<'a, A>
-    ensures { value_view result.now ≡ root_of (value_view json.now) }
+/// What a document contains: the LSAs of each type, in rising order of LS types. Where it has no
+/// database, its only member may have them: under its name FRR prints the databases of a VRF.
+pub(crate) fn parse_all<A: Allocator + Copy>(
+    alloc: A,
+    json: &Value<'_, A>,
+) -> Result<Vec<Part<A>, A>, AllocError>
+    ensures { IfOk result (λ parsed. parsed.items ≡ parsed_in (value_view json.now)) }
 {
     if has_tables(json) {
-        return json;
+        return parse_tables(alloc, json);
     }
     match only_member(json) {
-        Some(value) => value,
-        None => json,
+        Some(value) => parse_tables(alloc, value),
+        None => parse_tables(alloc, json),
     }
 }
 
@@ -255,5 +248,11 @@ fn root_of<'v, 'a, A: Allocator>(json: &'v Value<'a, A>) -> &'v Value<'a, A>
 pub(crate) fn has_database<A: Allocator>(json: &Value<'_, A>) -> bool
     ensures { result ≡ has_database (value_view json.now) }
 {
-    has_tables(root_of(json))
+    if has_tables(json) {
+        return true;
+    }
+    match only_member(json) {
+        Some(value) => has_tables(value),
+        None => false,
+    }
 }
