@@ -4,3 +4,5 @@ pub mod Among
 pub mod OneAtom
 pub mod Search
 pub mod Parted
+pub mod LongestHere
+pub mod NoLoops
