@@ -1,12 +1,13 @@
 //! Costs of routes that fall along all ways: where they do, packets neither go round nor are
 //! dropped.
 
-ghost use Rattle.std.specs.Prelude.{◌≡◌, ◌<◌, All, MatchOption, Some};
+ghost use Rattle.std.specs.Prelude.{◌≡◌, ◌<◌, All, MatchOption, Some, true};
 ghost use Rattle.std.specs.Bool.{OnTrue};
+ghost use Rattle.std.specs.Option.{option_copied, option_map_or};
 ghost use Rattle.lsdb.specs.Lists.{Lists};
 ghost use Rattle.best_ways.specs.Routes.{AreSortedRoutes, route_to};
 ghost use Rattle.forwarding.specs.Matches.{longest_match};
-ghost use Rattle.loop_report.specs.steps.Falling.{AreCheaper, Falls, FallsOver, UsesRoute, cost_at};
+ghost use Rattle.loop_report.specs.steps.Falling.{AreCheaper, Falls, FallsOver, UsesRoute, begins_after, cost_at};
 ghost use Rattle.loop_report.specs.steps.Targets.{AreHopsOf};
 
 use crate::targets::RouterHops;
@@ -17,15 +18,17 @@ use next_hops::Hop;
 use std::alloc::Allocator;
 
 /// Whether a route is one to a prefix that begins after an address, if there is a route.
-fn is_after<A: Allocator + Copy>(route: Option<&Route<A>>, address: Addr) -> bool {
+fn is_after<A: Allocator + Copy>(route: Option<&Route<A>>, address: Addr) -> bool
+    ensures { result ≡ option_map_or (begins_after address) (option_copied route.entry) true }
+{
     match route {
         Some(route) => route.net.addr().0 > address.0,
         None => true,
     }
 }
 
-/// The route at an index, if it is the longest match of an address. It may be no longer prefix is
-/// there where nothing is returned: one that is missed costs time alone.
+/// The route at an index, if it is the longest match of an address. Where it is none, or a longer
+/// prefix of the address may follow, there is nothing: what is missed costs time alone.
 fn match_at<A: Allocator + Copy>(
     routes: &[Route<A>],
     index: usize,

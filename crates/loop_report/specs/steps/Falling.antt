@@ -1,5 +1,5 @@
 -- Costs of routes that fall along all ways: no walk comes back to where the cost was higher.
-use Rattle.std.specs.Prelude.{◌≡◌, ◌<◌, ℕ, All, List, [], Some}
+use Rattle.std.specs.Prelude.{◌≡◌, ◌<◌, ℕ, nat_lt, Bool, All, List, [], Some}
 use Rattle.std.specs.Option.{option_map_or}
 use Rattle.lsa_codec.specs.declared.address.Addr.{Addr}
 use Rattle.lsa_codec.specs.declared.address.RouterId.{RouterId}
@@ -10,6 +10,10 @@ use Rattle.best_ways.specs.Values.{RouteValue}
 use Rattle.forwarding.specs.Graphs.{routes_at}
 use Rattle.forwarding.specs.Matches.{RouterValue, longest_match}
 use Rattle.loop_report.specs.steps.Targets.{targets_of}
+
+-- a route to a prefix that begins after an address
+abbrev pub begins_after : Addr → RouteValue → Bool
+begins_after address route = nat_lt address.0 route.net.addr.0
 
 -- a router without external prefixes of its own uses this route for an address
 pub record UsesRoute (address : Addr) (r : RouterValue) (route : RouteValue) : Type 0 where
