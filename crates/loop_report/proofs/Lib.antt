@@ -5,4 +5,5 @@ pub mod OneAtom
 pub mod Search
 pub mod Parted
 pub mod LongestHere
+pub mod Sources
 pub mod NoLoops

@@ -1,14 +1,13 @@
--- The longest match of an address, by the route beside it in a table.
-use Rattle.std.proofs.Common.{◌≡◌, ℕ, zero, suc, ◌-◌, ◌^◌, ◌<◌, ◌≤◌, Bool, true, false, cond, List, [], ◌∷◌, Option, None, Some, refl, sym, ap, ◌∙◌, subst, arith, ⊎_elim}
+-- The longest match of an address, by the next route in a table.
+use Rattle.std.proofs.Common.{◌≡◌, ℕ, zero, suc, ◌-◌, ◌^◌, ◌<◌, ◌≤◌, Bool, true, false, cond, List, [], ◌∷◌, None, Some, refl, sym, ap, ◌∙◌, subst, arith}
 use Rattle.std.specs.Prelude.{is_some}
 use Rattle.std.specs.Cmp.{Equal-is, nat_cmp_is, ranked}
 use Rattle.std.specs.List.{AllByRecursion, slice_get}
 use Rattle.std.specs.List.Sorted.{IsStrictlySortedBy}
-use Rattle.std.specs.Option.{option_or}
 use Rattle.std.specs.Ordering.{eq_by_cmp, is_lt, nat_cmp, ordering_then}
 use Rattle.std.specs.declared.cmp.Ordering.{Ordering}
 use Rattle.std.specs.declared.cmp.Ordering.TheVariants.{Less, Equal, Greater}
-use Rattle.std.proofs.lemmas.Bool.{cases_eq, false≢true}
+use Rattle.std.proofs.lemmas.Bool.{false≢true}
 use Rattle.std.proofs.lemmas.Nat.Bits.{and_high_mask_twice}
 use Rattle.lsa_codec.specs.Order.{prefix_cmp}
 use Rattle.lsa_codec.specs.Prefix.{Net, masked}
@@ -17,7 +16,7 @@ use Rattle.lsa_codec.proofs.OrderLemmas.{prefix_exact}
 use Rattle.area_graph.proofs.MemberLemmas.{Some-same}
 use Rattle.best_ways.specs.Routes.{AreSortedRoutes, nets, route_to}
 use Rattle.best_ways.specs.Values.{RouteValue}
-use Rattle.forwarding.specs.Matches.{longest_match, longest_within}
+use Rattle.loop_report.specs.steps.Falling.{IsAfter, IsLongestRoute}
 use Rattle.loop_report.proofs.Covering.{covers_between}
 
 -- ---- prefixes in order
@@ -137,28 +136,14 @@ module _ (address : Addr) (q : Net) (low : q.addr.0 ≤ address.0) where
 
 -- ---- the longest match
 
-module _ {E : Type 0} (entry : Net → Option E) (address : Addr) where
-  within_some : (most len : ℕ) (e : E) → len ≤ most → entry (masked address len) ≡ Some e
-      → ((longer : ℕ) → len < longer → longer ≤ most → entry (masked address longer) ≡ None) → longest_within entry address most ≡ Some e
-  within_some zero len e le at none =
-      let same : len ≡ 0 = omega arith in
-      subst (λ (n : ℕ). entry (masked address n) ≡ Some e) same at
-  within_some (suc most) len e le at none =
-      ⊎_elim
-      (λ same. ap (λ (o : Option E). option_or o (longest_within entry address most))
-      (subst (λ (n : ℕ). entry (masked address n) ≡ Some e) same at))
-      (λ other. ap (λ (o : Option E). option_or o (longest_within entry address most)) (none (suc most) (omega arith) (omega arith))
-      ∙ within_some most len e (omega arith) at (λ longer lt le. none longer lt (omega arith)))
-      (cases_eq len (suc most))
-
 -- a route to a prefix that covers the address, before one to a prefix after the address
 pub longest_here : (xs : List RouteValue) (k : ℕ) (route : RouteValue) (address : Addr) → address.0 < 2 ^ 32 → AreSortedRoutes xs → slice_get xs k ≡ Some route
-    → masked address route.net.len ≡ route.net → route.net.len ≤ 32 → ((n : RouteValue) → slice_get xs (suc k) ≡ Some n → address.0 < n.net.addr.0)
-    → longest_match (route_to xs) address ≡ Some route
-unfolding longest_match
-longest_here xs k route address small s at covers short past =
-    within_some (route_to xs) address 32 route.net.len route short
-    (subst (λ (n : Net). route_to xs n ≡ Some route) (sym covers) (found_here xs k route s at))
-    (λ longer lt le.
-    (let below = below_longer address route.net.len longer small lt le in
-    none_here address (masked address longer) below.1 xs k route s at (subst (λ (n : Net). IsBefore n (masked address longer)) covers below.0) past))
+    → masked address route.net.len ≡ route.net → route.net.len ≤ 32 → IsAfter address (slice_get xs (suc k))
+    → IsLongestRoute xs address route
+longest_here xs k route address small s at covers short past = record {
+  short = short;
+  covers = subst (λ (n : Net). route_to xs n ≡ Some route) (sym covers) (found_here xs k route s at);
+  longest = λ longer lt le.
+      (let below = below_longer address route.net.len longer small lt le in
+      none_here address (masked address longer) below.1 xs k route s at (subst (λ (n : Net). IsBefore n (masked address longer)) covers below.0) past);
+}

@@ -3,23 +3,23 @@
 
 ghost use Rattle.std.specs.Prelude.{◌≡◌, ◌<◌, All, MatchOption, Some, true};
 ghost use Rattle.std.specs.Bool.{OnTrue};
-ghost use Rattle.std.specs.Option.{option_copied, option_map_or};
+ghost use Rattle.std.specs.Option.{option_copied};
 ghost use Rattle.lsdb.specs.Lists.{Lists};
-ghost use Rattle.best_ways.specs.Routes.{AreSortedRoutes, route_to};
-ghost use Rattle.forwarding.specs.Matches.{longest_match};
-ghost use Rattle.loop_report.specs.steps.Falling.{AreCheaper, Falls, FallsOver, UsesRoute, begins_after, cost_at};
+ghost use Rattle.best_ways.specs.Routes.{AreSortedRoutes};
+ghost use Rattle.loop_report.specs.steps.Falling.{AreCheaper, Falls, FallsOver, IsAfter, IsLongestRoute, NoneCovers, cost_at, cost_of, source_by, source_of};
 ghost use Rattle.loop_report.specs.steps.Targets.{AreHopsOf};
 
 use crate::targets::RouterHops;
-use best_ways::Route;
+use best_ways::{PathType, Route, Routes};
 use forwarding::{Forwarding, RouterRoutes};
 use lsa_codec::{Addr, Prefix, RouterId};
 use next_hops::Hop;
 use std::alloc::Allocator;
+use std::collections::BTreeSet;
 
 /// Whether a route is one to a prefix that begins after an address, if there is a route.
 fn is_after<A: Allocator + Copy>(route: Option<&Route<A>>, address: Addr) -> bool
-    ensures { result ≡ option_map_or (begins_after address) (option_copied route.entry) true }
+    ensures { OnTrue result (IsAfter address (option_copied route.entry)) }
 {
     match route {
         Some(route) => route.net.addr().0 > address.0,
@@ -35,8 +35,7 @@ fn match_at<A: Allocator + Copy>(
     address: Addr,
 ) -> Option<&Route<A>>
     requires { AreSortedRoutes routes.now }
-    ensures { MatchOption result ⊤
-        (λ route. longest_match (route_to routes.now) address ≡ Some route.now) }
+    ensures { MatchOption result ⊤ (λ route. IsLongestRoute routes.now address route.now) }
 {
     let route = routes.get(index)?;
     if Prefix::masked(address, route.net.len()) != route.net
@@ -57,19 +56,16 @@ fn place_of<A: Allocator + Copy>(routes: &[Route<A>], address: Addr) -> usize
     }
 }
 
-/// The route that a router uses for an address, if that is quick to find and it has no external
-/// prefixes of its own. It is looked for at an index of the table first, which then is its own.
+/// The route to the longest prefix that covers an address, if it is quick to find. It is looked for
+/// at an index of the table first, which then is its own.
 fn route_near<'r, A: Allocator + Copy>(
-    routes: &'r RouterRoutes<A>,
+    routes: &'r Routes<A>,
     near: &mut usize,
     address: Addr,
 ) -> Option<&'r Route<A>>
-    ensures { MatchOption result ⊤ (λ route. UsesRoute address routes.now route.now) }
+    ensures { MatchOption result ⊤ (λ route. IsLongestRoute routes.now address route.now) }
 {
-    if !routes.own().is_empty() {
-        return None;
-    }
-    let table = routes.routes().as_slice();
+    let table = routes.as_slice();
     if let Some(route) = match_at(table, *near, address) {
         return Some(route);
     }
@@ -77,7 +73,87 @@ fn route_near<'r, A: Allocator + Copy>(
     match_at(table, *near, address)
 }
 
-/// Whether the route of a router for an address costs less than this.
+/// Whether no prefix of a set that covers an address has this length or a greater one.
+fn none_covers<A: Allocator + Copy>(
+    nets: &BTreeSet<Prefix, A>,
+    address: Addr,
+    least: u8,
+) -> bool
+    ensures { OnTrue result (NoneCovers nets.now.keys address least) }
+{
+    if nets.is_empty() {
+        return true;
+    }
+    for len in least..33 {
+        if nets.contains(&Prefix::masked(address, len)) {
+            return false;
+        }
+    }
+    true
+}
+
+/// What a router uses for an external prefix of its own, if the route to it is none within an area:
+/// its own source. A network of the router itself would come first.
+fn own_source<A: Allocator + Copy>(route: Option<&Route<A>>) -> Option<Option<&Route<A>>>
+    ensures { MatchOption result ⊤
+        (λ source. source_by true (option_copied route.entry) ≡ Some (option_copied source)) }
+{
+    match route {
+        Some(route) if route.kind == PathType::Intra => None,
+        _ => Some(None),
+    }
+}
+
+/// What a router uses for an address, if it has a match and it is known which comes first.
+fn source_of<A: Allocator + Copy>(
+    routes: &RouterRoutes<A>,
+    address: Addr,
+) -> Option<Option<&Route<A>>>
+    ensures { MatchOption result ⊤
+        (λ source. source_of routes.now address ≡ Some (option_copied source)) }
+{
+    for shorter in 0..33 {
+        let net = Prefix::masked(address, 32 - shorter);
+        let route = routes.routes().route_to(net);
+        if routes.own().contains(&net) {
+            return own_source(route);
+        }
+        if route.is_some() {
+            return Some(route);
+        }
+    }
+    None
+}
+
+/// What a router uses for an address, if it has a match and it is known which comes first. A route
+/// is looked for near an index of the table first.
+fn source_near<'r, A: Allocator + Copy>(
+    routes: &'r RouterRoutes<A>,
+    near: &mut usize,
+    address: Addr,
+) -> Option<Option<&'r Route<A>>>
+    ensures { MatchOption result ⊤
+        (λ source. source_of routes.now address ≡ Some (option_copied source)) }
+{
+    if let Some(route) = route_near(routes.routes(), near, address) {
+        if none_covers(routes.own(), address, route.net.len()) {
+            return Some(Some(route));
+        }
+    }
+    source_of(routes, address)
+}
+
+/// The cost of a route. A source of a router's own costs nothing.
+fn cost_of<A: Allocator + Copy>(source: Option<&Route<A>>) -> u64
+    ensures { result ≡ cost_of (option_copied source.entry) }
+{
+    match source {
+        Some(route) => route.cost,
+        None => 0,
+    }
+}
+
+/// Whether what a router uses for an address costs less than this.
 fn is_cheaper<A: Allocator + Copy>(
     forwarding: &Forwarding<A>,
     near: &mut usize,
@@ -90,13 +166,13 @@ fn is_cheaper<A: Allocator + Copy>(
     let Some(routes) = forwarding.routes_of(router) else {
         return false;
     };
-    match route_near(routes, near, address) {
-        Some(route) => route.cost < cost,
+    match source_near(routes, near, address) {
+        Some(source) => cost_of(source) < cost,
         None => false,
     }
 }
 
-/// Whether the routes of some routers for an address cost less than this.
+/// Whether what some routers use for an address costs less than this.
 fn are_cheaper<A: Allocator + Copy>(
     forwarding: &Forwarding<A>,
     near: &mut usize,
@@ -114,7 +190,8 @@ fn are_cheaper<A: Allocator + Copy>(
     true
 }
 
-/// Whether the costs of the routes for an address fall over a next hop of a router.
+/// Whether a next hop of a router leads to one router at most, and what that one uses for an address
+/// costs less than this.
 fn falls_over<A: Allocator + Copy>(
     forwarding: &Forwarding<A>,
     known: &RouterHops<A>,
@@ -129,13 +206,15 @@ fn falls_over<A: Allocator + Copy>(
     match hop {
         Hop::Connected | Hop::Attached(_) => true,
         Hop::Link(_) | Hop::Gateway(_, _) => match known.targets(hop) {
-            Some(targets) => are_cheaper(forwarding, near, address, cost, targets),
+            Some(targets) => {
+                targets.len() <= 1 && are_cheaper(forwarding, near, address, cost, targets)
+            }
             None => false,
         },
     }
 }
 
-/// Whether the costs of the routes for an address fall over all these next hops of a router.
+/// Whether the costs fall over all these next hops of a router.
 fn falls_over_all<A: Allocator + Copy>(
     forwarding: &Forwarding<A>,
     known: &RouterHops<A>,
@@ -155,7 +234,7 @@ fn falls_over_all<A: Allocator + Copy>(
     true
 }
 
-/// Whether a router uses a route for an address, and the costs fall over all its next hops.
+/// Whether a router has a match of an address, and the costs fall over all its next hops.
 fn falls<A: Allocator + Copy>(
     forwarding: &Forwarding<A>,
     known: &RouterHops<A>,
@@ -169,22 +248,19 @@ fn falls<A: Allocator + Copy>(
     if known.router() != routes.router() {
         return false;
     }
-    let Some(route) = route_near(routes, near, address) else {
-        return false;
-    };
-    falls_over_all(
-        forwarding,
-        known,
-        near,
-        address,
-        route.cost,
-        route.hops.as_slice(),
-    )
+    match source_near(routes, near, address) {
+        Some(Some(route)) => {
+            let hops = route.hops.as_slice();
+            falls_over_all(forwarding, known, near, address, route.cost, hops)
+        }
+        Some(None) => true,
+        None => false,
+    }
 }
 
-/// Whether all routers use routes for an address, and the costs fall along all ways: then no walk
-/// in the forwarding graph comes back, and no router drops the packets. It may also return no where
-/// this holds, as where a router has external prefixes of its own. It takes no memory.
+/// Whether all routers have a match of an address, and the costs fall along all ways: then no walk
+/// in the forwarding graph comes back, and no router drops the packets. A next hop that leads to two
+/// routers or more counts as one over which they do not fall. It takes no memory.
 pub(crate) fn costs_fall<A: Allocator + Copy>(
     forwarding: &Forwarding<A>,
     hops: &[RouterHops<A>],
