@@ -55,9 +55,9 @@ module _ (next : RouterId → List RouterId) (rank : RouterId → ℕ) (fall : (
   no_loops : (routers : List RouterId) → AreAllLoops next routers []
   no_loops routers = record {
     loops = record {
-      each = All-nil;
+      each = All-nil _;
       all = λ router loop among from.
-          absurd (no_cycle router (from.loop_of.members router).0 (first_contained loop router from.least)).0);
+          absurd (no_cycle router ((from.loop_of.members router).0 (first_contained loop router from.least)).0);
       order = λ i j d lt within. absurd (omega (arith, lt, within));
     };
     members = λ router. (λ found. absurd (In-from_Contains [] found.0 found.1), λ cycle. absurd (no_cycle router cycle));
@@ -71,7 +71,7 @@ via_target hop (x ∷ xs) way w (inl is) over = inl (Some-same (ap router_over i
 via_target hop (x ∷ xs) way w (inr i) over = inr (via_target hop xs way w i over)
 
 owner_target : (hop : Hop) (routers : List RouterId) (way : Way) (w : RouterId) → In (ways_to_owners hop routers) way → router_over way ≡ Some w → In routers w
-owner_target hop [] way w (inl is) over = absurd (cc)
+owner_target hop [] way w (inl is) over = absurd (false≢true (ap (λ (o : Option RouterId). option_map_or (λ r. true) o false) (ap router_over is ∙ over)))
 owner_target hop [] way w (inr i) over = absurd i
 owner_target hop (x ∷ xs) way w i over = via_target hop (x ∷ xs) way w i over
 
@@ -120,7 +120,7 @@ module _ (db : Lists) (address : Addr) where
       by true same at rest = (
         inl (Some-same at),
         sym (router_exact router x.router ((Equal-is (router_cmp router x.router)).0 same)
-        ∙ ap (λ (v : RouterValue). v.router) (Some-same at)),
+            ∙ ap (λ (v : RouterValue). v.router) (Some-same at)),
       )
       by false same at rest = (let more = rest at in (inr more.0, more.1))
 

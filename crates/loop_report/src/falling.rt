@@ -1,7 +1,7 @@
 //! Costs of routes that fall along all ways: where they do, packets neither go round nor are
 //! dropped.
 
-ghost use Rattle.std.specs.Prelude.{◌≡◌, ◌<◌, All, MatchOption, Some, true};
+ghost use Rattle.std.specs.Prelude.{◌≡◌, ◌<◌, All, MatchOption, Some, true, ⊤};
 ghost use Rattle.std.specs.Bool.{OnTrue};
 ghost use Rattle.std.specs.Option.{option_copied};
 ghost use Rattle.lsdb.specs.Lists.{Lists};
@@ -74,11 +74,7 @@ fn route_near<'r, A: Allocator + Copy>(
 }
 
 /// Whether no prefix of a set that covers an address has this length or a greater one.
-fn none_covers<A: Allocator + Copy>(
-    nets: &BTreeSet<Prefix, A>,
-    address: Addr,
-    least: u8,
-) -> bool
+fn none_covers<A: Allocator + Copy>(nets: &BTreeSet<Prefix, A>, address: Addr, least: u8) -> bool
     ensures { OnTrue result (NoneCovers nets.now.keys address least) }
 {
     if nets.is_empty() {
@@ -190,8 +186,8 @@ fn are_cheaper<A: Allocator + Copy>(
     true
 }
 
-/// Whether a next hop of a router leads to one router at most, and what that one uses for an address
-/// costs less than this.
+/// Whether a next hop of a router leads to one router at most, and what that one uses for an
+/// address costs less than this.
 fn falls_over<A: Allocator + Copy>(
     forwarding: &Forwarding<A>,
     known: &RouterHops<A>,
@@ -259,8 +255,8 @@ fn falls<A: Allocator + Copy>(
 }
 
 /// Whether all routers have a match of an address, and the costs fall along all ways: then no walk
-/// in the forwarding graph comes back, and no router drops the packets. A next hop that leads to two
-/// routers or more counts as one over which they do not fall. It takes no memory.
+/// in the forwarding graph comes back, and no router drops the packets. A next hop that leads to
+/// two routers or more counts as one over which they do not fall. It takes no memory.
 pub(crate) fn costs_fall<A: Allocator + Copy>(
     forwarding: &Forwarding<A>,
     hops: &[RouterHops<A>],

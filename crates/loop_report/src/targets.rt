@@ -1,6 +1,6 @@
 //! The routers that next hops lead to, worked out once for each router.
 
-ghost use Rattle.std.specs.Prelude.{◌≡◌, ◌++◌, ◌∷◌, [], All, IfOk, MatchOption};
+ghost use Rattle.std.specs.Prelude.{◌≡◌, ◌++◌, ◌∷◌, [], All, IfOk, MatchOption, ⊤};
 ghost use Rattle.std.specs.Bool.{OnTrue};
 ghost use Rattle.lsdb.specs.Lists.{Lists};
 ghost use Rattle.forwarding.specs.Owners.{AreGraphsOf};

@@ -1,5 +1,5 @@
 -- Costs of routes that fall along all ways: no walk comes back to where the cost was higher.
-use Rattle.std.specs.Prelude.{◌≡◌, ◌<◌, ◌≤◌, ℕ, Bool, ◌&&◌, not, false, if◌then◌else◌, All, List, length, Option, None, Some}
+use Rattle.std.specs.Prelude.{◌≡◌, ◌<◌, ◌≤◌, ℕ, Bool, ◌&&◌, not, false, if◌then◌else◌, All, List, length, Option, None, Some, ⊤}
 use Rattle.std.specs.Option.{option_map, option_map_or}
 use Rattle.lsa_codec.specs.Prefix.{Net, masked}
 use Rattle.lsa_codec.specs.declared.address.Addr.{Addr}
