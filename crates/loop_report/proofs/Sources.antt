@@ -104,3 +104,12 @@ module _ (db : Lists) (r : RouterValue) (address : Addr) where
       → (m : MatchValue) × (match_of db r address ≡ Some m) × (m.ways ≡ source_ways db r.router source)
   match_used source uses =
       alike_some db r.router source (match_of db r address) (subst (λ (o : Option (Option RouteValue)). AreAlike db r.router o (match_of db r address)) uses alike_match)
+
+-- what is read of a router for a prefix
+pub source_read : (r : RouterValue) (net at : Net) (own : List Net) (routes : List RouteValue) (b : Bool) (o : Option RouteValue)
+    → net ≡ at → own ≡ r.own → routes ≡ r.routes → b ≡ has_net own net → o ≡ route_to routes net → source_by b o ≡ source_for r at
+source_read r net at own routes b o same own_is routes_are is_own route =
+    ap (λ (c : Bool). source_by c o) is_own ∙ ap (λ (q : Option RouteValue). source_by (has_net own net) q) route
+    ∙ ap (λ (l : List Net). source_by (has_net l net) (route_to routes net)) own_is
+    ∙ ap (λ (l : List RouteValue). source_by (has_net r.own net) (route_to l net)) routes_are
+    ∙ ap (λ (n : Net). source_for r n) same
