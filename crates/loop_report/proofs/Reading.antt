@@ -1,11 +1,14 @@
 -- What tests and lookups of the code say.
-use Rattle.std.proofs.Common.{◌≡◌, ◌∙◌, ℕ, Bool, true, false, Bor, List, Option, None, Some, get_or, length, ltb, refl, sym, ap, arith}
-use Rattle.std.specs.Prelude.{◌==◌, ◌&&◌, IfSome, MatchOption, is_some, not, slice_get, ⊤}
-use Rattle.std.specs.Option.{option_copied, option_map}
-use Rattle.std.proofs.lemmas.Bool.{false≢true}
+use Rattle.std.proofs.Common.{◌≡◌, ◌∙◌, ℕ, Bool, true, false, Bor, IfSome, List, Option, None, Some, length, refl, sym, ap, arith}
+use Rattle.std.specs.Prelude.{◌==◌, ◌&&◌, MatchOption, not, ⊤}
+use Rattle.std.specs.List.{slice_get}
+use Rattle.std.specs.Option.{is_some, option_copied, option_map}
+use Rattle.std.proofs.lemmas.Bool.{eqb-true, false≢true, ltb-false, ltb-true}
 use Rattle.std.proofs.lemmas.Option.{slice_get_past, slice_get_read}
 use Rattle.lsa_codec.specs.Prefix.{Net}
 use Rattle.lsa_codec.specs.declared.address.RouterId.{RouterId}
+use lib.Dec.{ltb}
+use lib.ListN.{get_or}
 
 pub same_net : (x y : Net) (ne : Bool) → ne ≡ not ((x.addr.0 == y.addr.0) && (x.len == y.len)) → ne ≡ false → x ≡ y
 same_net x y ne is no = by (x.addr.0 == y.addr.0) (x.len == y.len) refl refl (sym is ∙ no)
