@@ -54,10 +54,10 @@ not_itself x q before same =
     omega (arith, more, len)
 
 is_other : (q n : Net) → ¬ (q ≡ n) → eq_by_cmp prefix_cmp q n ≡ false
-is_other q n no = by (eq_by_cmp prefix_cmp q n) refl
+is_other q n differ = by (eq_by_cmp prefix_cmp q n) refl
   where
     by : (b : Bool) → eq_by_cmp prefix_cmp q n ≡ b → b ≡ false
-    by true is = absurd (no (prefix_exact q n ((Equal-is (prefix_cmp q n)).0 is)))
+    by true is = absurd (differ (prefix_exact q n ((Equal-is (prefix_cmp q n)).0 is)))
     by false is = refl
 
 is_same : (n : Net) → eq_by_cmp prefix_cmp n n ≡ true
@@ -80,7 +80,7 @@ below_longer address len longer small lt short =
 -- ---- in a table
 
 skip : (q : Net) (x : RouteValue) (xs : List RouteValue) → ¬ (q ≡ x.net) → route_to (x ∷ xs) q ≡ route_to xs q
-skip q x xs no = ap (λ (b : Bool). cond b (Some x) (route_to xs q)) (is_other q x.net no)
+skip q x xs differ = ap (λ (b : Bool). cond b (Some x) (route_to xs q)) (is_other q x.net differ)
 
 all_at : (P : Net → Type 0) (xs : List RouteValue) (k : ℕ) (route : RouteValue) → AllByRecursion P (nets xs) → slice_get xs k ≡ Some route → P route.net
 all_at P [] k route all at = absurd (false≢true (ap is_some at))

@@ -11,7 +11,7 @@ use lib.Dec.{ltb}
 use lib.ListN.{get_or}
 
 pub same_net : (x y : Net) (ne : Bool) → ne ≡ not ((x.addr.0 == y.addr.0) && (x.len == y.len)) → ne ≡ false → x ≡ y
-same_net x y ne is no = by (x.addr.0 == y.addr.0) (x.len == y.len) refl refl (sym is ∙ no)
+same_net x y ne is equal = by (x.addr.0 == y.addr.0) (x.len == y.len) refl refl (sym is ∙ equal)
   where
     by : (a b : Bool) → (x.addr.0 == y.addr.0) ≡ a → (x.len == y.len) ≡ b → not (a && b) ≡ false → x ≡ y
     by true true first second h =
@@ -21,7 +21,7 @@ same_net x y ne is no = by (x.addr.0 == y.addr.0) (x.len == y.len) refl refl (sy
     by false b first second h = absurd (false≢true (sym h))
 
 pub same_router : (x y : RouterId) (ne : Bool) → ne ≡ not (x.0 == y.0) → ne ≡ false → x ≡ y
-same_router x y ne is no = by (x.0 == y.0) refl (sym is ∙ no)
+same_router x y ne is equal = by (x.0 == y.0) refl (sym is ∙ equal)
   where
     by : (a : Bool) → (x.0 == y.0) ≡ a → not a ≡ false → x ≡ y
     by true same h = ap (λ (n : ℕ). let router : RouterId = record { 0 = n } in router) (eqb-true x.0 y.0 same)
