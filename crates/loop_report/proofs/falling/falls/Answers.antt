@@ -19,7 +19,7 @@ returns-in-Some-Some g c =
     let same = sym c.router.ensures ∙ same_router c.router.result c.router-2.result c.ne.result c.ne.ensures c.if-ne.false ∙ c.router-2.ensures in
     record {
       source = Some c.in-Some-Some.route.now;
-      uses = c.in-Some-Some.ensures ∙ ap (λ (o : Option (Bor RouteValue)). Some (option_copied o)) c.in-Some-Some.is;
+      uses = c.in-Some-Some.ensures ∙ ap (λ (o : Option (Bor RouteValue)). Some (option_copied o)) c.in-Some-Some.field-0-is;
       along = subst (λ (r : RouteValue). All (FallsOver routers address db router r.cost) r.hops) c.route.view_is
           (subst (λ (v : RouterId). All (FallsOver routers address db v c.route.inside.cost) c.route.inside.hops) same
           (subst (λ (hops : List Hop). All (FallsOver routers address db known c.route.inside.cost) hops) c.as_slice-hops.ensures.hops
