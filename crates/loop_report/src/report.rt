@@ -77,7 +77,11 @@ impl<A: Allocator + Copy> LoopReport<A> {
     }
 
     /// The loops and new blackholes of the addresses of an atom.
-    fn at_atom(alloc: A, compared: &Compared<'_, A>, net: Prefix) -> Result<LoopReport<A>, AllocError>
+    fn at_atom(
+        alloc: A,
+        compared: &Compared<'_, A>,
+        net: Prefix,
+    ) -> Result<LoopReport<A>, AllocError>
         ensures loops { IfOk result (λ report. (was is : Lists) → IsComparedOf was is compared.now
             → IsAtAtom AreLoopsNow was is net report.loops) }
         ensures blackholes { IfOk result
