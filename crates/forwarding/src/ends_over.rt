@@ -55,14 +55,15 @@ impl<'a, A: Allocator + Copy> AreaGraphs<'a, A> {
     /// # Errors
     ///
     /// Memory ran out.
-    pub fn ends_over(
+    pub(crate) fn ends_over(
         &self,
         alloc: A,
         router: RouterId,
         net: Prefix,
         interface: Addr,
     ) -> Result<Vec<RouterId, A>, AllocError>
-        ensures { IfOk result (λ ends. (db : Lists) → AreGraphsOf db self.now
+        ensures { IfOk result (λ ends.
+            (db : Lists) → AreGraphsOf db self.now
             → ends.items ≡ ends_over db router net interface) }
     {
         let ends = self.far_ends(alloc, router, interface)?;
