@@ -30,7 +30,7 @@ summary 10.9.0.0/16 by=1.1.1.1 cost=5
 summary 10.9.0.0/16 by=2.2.2.2 cost=5";
 
 /// 1.1.1.1 reaches 2.2.2.2 and 3.3.3.3 over one interface, and 4.4.4.4 over both at the same cost.
-const HUB: &str = "area 0.0.0.0
+pub(super) const HUB: &str = "area 0.0.0.0
 router 1.1.1.1: point-to-point 2.2.2.2 data=10.0.0.1 cost=10, \
 point-to-point 3.3.3.3 data=10.0.0.1 cost=10
 router 2.2.2.2: point-to-point 1.1.1.1 data=10.0.0.2 cost=10, \
