@@ -77,10 +77,10 @@ impl<'d, 'a> CallOn<'a, Lent<'d, 'a>> for Call {
         failing: &'a FailingAlloc,
         lent: &mut Lent<'d, 'a>,
     ) -> Result<Answer, Fail> {
-        let (database, routes) = (lent.database, &lent.routes);
+        let routes = &lent.routes;
         match self {
             Call::ForRouter => {
-                let graphs = AreaGraphs::for_routers(failing, database, &[ROUTER]);
+                let graphs = AreaGraphs::for_routers(failing, lent.database, &[ROUTER]);
                 of_graphs(alloc, failing, routes, graphs)
             }
             Call::Match => of_match(alloc, routes.match_of(failing, &lent.graphs, ADDRESS)),
