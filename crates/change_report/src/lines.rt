@@ -21,7 +21,7 @@ use std::alloc::{AllocError, Allocator};
 fn route_at<A: Allocator + Copy>(
     alloc: A,
     database: &Database<A>,
-    forwarding: &Forwarding<A>,
+    forwarding: &Forwarding<'_, A>,
     router: RouterId,
     net: Prefix,
 ) -> Result<Option<RouteLine<A>>, AllocError>
@@ -38,7 +38,7 @@ fn route_at<A: Allocator + Copy>(
 fn route_for<A: Allocator + Copy>(
     alloc: A,
     database: &Database<A>,
-    forwarding: &Forwarding<A>,
+    forwarding: &Forwarding<'_, A>,
     router: RouterId,
     net: Option<Prefix>,
 ) -> Result<Option<RouteLine<A>>, AllocError>

@@ -20,8 +20,8 @@ use std::marker::Model;
 pub struct Comparison<'a, A: Allocator = Global> {
     baseline: &'a Database<A>,
     present: &'a Database<A>,
-    were: Forwarding<A>,
-    are: Forwarding<A>,
+    were: Forwarding<'a, A>,
+    are: Forwarding<'a, A>,
     was_announced: Announced<A>,
     is_announced: Announced<A>,
 }
@@ -86,14 +86,14 @@ impl<'a, A: Allocator + Copy> Comparison<'a, A> {
     }
 
     /// Where packets went in the baseline.
-    pub fn were(&self) -> &Forwarding<A>
+    pub fn were(&self) -> &Forwarding<'a, A>
         ensures { IsForwardingOf self.now.baseline result.now }
     {
         &self.were
     }
 
     /// Where packets go.
-    pub fn are(&self) -> &Forwarding<A>
+    pub fn are(&self) -> &Forwarding<'a, A>
         ensures { IsForwardingOf self.now.present result.now }
     {
         &self.are

@@ -17,7 +17,7 @@ use std::alloc::{AllocError, Allocator};
 /// The routers that a next hop of a router leads to, in order.
 fn routers_by<A: Allocator + Copy>(
     alloc: A,
-    graphs: &AreaGraphs<A>,
+    graphs: &AreaGraphs<'_, A>,
     router: RouterId,
     hop: Hop,
 ) -> Result<Vec<RouterId, A>, AllocError>

@@ -16,7 +16,7 @@ use Rattle.area_graph.specs.Graphs.{FaultMeans, IsGraphOf}
 use Rattle.area_graph.specs.Topology.{Topology}
 use Rattle.area_graph.proofs.MemberLemmas.{Some-same}
 use Rattle.routing_table.specs.AreaLsas.{lsas_in}
-use Rattle.forwarding.specs.Owners.{AreGraphsOf}
+use Rattle.forwarding.specs.Owners.{AreAreaGraphs}
 
 -- an item of a list with one more at the end
 pushed_at : {X : Type 0} (xs : List X) (x y : X) (k : ℕ) → slice_get (xs ++ x ∷ []) k ≡ Some y
@@ -48,7 +48,7 @@ module _ (db : Lists) where
         (pushed_at graphs g graph k at_graph);
   }
 
-  pub first_all : (i : ℕ) (graphs : List Topology) → AreFirst db i graphs → i ≡ length (areas_of db) → AreGraphsOf db graphs
+  pub first_all : (i : ℕ) (graphs : List Topology) → AreFirst db i graphs → i ≡ length (areas_of db) → AreAreaGraphs db graphs
   first_all i graphs first is = record { sized = first.sized ∙ is; each = first.each }
 
   abbrev no_area : AreaHead
@@ -60,7 +60,7 @@ module _ (db : Lists) where
     pub at : slice_get (areas_of db) i ≡ Some area
     pub graph_of : IsGraphOf (lsas_in db area) graph
 
-  pub graph_at : (graphs : List Topology) → AreGraphsOf db graphs → (i : ℕ) → i < length graphs → (g : Topology) → g ≡ get_or graphs i g → IsGraphAt i g
+  pub graph_at : (graphs : List Topology) → AreAreaGraphs db graphs → (i : ℕ) → i < length graphs → (g : Topology) → g ≡ get_or graphs i g → IsGraphAt i g
   graph_at graphs are i lt g is =
       let sized : length graphs ≡ length (areas_of db) = are.sized in
       let at : slice_get (areas_of db) i ≡ Some (get_or (areas_of db) i no_area) = slice_get-get_or (areas_of db) i no_area (omega arith) in

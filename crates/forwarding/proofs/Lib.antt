@@ -2,6 +2,7 @@ pub mod RisingMembers
 pub mod Taken
 pub mod FirstGraphs
 pub mod FarEnds
+pub mod FewEnds
 pub mod OwnersOver
 pub mod LongestMatch
 pub mod Sorted

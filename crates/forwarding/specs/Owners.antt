@@ -68,8 +68,18 @@ owners db router interface address = rising router_cmp (flat_map (owners_in db r
 
 -- ---- graphs
 
+-- a database beside the graphs of its areas
+pub record GraphsValue : Type 0 where
+  pub db : Lists
+  pub graphs : List Topology
+
 -- these are the graphs of all areas, in order of area
-pub record AreGraphsOf (db : Lists) (graphs : List Topology) : Type 0 where
+pub record AreAreaGraphs (db : Lists) (graphs : List Topology) : Type 0 where
   pub sized : length graphs ≡ length (areas_of db)
   pub each : (i : ℕ) (area : AreaHead) (graph : Topology) → slice_get (areas_of db) i ≡ Some area → slice_get graphs i ≡ Some graph
       → IsGraphOf (lsas_in db area) graph
+
+-- this is the database, with these graphs
+pub record AreGraphsOf (db : Lists) (graphs : GraphsValue) : Type 0 where
+  pub database : graphs.db ≡ db
+  pub areas : AreAreaGraphs db graphs.graphs

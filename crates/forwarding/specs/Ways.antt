@@ -1,6 +1,8 @@
 -- The ways of a route: where each of its next hops leads (RFC 2328, 11 and 16.1.1).
 use Rattle.std.specs.Prelude.{◌∷◌, [], Bool, true, false, if◌then◌else◌, List, map, Option, None, Some}
 use Rattle.std.specs.List.{filter_map, flat_map}
+use Rattle.lsa_codec.specs.Prefix.{Net}
+use Rattle.lsa_codec.specs.declared.address.Addr.{Addr}
 use Rattle.lsa_codec.specs.declared.address.RouterId.{RouterId}
 use Rattle.lsdb.specs.Lists.{Lists}
 use Rattle.next_hops.specs.declared.hop.Hop.{Hop}
@@ -8,6 +10,7 @@ use Rattle.next_hops.specs.declared.hop.Hop.TheVariants.{Connected, Link, Attach
 use Rattle.best_ways.specs.Values.{RouteValue}
 use Rattle.best_ways.specs.declared.rank.PathType.{PathType}
 use Rattle.best_ways.specs.declared.rank.PathType.TheVariants.{Intra, Inter, Ext1, Ext2}
+use Rattle.first_ends.specs.FirstEnds.{route_ends}
 use Rattle.forwarding.specs.declared.way.Way.{Way}
 use Rattle.forwarding.specs.declared.way.Way.TheVariants.{Via, Direct, Exit}
 use Rattle.forwarding.specs.Owners.{far_ends, owners}
@@ -31,16 +34,27 @@ abbrev pub ways_to_owners : Hop → List RouterId → List Way
 ways_to_owners hop [] = Exit hop ∷ []
 ways_to_owners hop (router ∷ routers) = ways_via hop (router ∷ routers)
 
--- where a hop of a router's route leads
-abbrev pub ways_over : Lists → RouterId → PathType → Hop → List Way
-ways_over db router kind Connected = connected_way kind ∷ []
-ways_over db router kind (Link interface) = ways_via (Link interface) (far_ends db router interface)
-ways_over db router kind (Attached interface) = Direct (Attached interface) ∷ []
-ways_over db router kind (Gateway interface address) = ways_to_owners (Gateway interface address) (owners db router interface address)
+-- of the far ends of an interface, where there are two or more, those with whose link a path of least cost begins
+abbrev pub taken : List RouterId → List RouterId → List RouterId
+taken [] ends = []
+taken (one ∷ []) ends = one ∷ []
+taken (one ∷ two ∷ more) ends = ends
+
+-- the neighbors to which a router's route to a prefix leads over the links of an interface: where links of several neighbors have
+-- this Link Data, those with whose link a path of least cost to a target of the route begins
+abbrev pub ends_over : Lists → RouterId → Net → Addr → List RouterId
+ends_over db router net interface = taken (far_ends db router interface) (route_ends (record { db = db; router = router }) net interface)
+
+-- where a hop of a router's route to a prefix leads
+abbrev pub ways_over : Lists → RouterId → Net → PathType → Hop → List Way
+ways_over db router net kind Connected = connected_way kind ∷ []
+ways_over db router net kind (Link interface) = ways_via (Link interface) (ends_over db router net interface)
+ways_over db router net kind (Attached interface) = Direct (Attached interface) ∷ []
+ways_over db router net kind (Gateway interface address) = ways_to_owners (Gateway interface address) (owners db router interface address)
 
 -- where the hops of a router's route lead, in their order
 abbrev pub ways_of : Lists → RouterId → RouteValue → List Way
-ways_of db router route = flat_map (ways_over db router route.kind) route.hops
+ways_of db router route = flat_map (ways_over db router route.net route.kind) route.hops
 
 -- the router that a way leads to
 abbrev pub router_over : Way → Option RouterId

@@ -49,7 +49,7 @@ impl<A: Allocator + Copy> Match<A> {
     /// The entry by a route of a router's table.
     pub(crate) fn by_route(
         alloc: A,
-        graphs: &AreaGraphs<A>,
+        graphs: &AreaGraphs<'_, A>,
         router: RouterId,
         route: &Route<A>,
     ) -> Result<Match<A>, AllocError>

@@ -81,7 +81,7 @@ fn push_far_ends<A: Allocator + Copy>(
     Ok(())
 }
 
-impl<A: Allocator + Copy> AreaGraphs<A> {
+impl<'a, A: Allocator + Copy> AreaGraphs<'a, A> {
     /// The routers at the other ends of the point-to-point links of a router with this Link Data,
     /// in all areas and in rising order. Over an interface to several neighbors, as one of
     /// point-to-multipoint, these are all of them.

@@ -11,8 +11,10 @@ mod in_order;
 
 // The routers that next hops lead to.
 mod area_graphs;
+mod ends_over;
 mod far_ends;
 mod owners;
+mod views;
 
 // The ways of routes.
 mod way;

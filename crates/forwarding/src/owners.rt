@@ -98,7 +98,7 @@ fn push_owners<A: Allocator + Copy>(
     Ok(())
 }
 
-impl<A: Allocator + Copy> AreaGraphs<A> {
+impl<'a, A: Allocator + Copy> AreaGraphs<'a, A> {
     /// The other routers with this interface address on the transit networks that a router's
     /// interface joins, in all areas and in rising order: their router-LSAs have a link to the
     /// network with this Link Data. There are none where the address is that of no router, such as

@@ -133,7 +133,7 @@ impl<A: Allocator + Copy> RouterRoutes<A> {
     pub fn entry_for(
         &self,
         alloc: A,
-        graphs: &AreaGraphs<A>,
+        graphs: &AreaGraphs<'_, A>,
         net: Prefix,
     ) -> Result<Option<Match<A>>, AllocError>
         ensures { IfOk result (λ found. (db : Lists) → AreGraphsOf db graphs.now
@@ -158,7 +158,7 @@ impl<A: Allocator + Copy> RouterRoutes<A> {
     pub fn match_of(
         &self,
         alloc: A,
-        graphs: &AreaGraphs<A>,
+        graphs: &AreaGraphs<'_, A>,
         address: Addr,
     ) -> Result<Option<Match<A>>, AllocError>
         ensures { IfOk result (λ found. (db : Lists) → AreGraphsOf db graphs.now

@@ -8,7 +8,7 @@ ghost use Rattle.forwarding.specs.Ways.{connected_way, ways_of, ways_over, ways_
 use crate::area_graphs::AreaGraphs;
 use crate::way::Way;
 use area_routes::{PathType, Route};
-use lsa_codec::RouterId;
+use lsa_codec::{Prefix, RouterId};
 use next_hops::Hop;
 use std::alloc::{AllocError, Allocator};
 
@@ -59,22 +59,23 @@ fn push_to_owners<A: Allocator + Copy>(
     push_via(ways, hop, owners)
 }
 
-/// Adds the ways over a hop of a router's route.
+/// Adds the ways over a hop of a router's route to a prefix.
 fn push_over<A: Allocator + Copy>(
     alloc: A,
-    graphs: &AreaGraphs<A>,
+    graphs: &AreaGraphs<'_, A>,
     router: RouterId,
+    net: Prefix,
     kind: PathType,
     hop: Hop,
     ways: &mut Vec<Way, A>,
 ) -> Result<(), AllocError>
     ensures { OnOk result ((db : Lists) → AreGraphsOf db graphs.now
-        → ways.new.items ≡ ways.old.items ++ ways_over db router kind hop) }
+        → ways.new.items ≡ ways.old.items ++ ways_over db router net kind hop) }
 {
     match hop {
         Hop::Connected => push_way(ways, connected_way(kind)),
         Hop::Link(interface) => {
-            let routers = graphs.far_ends(alloc, router, interface)?;
+            let routers = graphs.ends_over(alloc, router, net, interface)?;
             push_via(ways, hop, &routers)
         }
         Hop::Attached(_) => push_way(ways, Way::Direct(hop)),
@@ -92,7 +93,7 @@ fn push_over<A: Allocator + Copy>(
 /// Memory ran out.
 pub(crate) fn ways_of<A: Allocator + Copy>(
     alloc: A,
-    graphs: &AreaGraphs<A>,
+    graphs: &AreaGraphs<'_, A>,
     router: RouterId,
     route: &Route<A>,
 ) -> Result<Vec<Way, A>, AllocError>
@@ -101,7 +102,9 @@ pub(crate) fn ways_of<A: Allocator + Copy>(
 {
     let mut ways = Vec::new(alloc);
     for hop in route.hops.as_slice() {
-        push_over(alloc, graphs, router, route.kind, *hop, &mut ways)?;
+        push_over(
+            alloc, graphs, router, route.net, route.kind, *hop, &mut ways,
+        )?;
     }
     Ok(ways)
 }

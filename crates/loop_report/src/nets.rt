@@ -57,7 +57,7 @@ fn insert_all<A: Allocator + Copy>(
 pub(crate) fn insert_nets<A: Allocator + Copy>(
     alloc: A,
     found: &mut BTreeSet<Prefix, A>,
-    forwarding: &Forwarding<A>,
+    forwarding: &Forwarding<'_, A>,
 ) -> Result<(), AllocError>
     ensures { OnOk result
         (Gathers (nets_of_all forwarding.now.routers) found.old.keys found.new.keys) }

@@ -86,7 +86,11 @@ impl<A: Allocator + Copy> LoopReport<A> {
     }
 
     /// The loops and new blackholes of the addresses of an atom.
-    fn at_atom(alloc: A, compared: &Compared<A>, net: Prefix) -> Result<LoopReport<A>, AllocError>
+    fn at_atom(
+        alloc: A,
+        compared: &Compared<'_, A>,
+        net: Prefix,
+    ) -> Result<LoopReport<A>, AllocError>
         ensures loops { IfOk result (λ report. (was is : Lists) → IsComparedOf was is compared.now
             → IsAtAtom AreLoopsNow was is net report.loops) }
         ensures blackholes { IfOk result
@@ -102,7 +106,7 @@ impl<A: Allocator + Copy> LoopReport<A> {
     /// The loops and new blackholes of the atoms of some prefixes, in their order.
     fn at_atoms(
         alloc: A,
-        compared: &Compared<A>,
+        compared: &Compared<'_, A>,
         nets: &[Prefix],
     ) -> Result<LoopReport<A>, AllocError>
         ensures loops { IfOk result (λ report. (was is : Lists) → IsComparedOf was is compared.now

@@ -118,7 +118,7 @@ pub(crate) fn line_by<A: Allocator + Copy>(
 pub fn route_line<A: Allocator + Copy>(
     alloc: A,
     database: &Database<A>,
-    graphs: &AreaGraphs<A>,
+    graphs: &AreaGraphs<'_, A>,
     routes: &RouterRoutes<A>,
     net: Prefix,
 ) -> Result<Option<RouteLine<A>>, AllocError>

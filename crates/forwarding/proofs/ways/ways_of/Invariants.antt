@@ -8,4 +8,4 @@ use Rattle.forwarding.proofs.ways.ways_of.Given as goal
 -- the ways over the hops so far
 abbrev pub invariant-loop-hop : goal.invariant-loop-hop
 invariant-loop-hop g l = (db : Lists) → AreGraphsOf db l.graphs
-    → l.ways.items ≡ flat_map (ways_over db l.router l.route.kind) (take l.hop-index l.hop-items)
+    → l.ways.items ≡ flat_map (ways_over db l.router l.route.net l.route.kind) (take l.hop-index l.hop-items)

@@ -6,7 +6,7 @@ use Rattle.lsa_codec.specs.Order.{router_cmp}
 use Rattle.lsdb.specs.Lists.{AreaHead, areas_of}
 use Rattle.area_graph.specs.Rising.{rising}
 use Rattle.area_graph.specs.Topology.{Topology}
-use Rattle.forwarding.specs.Owners.{AreGraphsOf, edges_in, far_ends_in}
+use Rattle.forwarding.specs.Owners.{AreAreaGraphs, edges_in, far_ends_in}
 use Rattle.forwarding.proofs.FirstGraphs.{graph_at}
 use Rattle.forwarding.proofs.Taken.{flat_taken}
 use Rattle.forwarding.proofs.area_graphs.AreaGraphs.far_ends.Goals as goal
@@ -15,7 +15,7 @@ pub loop-graph-preserved : goal.loop-graph-preserved
 loop-graph-preserved g c = λ db are.
     let graphs = c.as_slice-graph-items.result.now in
     let i = c.loop-graph.graph-index in
-    let at = graph_at db graphs (subst (λ (gs : List Topology). AreGraphsOf db gs) (sym c.as_slice-graph-items.ensures) are) i c.loop-graph-test.true
+    let at = graph_at db graphs (subst (λ (gs : List Topology). AreAreaGraphs db gs) (sym c.as_slice-graph-items.ensures) are.areas) i c.loop-graph-test.true
     c.graph-item.result c.graph-item.is in
     let ends = far_ends_in db c.args.router c.args.interface in
     c.in_ok-push_far_ends.ensures (edges_in db at.area) (flat_map ends (take i (areas_of db))) at.graph_of.edges (c.loop-graph.invariant db are)
@@ -24,8 +24,8 @@ loop-graph-preserved g c = λ db are.
 pub returns : goal.returns
 returns g c =
     IfOk-weaker c.in_order.result _ _ (λ v h. λ db are.
-    let sized : length c.args.self.now ≡ length (areas_of db) = are.sized in
-    let same : length c.as_slice-graph-items.result.now ≡ length c.args.self.now =
+    let sized : length c.args.self.now.graphs ≡ length (areas_of db) = are.areas.sized in
+    let same : length c.as_slice-graph-items.result.now ≡ length c.args.self.now.graphs =
     ap (λ (gs : List Topology). length gs) c.as_slice-graph-items.ensures in
     let all : length (areas_of db) ≤ c.loop-graph.graph-index = omega arith in
     h ∙ ap (rising router_cmp) c.deref.ensures.value ∙ c.loop-graph.invariant db are

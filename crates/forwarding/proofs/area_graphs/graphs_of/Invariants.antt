@@ -1,6 +1,6 @@
 use Rattle.lsdb.specs.Slots.{lists_of}
 use Rattle.forwarding.proofs.FirstGraphs.{AreFirst}
-use Rattle.forwarding.proofs.area_graphs.AreaGraphs.of.Given as goal
+use Rattle.forwarding.proofs.area_graphs.graphs_of.Given as goal
 
 -- the graphs of the areas so far
 abbrev pub invariant-loop-i : goal.invariant-loop-i

@@ -2,7 +2,7 @@ use Rattle.std.proofs.Common.{◌+◌, List, sym, subst}
 use Rattle.lsdb.specs.Slots.{lists_of}
 use Rattle.area_graph.specs.Topology.{Topology}
 use Rattle.forwarding.proofs.FirstGraphs.{AreFirst, first_more}
-use Rattle.forwarding.proofs.area_graphs.AreaGraphs.of.Goals as goal
+use Rattle.forwarding.proofs.area_graphs.graphs_of.Goals as goal
 
 pub loop-i-preserved : goal.loop-i-preserved
 loop-i-preserved g c =
