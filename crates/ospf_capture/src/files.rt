@@ -16,6 +16,7 @@ use host_io::{Watched, replace_file};
 use lsdb::Database;
 use lsdb_listing::PrintedList;
 use network_files::ParsedFile;
+use profile_findings::summary_findings;
 use std::alloc::Alloc;
 use std::fs::{self, File, Files};
 use std::io::{self, Write};
@@ -96,7 +97,8 @@ fn all_finding_lines<'a>(
     Ok(lines)
 }
 
-/// The lines of what a database lacks: by its own LSAs, and beside the lists of other routers.
+/// The lines of what a database lacks, or has out of the planner's profile: by its own LSAs, and
+/// beside the lists of other routers.
 fn missing_lines<'a>(
     rt: &HostRuntime,
     against: &[&str],
@@ -105,6 +107,8 @@ fn missing_lines<'a>(
 ) -> Result<String, ExitFault<'a>> {
     let findings = database_findings(rt.alloc(), database)?;
     let mut lines = finding_lines(rt.alloc(), DATABASE, &findings)?;
+    let summaries = summary_findings(rt.alloc(), database)?;
+    lines.push_str(finding_lines(rt.alloc(), DATABASE, &summaries)?.as_str())?;
     lines.push_str(against_lines(rt, against, lists, database)?.as_str())?;
     Ok(lines)
 }
