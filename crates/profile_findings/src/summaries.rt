@@ -1,68 +1,62 @@
 //! Summary-LSAs whose metrics a refresh would change.
 
-ghost use Rattle.std.specs.Prelude.{◌≡◌, ◌++◌, IfOk, OnOk, map};
+ghost use Rattle.std.specs.Prelude.{◌≡◌, IfOk};
 ghost use Rattle.std.specs.List.{filter_map};
 ghost use Rattle.lsdb.specs.Slots.{lists_of};
-ghost use Rattle.profile_findings.specs.Summaries.{reported_at, summary_findings};
+ghost use Rattle.profile_findings.specs.Summaries.{finding_about, finding_at, summary_findings};
 
 use audit_places::{Form, Place};
 use audit_routes::{summary_not_due_places, summary_raised_places};
 use findings::{Finding, ReportedLsa};
+use lsa_names::LsaName;
 use lsdb::Database;
 use std::alloc::{AllocError, Allocator};
 
-/// The summary-LSA at a place, if its metric is not the one that it is due.
-fn reported_at<A: Allocator + Copy>(place: &Place<A>) -> Option<ReportedLsa>
-    ensures { result ≡ reported_at place.now }
+/// What metric a summary-LSA has that is not due.
+#[derive(Clone, Copy, Debug)]
+enum Metric {
+    /// The raised metric of a drained border router.
+    OfDrained,
+    /// Another one.
+    Other,
+}
+
+/// The finding about a summary-LSA.
+fn finding_about(metric: Metric, name: LsaName) -> Finding
+    ensures { result ≡ finding_about metric name }
+{
+    let lsa = ReportedLsa {
+        area: name.area,
+        key: name.key,
+    };
+    match metric {
+        Metric::OfDrained => Finding::Raised(lsa),
+        Metric::Other => Finding::NotDue(lsa),
+    }
+}
+
+/// The finding about the summary-LSA at a place, if its metric is not the one that it is due.
+fn finding_at<A: Allocator + Copy>(metric: Metric, place: &Place<A>) -> Option<Finding>
+    ensures { result ≡ finding_at metric place.now }
 {
     match place.form() {
-        Form::Due { lsa, .. } => Some(ReportedLsa {
-            area: lsa.area,
-            key: lsa.key,
-        }),
+        Form::Due { lsa, .. } => Some(finding_about(metric, *lsa)),
         _ => None,
     }
 }
 
-/// The summary-LSAs at some places.
-fn reported<A: Allocator + Copy>(
+/// The findings about the summary-LSAs at some places.
+fn findings_at<A: Allocator + Copy>(
     alloc: A,
+    metric: Metric,
     places: &[Place<A>],
-) -> Result<Vec<ReportedLsa, A>, AllocError>
-    ensures { IfOk result (λ lsas. lsas.items ≡ filter_map reported_at places.now) }
+) -> Result<Vec<Finding, A>, AllocError>
+    ensures { IfOk result (λ findings. findings.items ≡ filter_map (finding_at metric) places.now) }
 {
     places
         .iter()
-        .filter_map(|place| reported_at(place))
+        .filter_map(|place| finding_at(metric, place))
         .collect(alloc)
-}
-
-/// Adds the findings about LSAs with raised metrics.
-fn put_raised<A: Allocator + Copy>(
-    findings: &mut Vec<Finding, A>,
-    lsas: &[ReportedLsa],
-) -> Result<(), AllocError>
-    ensures { OnOk result (findings.new.items
-        ≡ findings.old.items ++ map Finding.Raised lsas.now) }
-{
-    for lsa in lsas {
-        findings.push(Finding::Raised(*lsa))?;
-    }
-    Ok(())
-}
-
-/// Adds the findings about LSAs with other metrics.
-fn put_not_due<A: Allocator + Copy>(
-    findings: &mut Vec<Finding, A>,
-    lsas: &[ReportedLsa],
-) -> Result<(), AllocError>
-    ensures { OnOk result (findings.new.items
-        ≡ findings.old.items ++ map Finding.NotDue lsas.now) }
-{
-    for lsa in lsas {
-        findings.push(Finding::NotDue(*lsa))?;
-    }
-    Ok(())
 }
 
 /// A finding for each live summary-LSA of a border router that a refresh would give another metric
@@ -80,10 +74,9 @@ pub fn summary_findings<A: Allocator + Copy>(
 ) -> Result<Vec<Finding, A>, AllocError>
     ensures { IfOk result (λ findings. findings.items ≡ summary_findings (lists_of database.now)) }
 {
-    let raised = reported(alloc, &summary_raised_places(alloc, database)?)?;
-    let others = reported(alloc, &summary_not_due_places(alloc, database)?)?;
-    let mut findings = Vec::new(alloc);
-    put_raised(&mut findings, &raised)?;
-    put_not_due(&mut findings, &others)?;
+    let raised = summary_raised_places(alloc, database)?;
+    let others = summary_not_due_places(alloc, database)?;
+    let mut findings = findings_at(alloc, Metric::OfDrained, &raised)?;
+    findings.append(&mut findings_at(alloc, Metric::Other, &others)?)?;
     Ok(findings)
 }

@@ -1,6 +1,4 @@
-use Rattle.std.proofs.Common.{◌∙◌, sym, ap, ◌++◌}
-use Rattle.std.specs.List.{flat_map}
-use Rattle.std.proofs.lemmas.List.{flat_map_more}
+use Rattle.std.proofs.Common.{◌∙◌, ◌++◌}
 use Rattle.lsdb.specs.Lists.{AreaHead, areas_of}
 use Rattle.lsdb.specs.Slots.{lists_of}
 use Rattle.capture_report.specs.Borders.{routers_in}
