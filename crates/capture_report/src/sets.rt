@@ -92,6 +92,5 @@ pub(crate) fn shared<T: Ord + Copy, A: Allocator + Copy>(
     ensures { IfOk result (λ shared. AreShared T.cmp items.now others.now shared.items) }
 {
     let items = set_of(alloc, items)?;
-    let others = set_of(alloc, others)?;
-    among(alloc, &items, &others)
+    among(alloc, &items, &set_of(alloc, others)?)
 }
