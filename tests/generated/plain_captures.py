@@ -8,6 +8,8 @@ import collections
 import dataclasses
 import re
 
+import plain_planner
+import plain_routes
 from plain_reader import fault_of_lsa, links, number
 
 LONGEST_DUMP = 16_777_216
@@ -739,6 +741,25 @@ def lacking(areas: dict[int, list[bytes]], stubs: set[int], as_wide: list[bytes]
     lines += lacks_of(asbrs, anywhere, "asbr")
     lines += lacks_of(speakers, {lsa[8:12] for lsa in as_wide if lsa[3] == 5}, "externals")
     return lines + left_out(as_wide, "")
+
+
+def has_bit(lsas, router: bytes, bit: int) -> bool:
+    return any(lsa[4:8] == router and lsa[20] & bit for lsa in live_routers(lsas))
+
+
+def out_of_profile(areas: plain_routes.Areas) -> list[str]:
+    """The lines of the live summary-LSAs of linked border routers that `refresh` would change, unless a router announces
+    itself by one."""
+    linked = {router for _, _, lsas in areas for (kind, router), edges in plain_routes.graph_of(lsas).edges.items()
+              if kind == "router" and edges}
+    lines: dict[str, list[str]] = {"Raised": [], "NotDue": []}
+    for (area, _, old), (_, _, new) in zip(areas, plain_routes.refreshed(areas, plain_planner.with_metric)):
+        for lsa, after in sorted(zip(old, new), key=lambda both: both[0][3:12]):
+            itself = lsa[3] == 4 and lsa[4:8] == lsa[8:12] and has_bit(old, lsa[8:12], 2)
+            if lsa[25:28] != after[25:28] and lsa[8:12] in linked and not itself:
+                what = "Raised" if lsa[25:28] == b"\xff\0\0" else "NotDue"
+                lines[what].append(f"database: {what} {words((False, area, lsa[3], lsa[4:8], lsa[8:12]))}")
+    return lines["Raised"] + lines["NotDue"]
 
 
 def dump_of(files: list[Contents], keeps: bool = False) -> bytes:

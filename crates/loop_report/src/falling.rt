@@ -151,7 +151,7 @@ fn cost_of<A: Allocator + Copy>(source: Option<&Route<A>>) -> u64
 
 /// Whether what a router uses for an address costs less than this.
 fn is_cheaper<A: Allocator + Copy>(
-    forwarding: &Forwarding<A>,
+    forwarding: &Forwarding<'_, A>,
     near: &mut usize,
     address: Addr,
     cost: u64,
@@ -170,7 +170,7 @@ fn is_cheaper<A: Allocator + Copy>(
 
 /// Whether what some routers use for an address costs less than this.
 fn are_cheaper<A: Allocator + Copy>(
-    forwarding: &Forwarding<A>,
+    forwarding: &Forwarding<'_, A>,
     near: &mut usize,
     address: Addr,
     cost: u64,
@@ -189,7 +189,7 @@ fn are_cheaper<A: Allocator + Copy>(
 /// Whether a next hop of a router leads to one router at most, and what that one uses for an
 /// address costs less than this.
 fn falls_over<A: Allocator + Copy>(
-    forwarding: &Forwarding<A>,
+    forwarding: &Forwarding<'_, A>,
     known: &RouterHops<A>,
     near: &mut usize,
     address: Addr,
@@ -212,7 +212,7 @@ fn falls_over<A: Allocator + Copy>(
 
 /// Whether the costs fall over all these next hops of a router.
 fn falls_over_all<A: Allocator + Copy>(
-    forwarding: &Forwarding<A>,
+    forwarding: &Forwarding<'_, A>,
     known: &RouterHops<A>,
     near: &mut usize,
     address: Addr,
@@ -232,7 +232,7 @@ fn falls_over_all<A: Allocator + Copy>(
 
 /// Whether a router has a match of an address, and the costs fall over all its next hops.
 fn falls<A: Allocator + Copy>(
-    forwarding: &Forwarding<A>,
+    forwarding: &Forwarding<'_, A>,
     known: &RouterHops<A>,
     near: &mut usize,
     address: Addr,
@@ -258,7 +258,7 @@ fn falls<A: Allocator + Copy>(
 /// in the forwarding graph comes back, and no router drops the packets. A next hop that leads to
 /// two routers or more counts as one over which they do not fall. It takes no memory.
 pub(crate) fn costs_fall<A: Allocator + Copy>(
-    forwarding: &Forwarding<A>,
+    forwarding: &Forwarding<'_, A>,
     hops: &[RouterHops<A>],
     address: Addr,
 ) -> bool

@@ -65,7 +65,7 @@ impl<A: Allocator + Copy> LoopReport<A> {
     /// does not have.
     fn at_address(
         alloc: A,
-        compared: &Compared<A>,
+        compared: &Compared<'_, A>,
         net: Prefix,
         address: Addr,
     ) -> Result<LoopReport<A>, AllocError>

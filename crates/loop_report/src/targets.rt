@@ -46,7 +46,7 @@ impl<A: Allocator> Model for RouterHops<A> {
 /// The routers that a next hop of a router leads to.
 fn targets_of<A: Allocator + Copy>(
     alloc: A,
-    graphs: &AreaGraphs<A>,
+    graphs: &AreaGraphs<'_, A>,
     router: RouterId,
     hop: Hop,
 ) -> Result<Vec<RouterId, A>, AllocError>
@@ -86,7 +86,7 @@ impl<A: Allocator + Copy> RouterHops<A> {
     /// The next hops of a router, each with the routers that it leads to.
     fn of(
         alloc: A,
-        graphs: &AreaGraphs<A>,
+        graphs: &AreaGraphs<'_, A>,
         routes: &RouterRoutes<A>,
     ) -> Result<RouterHops<A>, AllocError>
         ensures { IfOk result (λ known. (db : Lists) → AreGraphsOf db graphs.now
@@ -130,7 +130,7 @@ impl<A: Allocator + Copy> RouterHops<A> {
 /// Memory ran out.
 pub(crate) fn all_hops<A: Allocator + Copy>(
     alloc: A,
-    forwarding: &Forwarding<A>,
+    forwarding: &Forwarding<'_, A>,
 ) -> Result<Vec<RouterHops<A>, A>, AllocError>
     ensures { IfOk result (λ found. (db : Lists) → AreGraphsOf db forwarding.now.graphs
         → All (AreHopsOf db) found.items) }

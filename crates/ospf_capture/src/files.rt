@@ -18,6 +18,7 @@ use host_io::{Watched, replace_file};
 use lsdb::Database;
 use lsdb_listing::PrintedList;
 use network_files::ParsedFile;
+use profile_findings::summary_findings;
 use std::alloc::Alloc;
 use std::fs::{self, File, Files};
 use std::io::{self, Write};
@@ -92,7 +93,7 @@ fn report_files<'a>(
 }
 
 /// Reports the findings in all files together: about the kinds of areas, about LSAs that headers
-/// name, and about what the database lacks by its own LSAs.
+/// name, and about what the database lacks, or has out of the planner's profile, by its own LSAs.
 fn report_database<'a>(
     rt: &HostRuntime,
     report: &mut Report,
@@ -104,7 +105,9 @@ fn report_database<'a>(
     let headers = header_findings(rt.alloc(), parsed)?;
     report.put(rt.alloc(), DATABASE, &headers)?;
     let lacks = database_findings(rt.alloc(), database)?;
-    report.put(rt.alloc(), DATABASE, &lacks)
+    report.put(rt.alloc(), DATABASE, &lacks)?;
+    let summaries = summary_findings(rt.alloc(), database)?;
+    report.put(rt.alloc(), DATABASE, &summaries)
 }
 
 /// All findings: in each file, in all of them together, and beside the lists of other routers.
