@@ -1,7 +1,7 @@
 -- Which observations are of flushed LSAs, and which are the newest: of the others, or of all.
 use Rattle.std.specs.Prelude.{◌≡◌, ℕ, ◌-◌, ◌*◌, Bool, false, not, ◌&&◌, nat_lt, List, map, All, AllPairs, Contains, Option, None, Some}
 use Rattle.std.specs.List.{Any, filter, list_any}
-use Rattle.std.specs.Ordering.{bool_cmp, is_eq, is_gt, ordering_then}
+use Rattle.std.specs.Ordering.{bool_cmp, is_eq, is_gt, is_lt, ordering_then}
 use Rattle.std.specs.declared.cmp.Ordering.{Ordering}
 use Rattle.std.specs.declared.cmp.Ordering.TheVariants.{Less}
 use Rattle.lsa_codec.specs.Fields.{age_of}
@@ -11,7 +11,7 @@ use Rattle.lsa_instances.specs.declared.keeping.FlushedLsas.TheVariants.{Kept, L
 use Rattle.lsa_instances.specs.declared.place.Place.{Place}
 use Rattle.lsa_instances.specs.declared.place.Scope.{Scope}
 use Rattle.lsa_instances.specs.declared.observation.Observation.{Observation}
-use Rattle.lsa_instances.specs.Instance.{instance_cmp}
+use Rattle.lsa_instances.specs.Instance.{instance_cmp, instance_id_cmp, instance_id_of}
 use Rattle.lsa_instances.specs.Order.{place_cmp, place_of, scope_cmp}
 
 -- one second, in nanoseconds
@@ -67,6 +67,26 @@ pub record AreNewest {A : Type 0} (flushed : FlushedLsas) (reported newest : Lis
   pub each : All (IsNewest flushed reported) newest
   pub whole : All (IsCovered flushed reported newest) reported
   pub order : AllPairs (λ x y. place_cmp (place_of x) (place_of y) ≡ Less) newest
+
+-- ---- forgotten instances
+
+-- a copy shows that an observation is forgotten: it is of an older instance of the same LSA, by LS sequence number and then by
+-- checksum, and began after the observation was seen. Its originator knew of no newer instance then, as after a restart, or it
+-- had passed MaxAge everywhere: else it had taken a greater sequence number (12.1.6, 13.4)
+abbrev pub forgets : {A : Type 0} → Observation A → Observation A → Bool
+forgets y x =
+    is_eq (place_cmp (place_of y) (place_of x))
+    && (is_lt (instance_id_cmp (instance_id_of y.lsa) (instance_id_of x.lsa)) && began_after x.seen y)
+
+abbrev pub is_forgotten : {A : Type 0} → List (Observation A) → Observation A → Bool
+is_forgotten reported x = list_any (λ y. forgets y x) reported
+
+abbrev pub remembered : {A : Type 0} → List (Observation A) → List (Observation A)
+remembered reported = filter (λ x. not (is_forgotten reported x)) reported
+
+-- the newest of what is not forgotten
+abbrev pub AreStanding : {A : Type 0} → FlushedLsas → List (Observation A) → List (Observation A) → Type 0
+AreStanding flushed reported newest = AreNewest flushed (remembered reported) newest
 
 -- the same observations, in any order, each any number of times
 abbrev pub AreSame : {X : Type 0} → List X → List X → Type 0
