@@ -10,7 +10,7 @@ use Rattle.loop_report.proofs.compared.Compared.of.Goals as goal
 pub returns : goal.returns
 returns g c =
     let was = c.in_ok-was.was in
-    let is = c.in_ok-is.is in
+    let is = c.in_ok-is.is' in
     record {
       before = c.in_ok-was.ensures;
       now = c.in_ok-is.ensures;
