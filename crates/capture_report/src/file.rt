@@ -52,13 +52,22 @@ fn is_document(kind: FileKind) -> bool
     }
 }
 
+/// Whether some finding is about LSAs of types that are not read.
+fn has_others(findings: &[Finding]) -> bool
+    ensures { result ≡ list_any is_not_read findings.now }
+{
+    findings.iter().any(|finding| is_not_read(*finding))
+}
+
 /// Whether a file has neither an LSA nor the kind of an area nor a header of an LSA, and none of
 /// types that are not read.
 fn has_nothing<A: Allocator + Copy>(file: &ParsedFile<A>) -> bool
     ensures { result ≡ has_nothing file.now }
 {
-    let has_others = file.findings.iter().any(|finding| is_not_read(*finding));
-    file.observations.len() == 0 && file.areas.len() == 0 && file.headers.len() == 0 && !has_others
+    file.observations.is_empty()
+        && file.areas.is_empty()
+        && file.headers.is_empty()
+        && !has_others(&file.findings)
 }
 
 /// Adds the finding that a file contains nothing, unless it is a document that says so.
