@@ -1,15 +1,18 @@
 //! What differs from a baseline, with the routes of now and of before.
 
 ghost use Rattle.std.specs.Prelude.{◌≡◌, map, IfOk};
+ghost use Rattle.std.specs.Option.{option_copied};
 ghost use Rattle.lsdb.specs.Slots.{lists_of};
 ghost use Rattle.forwarding.specs.Graphs.{IsForwardingOf};
+ghost use Rattle.hop_ends.specs.Owners.{AreGraphsOf};
 ghost use Rattle.lost_routes.specs.Announced.{announced_in};
 ghost use Rattle.lost_routes.specs.Announcers.{announcements};
-ghost use Rattle.change_report.specs.Lines.{change_line, gone_line, gone_lines, lost_line, lost_lines, lines_of_changes, route_at, route_for};
+ghost use Rattle.change_report.specs.Lines.{change_line, gone_line, gone_lines, lost_line, lost_lines, lines_of_changes, route_at, route_by, route_for};
 
 use change_lines::{ChangeLine, ChangeName, Pair, PairLine};
 use comparison::Comparison;
-use forwarding::Forwarding;
+use forwarding::{Forwarding, RouterRoutes};
+use hop_ends::AreaGraphs;
 use lost_routes::Announcers;
 use lsa_codec::{Prefix, RouterId};
 use lsdb::Database;
@@ -17,28 +20,44 @@ use route_lines::RouteLine;
 use route_report::route_line;
 use std::alloc::{AllocError, Allocator};
 
+/// What a router with these routes uses for a prefix, where it is attached and has an entry.
+pub(crate) fn route_by<A: Allocator + Copy>(
+    alloc: A,
+    database: &Database<A>,
+    graphs: &AreaGraphs<'_, A>,
+    routes: Option<&RouterRoutes<A>>,
+    net: Prefix,
+) -> Result<Option<RouteLine<A>>, AllocError>
+    requires { AreGraphsOf (lists_of database.now) graphs.now }
+    ensures { IfOk result
+        (λ line. line ≡ route_by (lists_of database.now) net (option_copied routes.entry)) }
+{
+    match routes {
+        Some(routes) => route_line(alloc, database, graphs, routes, net),
+        None => Ok(None),
+    }
+}
+
 /// What a router uses for a prefix, where it is attached and has an entry.
 fn route_at<A: Allocator + Copy>(
     alloc: A,
     database: &Database<A>,
-    forwarding: &Forwarding<A>,
+    forwarding: &Forwarding<'_, A>,
     router: RouterId,
     net: Prefix,
 ) -> Result<Option<RouteLine<A>>, AllocError>
     requires { IsForwardingOf (lists_of database.now) forwarding.now }
     ensures { IfOk result (λ line. line ≡ route_at (lists_of database.now) router net) }
 {
-    match forwarding.routes_of(router) {
-        Some(routes) => route_line(alloc, database, forwarding.graphs(), routes, net),
-        None => Ok(None),
-    }
+    let routes = forwarding.routes_of(router);
+    route_by(alloc, database, forwarding.graphs(), routes, net)
 }
 
 /// The same, where there may be no prefix.
 fn route_for<A: Allocator + Copy>(
     alloc: A,
     database: &Database<A>,
-    forwarding: &Forwarding<A>,
+    forwarding: &Forwarding<'_, A>,
     router: RouterId,
     net: Option<Prefix>,
 ) -> Result<Option<RouteLine<A>>, AllocError>

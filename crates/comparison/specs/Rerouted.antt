@@ -1,6 +1,6 @@
 -- The next hops that lead to other routers than they did: over a link that ends elsewhere, or to an address that another
 -- router has.
-use Rattle.std.specs.Prelude.{Bool, ◌==◌, not, List, [], flat_map}
+use Rattle.std.specs.Prelude.{Bool, ◌==◌, not, List, flat_map}
 use Rattle.std.specs.Cmp.Lexicographic.{pointwise}
 use Rattle.std.specs.List.{filter}
 use Rattle.lsa_codec.specs.declared.address.RouterId.{RouterId}
@@ -8,24 +8,16 @@ use Rattle.lsdb.specs.Lists.{Lists}
 use Rattle.area_graph.specs.Rising.{rising}
 use Rattle.next_hops.specs.Hop.{hop_cmp}
 use Rattle.next_hops.specs.declared.hop.Hop.{Hop}
-use Rattle.next_hops.specs.declared.hop.Hop.TheVariants.{Connected, Link, Attached, Gateway}
 use Rattle.best_ways.specs.Values.{RouteValue}
 use Rattle.forwarding.specs.Matches.{RouterValue}
-use Rattle.forwarding.specs.Owners.{far_ends, owners}
+use Rattle.hop_ends.specs.Owners.{targets_of}
 use Rattle.comparison.specs.Compared.{Compared}
-
--- the routers that a next hop of a router leads to, in order
-abbrev pub routers_by : Lists → RouterId → Hop → List RouterId
-routers_by db router Connected = []
-routers_by db router (Link interface) = far_ends db router interface
-routers_by db router (Attached interface) = []
-routers_by db router (Gateway interface address) = owners db router interface address
 
 abbrev pub same_router : RouterId → RouterId → Bool
 same_router a b = a.0 == b.0
 
 abbrev pub is_rerouted : Compared → RouterId → Hop → Bool
-is_rerouted c router hop = not (pointwise same_router (routers_by c.baseline router hop) (routers_by c.present router hop))
+is_rerouted c router hop = not (pointwise same_router (targets_of c.baseline router hop) (targets_of c.present router hop))
 
 -- the hops of some routes, in order
 abbrev pub hops_of : List RouteValue → List Hop

@@ -1,6 +1,6 @@
 //! What differs for all routers.
 
-ghost use Rattle.std.specs.Prelude.{◌≡◌, ◌++◌, ◌+◌, ◌∷◌, [], map, IfOk, OnOk};
+ghost use Rattle.std.specs.Prelude.{◌≡◌, ◌++◌, ◌+◌, map, IfOk, OnOk};
 ghost use Rattle.forwarding.specs.Matches.{RouterValue};
 ghost use Rattle.comparison.specs.Compared.{routers_of_both};
 ghost use Rattle.comparison.specs.Named.{all_changes, changes_for, names_of, unchanged_of};
@@ -25,7 +25,7 @@ fn push_changes_of<A: Allocator + Copy>(
 {
     let was = comparison.were().routes_of(router);
     let is = comparison.are().routes_of(router);
-    push_changes(names, alloc, comparison, router, was, is)
+    push_changes(names, alloc, &comparison.databases(), router, was, is)
 }
 
 /// The sum of two numbers of prefixes. A number with more than 64 bits is one of more prefixes than
@@ -81,17 +81,6 @@ fn routers_of_both<A: Allocator + Copy>(
 }
 
 impl<'a, A: Allocator + Copy> Comparison<'a, A> {
-    /// What differs for a router, by group, then by prefix.
-    ///
-    /// # Errors
-    ///
-    /// Memory ran out.
-    pub fn changes_of(&self, alloc: A, router: RouterId) -> Result<Changes<A>, AllocError>
-        ensures { IfOk result (λ changes. changes ≡ changes_for self.now (router ∷ [])) }
-    {
-        changes_for(alloc, self, &[router])
-    }
-
     /// What differs for all routers, by group, then by router and prefix.
     ///
     /// # Errors

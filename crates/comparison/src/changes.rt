@@ -4,7 +4,7 @@ ghost use Rattle.std.specs.Prelude.{◌≡◌, ◌++◌, ◌∷◌, [], map, IfO
 ghost use Rattle.std.specs.Option.{option_copied};
 ghost use Rattle.comparison.specs.Named.{changes_between, group_of, is_announced_now, name_of, names_by, router_name, unchanged_by};
 
-use crate::comparison::Comparison;
+use crate::databases::Databases;
 use crate::rerouted::rerouted;
 use change_lines::{ChangeGroup, ChangeName};
 use forwarding::RouterRoutes;
@@ -14,11 +14,11 @@ use std::alloc::{AllocError, Allocator};
 use table_changes::{Change, PrefixChange, TableChanges};
 
 /// Whether somebody announces a prefix.
-fn is_announced<A: Allocator + Copy>(comparison: &Comparison<'_, A>, net: Prefix) -> bool
-    ensures { result ≡ is_announced_now comparison.now net }
+fn is_announced<A: Allocator + Copy>(both: &Databases<'_, '_, A>, net: Prefix) -> bool
+    ensures { result ≡ is_announced_now both.now net }
 {
-    let baseline = comparison.was_announced();
-    comparison.is_announced().is_announced(baseline, net)
+    let baseline = both.was_announced();
+    both.is_announced().is_announced(baseline, net)
 }
 
 /// The group of a change.
@@ -38,14 +38,14 @@ fn group_of(is_announced: bool, change: Change) -> ChangeGroup
 
 /// The name of a change for a prefix of a router.
 fn name_of<A: Allocator + Copy>(
-    comparison: &Comparison<'_, A>,
+    both: &Databases<'_, '_, A>,
     router: RouterId,
     found: PrefixChange,
 ) -> ChangeName
-    ensures { result ≡ name_of comparison.now router found }
+    ensures { result ≡ name_of both.now router found }
 {
     ChangeName {
-        group: group_of(is_announced(comparison, found.net), found.change),
+        group: group_of(is_announced(both, found.net), found.change),
         router,
         net: Some(found.net),
     }
@@ -54,15 +54,15 @@ fn name_of<A: Allocator + Copy>(
 /// Adds the names of changes for prefixes of a router.
 fn push_names<A: Allocator + Copy>(
     names: &mut Vec<ChangeName, A>,
-    comparison: &Comparison<'_, A>,
+    both: &Databases<'_, '_, A>,
     router: RouterId,
     changes: &[PrefixChange],
 ) -> Result<(), AllocError>
     ensures { OnOk result (names.new.items
-        ≡ names.old.items ++ map (name_of comparison.now router) changes.now) }
+        ≡ names.old.items ++ map (name_of both.now router) changes.now) }
 {
     for found in changes {
-        names.push(name_of(comparison, router, *found))?;
+        names.push(name_of(both, router, *found))?;
     }
     Ok(())
 }
@@ -70,13 +70,13 @@ fn push_names<A: Allocator + Copy>(
 /// What differs for a router that is attached in both databases.
 fn changes_between<A: Allocator + Copy>(
     alloc: A,
-    comparison: &Comparison<'_, A>,
+    both: &Databases<'_, '_, A>,
     was: &RouterRoutes<A>,
     is: &RouterRoutes<A>,
 ) -> Result<TableChanges<A>, AllocError>
-    ensures { IfOk result (λ found. found ≡ changes_between comparison.now was.now is.now) }
+    ensures { IfOk result (λ found. found ≡ changes_between both.now was.now is.now) }
 {
-    let rerouted = rerouted(alloc, comparison, is)?;
+    let rerouted = rerouted(alloc, both, is)?;
     TableChanges::between(alloc, &rerouted, &Entries::of(was), &Entries::of(is))
 }
 
@@ -85,19 +85,19 @@ fn changes_between<A: Allocator + Copy>(
 fn push_between<A: Allocator + Copy>(
     names: &mut Vec<ChangeName, A>,
     alloc: A,
-    comparison: &Comparison<'_, A>,
+    both: &Databases<'_, '_, A>,
     router: RouterId,
     was: &RouterRoutes<A>,
     is: &RouterRoutes<A>,
 ) -> Result<u64, AllocError>
     ensures names { OnOk result (names.new.items ≡ names.old.items
-        ++ map (name_of comparison.now router)
-        (changes_between comparison.now was.now is.now).changes) }
+        ++ map (name_of both.now router)
+        (changes_between both.now was.now is.now).changes) }
     ensures unchanged { IfOk result
-        (λ count. count ≡ (changes_between comparison.now was.now is.now).unchanged) }
+        (λ count. count ≡ (changes_between both.now was.now is.now).unchanged) }
 {
-    let found = changes_between(alloc, comparison, was, is)?;
-    push_names(names, comparison, router, found.as_slice())?;
+    let found = changes_between(alloc, both, was, is)?;
+    push_names(names, both, router, found.as_slice())?;
     Ok(found.unchanged() as u64)
 }
 
@@ -127,18 +127,18 @@ fn push_router<A: Allocator + Copy>(
 pub(crate) fn push_changes<A: Allocator + Copy>(
     names: &mut Vec<ChangeName, A>,
     alloc: A,
-    comparison: &Comparison<'_, A>,
+    both: &Databases<'_, '_, A>,
     router: RouterId,
     was: Option<&RouterRoutes<A>>,
     is: Option<&RouterRoutes<A>>,
 ) -> Result<u64, AllocError>
     ensures names { OnOk result (names.new.items ≡ names.old.items
-        ++ names_by comparison.now router (option_copied was.entry) (option_copied is.entry)) }
+        ++ names_by both.now router (option_copied was.entry) (option_copied is.entry)) }
     ensures unchanged { IfOk result (λ count. count
-        ≡ unchanged_by comparison.now (option_copied was.entry) (option_copied is.entry)) }
+        ≡ unchanged_by both.now (option_copied was.entry) (option_copied is.entry)) }
 {
     match (was, is) {
-        (Some(was), Some(is)) => push_between(names, alloc, comparison, router, was, is),
+        (Some(was), Some(is)) => push_between(names, alloc, both, router, was, is),
         (Some(_), None) => push_router(names, ChangeGroup::RouterGone, router),
         (None, Some(_)) => push_router(names, ChangeGroup::RouterNew, router),
         (None, None) => Ok(0),

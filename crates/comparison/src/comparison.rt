@@ -6,6 +6,7 @@ ghost use Rattle.forwarding.specs.Graphs.{IsForwardingOf, routers_of, routes_at}
 ghost use Rattle.lost_routes.specs.Announced.{announced_in};
 ghost use Rattle.comparison.specs.Compared.{IsCalculated};
 
+use crate::databases::Databases;
 use forwarding::Forwarding;
 use lost_routes::Announced;
 use lsa_codec::RouterId;
@@ -20,8 +21,8 @@ use std::marker::Model;
 pub struct Comparison<'a, A: Allocator = Global> {
     baseline: &'a Database<A>,
     present: &'a Database<A>,
-    were: Forwarding<A>,
-    are: Forwarding<A>,
+    were: Forwarding<'a, A>,
+    are: Forwarding<'a, A>,
     was_announced: Announced<A>,
     is_announced: Announced<A>,
 }
@@ -86,14 +87,14 @@ impl<'a, A: Allocator + Copy> Comparison<'a, A> {
     }
 
     /// Where packets went in the baseline.
-    pub fn were(&self) -> &Forwarding<A>
+    pub fn were(&self) -> &Forwarding<'a, A>
         ensures { IsForwardingOf self.now.baseline result.now }
     {
         &self.were
     }
 
     /// Where packets go.
-    pub fn are(&self) -> &Forwarding<A>
+    pub fn are(&self) -> &Forwarding<'a, A>
         ensures { IsForwardingOf self.now.present result.now }
     {
         &self.are
@@ -111,6 +112,18 @@ impl<'a, A: Allocator + Copy> Comparison<'a, A> {
         ensures { result.now ≡ announced_in self.now.present }
     {
         &self.is_announced
+    }
+
+    /// The two databases without their tables.
+    pub(crate) fn databases(&self) -> Databases<'_, 'a, A>
+        ensures { result ≡ self.now }
+    {
+        Databases::of(
+            self.were.graphs(),
+            self.are.graphs(),
+            &self.was_announced,
+            &self.is_announced,
+        )
     }
 
     /// Whether a router is attached to an area, in the baseline or now. It takes no memory.

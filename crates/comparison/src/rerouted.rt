@@ -3,33 +3,14 @@
 ghost use Rattle.std.specs.Prelude.{◌≡◌, ◌++◌, ◌∷◌, [], if◌then◌else◌, IfOk, OnOk};
 ghost use Rattle.std.specs.Cmp.Lexicographic.{pointwise};
 ghost use Rattle.std.specs.List.{filter};
-ghost use Rattle.lsdb.specs.Lists.{Lists};
-ghost use Rattle.forwarding.specs.Owners.{AreGraphsOf};
-ghost use Rattle.comparison.specs.Rerouted.{hops_of, is_rerouted, rerouted, routers_by, same_router};
+ghost use Rattle.comparison.specs.Rerouted.{hops_of, is_rerouted, rerouted, same_router};
 
-use crate::comparison::Comparison;
+use crate::databases::Databases;
 use best_ways::Route;
-use forwarding::{AreaGraphs, RouterRoutes};
+use forwarding::RouterRoutes;
 use lsa_codec::RouterId;
 use next_hops::{Hop, HopList};
 use std::alloc::{AllocError, Allocator};
-
-/// The routers that a next hop of a router leads to, in order.
-fn routers_by<A: Allocator + Copy>(
-    alloc: A,
-    graphs: &AreaGraphs<A>,
-    router: RouterId,
-    hop: Hop,
-) -> Result<Vec<RouterId, A>, AllocError>
-    ensures { IfOk result (λ found. (db : Lists) → AreGraphsOf db graphs.now
-        → found.items ≡ routers_by db router hop) }
-{
-    match hop {
-        Hop::Link(interface) => graphs.far_ends(alloc, router, interface),
-        Hop::Gateway(interface, address) => graphs.owners(alloc, router, interface, address),
-        Hop::Connected | Hop::Attached(_) => Ok(Vec::new(alloc)),
-    }
-}
 
 /// Whether two lists of routers are one.
 fn are_same_routers(before: &[RouterId], now: &[RouterId]) -> bool
@@ -41,14 +22,14 @@ fn are_same_routers(before: &[RouterId], now: &[RouterId]) -> bool
 /// Whether a next hop of a router leads to other routers than it did.
 fn is_rerouted<A: Allocator + Copy>(
     alloc: A,
-    comparison: &Comparison<'_, A>,
+    both: &Databases<'_, '_, A>,
     router: RouterId,
     hop: Hop,
 ) -> Result<bool, AllocError>
-    ensures { IfOk result (λ found. found ≡ is_rerouted comparison.now router hop) }
+    ensures { IfOk result (λ found. found ≡ is_rerouted both.now router hop) }
 {
-    let before = routers_by(alloc, comparison.were().graphs(), router, hop)?;
-    let now = routers_by(alloc, comparison.are().graphs(), router, hop)?;
+    let before = both.were().targets_of(alloc, router, hop)?;
+    let now = both.are().targets_of(alloc, router, hop)?;
     Ok(!are_same_routers(before.as_slice(), now.as_slice()))
 }
 
@@ -81,16 +62,16 @@ fn push_if<A: Allocator + Copy>(
 /// Those of some hops of a router that lead to other routers than they did.
 fn rerouted_among<A: Allocator + Copy>(
     alloc: A,
-    comparison: &Comparison<'_, A>,
+    both: &Databases<'_, '_, A>,
     router: RouterId,
     hops: &[Hop],
 ) -> Result<Vec<Hop, A>, AllocError>
     ensures { IfOk result (λ found. found.items
-        ≡ filter (is_rerouted comparison.now router) hops.now) }
+        ≡ filter (is_rerouted both.now router) hops.now) }
 {
     let mut found = Vec::new(alloc);
     for hop in hops {
-        let moved = is_rerouted(alloc, comparison, router, *hop)?;
+        let moved = is_rerouted(alloc, both, router, *hop)?;
         push_if(&mut found, moved, *hop)?;
     }
     Ok(found)
@@ -103,11 +84,11 @@ fn rerouted_among<A: Allocator + Copy>(
 /// Memory ran out.
 pub(crate) fn rerouted<A: Allocator + Copy>(
     alloc: A,
-    comparison: &Comparison<'_, A>,
+    both: &Databases<'_, '_, A>,
     is: &RouterRoutes<A>,
 ) -> Result<Vec<Hop, A>, AllocError>
-    ensures { IfOk result (λ found. found.items ≡ rerouted comparison.now is.now) }
+    ensures { IfOk result (λ found. found.items ≡ rerouted both.now is.now) }
 {
     let hops = hops_of(alloc, is.routes().as_slice())?;
-    rerouted_among(alloc, comparison, is.router(), hops.as_slice())
+    rerouted_among(alloc, both, is.router(), hops.as_slice())
 }

@@ -26,12 +26,11 @@ module _ (baseline db : Lists) (both : Compared) (is : both ≡ beside baseline 
       subst (λ (r : Option RouterId). IsChangesDocument baseline db r d) (sym none)
       (subst (λ (fields : Fields). HasMembers fields d) (changed None changes all_changes are) has)
 
-  pub for_one : (router : Option RouterId) (one : RouterId) (changes : ChangesValue) (d : DocumentedValue) → router ≡ Some one
-      → is_known baseline db one ≡ true → changes ≡ changes_for both (one ∷ [])
-      → HasMembers (changes_members both.baseline both.present (Some one) changes) d → IsChangesDocument baseline db router d
+module _ (baseline db : Lists) where
+  pub for_one : (router : Option RouterId) (one : RouterId) (d : DocumentedValue) → router ≡ Some one → is_known baseline db one ≡ true
+      → HasMembers (changes_members baseline db (Some one) (changes_for (beside baseline db) (one ∷ []))) d → IsChangesDocument baseline db router d
   unfolding IsChangesDocument
-  for_one router one changes d some known are has =
+  for_one router one d some known has =
       let one_changes = changes_members baseline db (Some one) (changes_for (beside baseline db) (one ∷ [])) in
       subst (λ (r : Option RouterId). IsChangesDocument baseline db r d) (sym some)
-      (subst (λ b. IfThere b d (HasMembers one_changes d)) (sym known)
-      (subst (λ (fields : Fields). HasMembers fields d) (changed (Some one) changes (λ c. changes_for c (one ∷ [])) are) has))
+      (subst (λ b. IfThere b d (HasMembers one_changes d)) (sym known) has)

@@ -1,5 +1,5 @@
 -- The lines of `explain`.
-use Rattle.std.specs.Prelude.{ℕ, ◌+◌, Bool, if◌then◌else◌, List, [], ◌++◌, length, Option, None, Some, codes, decimal}
+use Rattle.std.specs.Prelude.{ℕ, ◌+◌, Bool, if◌then◌else◌, List, [], ◌∷◌, ◌++◌, length, Option, None, Some, codes, decimal}
 use Rattle.std.specs.Option.{option_map}
 use Rattle.lsa_codec.specs.declared.address.Addr.{Addr}
 use Rattle.lsa_codec.specs.Spelling.{address_text}
@@ -27,10 +27,12 @@ kind_rule External1 = codes "16.4 type 1 external"
 kind_rule External2 = codes "16.4 type 2 external"
 kind_rule Own = codes "16.4 (2) its own"
 
--- the kind of a route decides, or that its source is an external prefix of the router itself
-abbrev pub rule_line : Option RouteLineValue → List ℕ
-rule_line None = codes "rule none"
-rule_line (Some route) = codes "rule " ++ kind_rule (route.source).kind
+-- the kind of a route decides, or that its source is an external prefix of the router itself; with no route, whether there are
+-- candidates for one
+abbrev pub rule_line : Option RouteLineValue → List CandidateLine → List ℕ
+rule_line (Some route) candidates = codes "rule " ++ kind_rule (route.source).kind
+rule_line None [] = codes "rule none: no LSA in its database has the prefix"
+rule_line None (first ∷ candidates) = codes "rule none"
 
 abbrev pub route_line : Called → Option RouteLineValue → List ℕ
 route_line called None = codes "no route"
@@ -102,10 +104,10 @@ abbrev pub lines_in : ExplanationValue → ℕ
 lines_in e = length e.candidates + length e.ways + (2 + length e.rests)
 
 -- the lines of the route and of its rule
-abbrev pub head_text : Called → Option RouteLineValue → List ℕ
-head_text called route = (route_line called route ++ codes "\n") ++ (rule_line route ++ codes "\n")
+abbrev pub head_text : Called → Option RouteLineValue → List CandidateLine → List ℕ
+head_text called route candidates = (route_line called route ++ codes "\n") ++ (rule_line route candidates ++ codes "\n")
 
 abbrev pub explanation_text : Called → ExplanationValue → List ℕ
 explanation_text called e =
-    head_text called e.route ++ lines_of (candidate_line called) e.candidates ++ lines_of (way_line called) e.ways
+    head_text called e.route e.candidates ++ lines_of (candidate_line called) e.candidates ++ lines_of (way_line called) e.ways
     ++ lines_of (rest_line called) e.rests

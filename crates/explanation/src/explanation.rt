@@ -153,7 +153,12 @@ pub fn push_explanation<A: Allocator + Copy>(
     ensures { OnOk result (text.new.items
         ≡ text.old.items ++ explanation_text (called names.now) explanation.now) }
 {
-    push_head(text, names, explanation.route.as_ref())?;
+    push_head(
+        text,
+        names,
+        explanation.route.as_ref(),
+        &explanation.candidates,
+    )?;
     push_lines(text, names, &explanation.candidates)?;
     push_lines(text, names, &explanation.ways)?;
     push_lines(text, names, &explanation.rests)

@@ -5,6 +5,7 @@ ghost use Rattle.std.specs.Option.{option_copied};
 ghost use Rattle.network_names.specs.Names.{called};
 ghost use Rattle.explanation.specs.Texts.{head_text, kind_rule, route_line, rule_line};
 
+use crate::candidate_line::CandidateLine;
 use network_names::Names;
 use route_lines::{RouteLine, push_route};
 use std::alloc::{AllocError, Allocator};
@@ -23,6 +24,9 @@ pub fn kind_rule(kind: RouteKind) -> &'static str
         RouteKind::Own => "16.4 (2) its own",
     }
 }
+
+/// The rule of no route where there is no candidate either.
+const NO_CANDIDATE: &str = "none: no LSA in its database has the prefix";
 
 /// Adds the line of a route, or that there is none.
 fn push_route_line<A: Allocator + Copy, B: Allocator + Copy>(
@@ -47,13 +51,15 @@ fn push_route_line<A: Allocator + Copy, B: Allocator + Copy>(
 fn push_rule_line<A: Allocator + Copy, B: Allocator + Copy>(
     text: &mut Vec<u8, A>,
     route: Option<&RouteLine<B>>,
+    candidates: &[CandidateLine],
 ) -> Result<(), AllocError>
     ensures { OnOk result (text.new.items ≡ text.old.items
-        ++ (rule_line (option_copied route.entry) ++ codes "\n")) }
+        ++ (rule_line (option_copied route.entry) candidates.now ++ codes "\n")) }
 {
     push_word(text, "rule ")?;
     match route {
         Some(route) => push_word(text, kind_rule(route.source.kind))?,
+        None if candidates.is_empty() => push_word(text, NO_CANDIDATE)?,
         None => push_word(text, "none")?,
     }
     push_word(text, "\n")
@@ -64,10 +70,11 @@ pub(crate) fn push_head<A: Allocator + Copy, B: Allocator + Copy>(
     text: &mut Vec<u8, A>,
     names: &Names<'_, A>,
     route: Option<&RouteLine<B>>,
+    candidates: &[CandidateLine],
 ) -> Result<(), AllocError>
     ensures { OnOk result (text.new.items ≡ text.old.items
-        ++ head_text (called names.now) (option_copied route.entry)) }
+        ++ head_text (called names.now) (option_copied route.entry) candidates.now) }
 {
     push_route_line(text, names, route)?;
-    push_rule_line(text, route)
+    push_rule_line(text, route, candidates)
 }

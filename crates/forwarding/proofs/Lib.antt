@@ -1,9 +1,4 @@
-pub mod RisingMembers
-pub mod Taken
-pub mod FirstGraphs
-pub mod FarEnds
-pub mod OwnersOver
-pub mod LongestMatch
+pub mod LongestMatchLemmas
 pub mod Sorted
 pub mod Walked
 pub mod Rounds

@@ -10,7 +10,7 @@ use Rattle.area_graph.proofs.MemberLemmas.{In, Contains-from_In, In-from_Contain
 use Rattle.area_graph.proofs.RisingLemmas.{In-insert, insert-In}
 use Rattle.forwarding.specs.Graphs.{StepValue, next_in, ways_at}
 use Rattle.forwarding.specs.Walks.{IsOnCycle}
-use Rattle.forwarding.specs.Ways.{router_over}
+use Rattle.hop_ends.specs.Ways.{router_over}
 use Rattle.forwarding.specs.steps.Levels.{has_router}
 use Rattle.forwarding.specs.steps.Looping.{IsFoundFrom}
 use Rattle.forwarding.specs.steps.LoopFree.{AreLoopFree, leads_into, leads_only_into}

@@ -8,7 +8,7 @@ use Rattle.lsdb.specs.Lists.{Lists}
 use Rattle.forwarding.specs.declared.ends.Ends.{Ends}
 use Rattle.forwarding.specs.Graphs.{AreEnds, ForwardingValue, IsForwardingFrom, SomeEnds, StepValue, delivers, drops, graph_of, graph_over, leaves_network, next_in, routers_of, step_at, step_of, ways_by}
 use Rattle.forwarding.specs.Walks.{AreLoops, AreReached, Goes, IsLeastSteps, IsLoopFrom, Reaches}
-use Rattle.forwarding.specs.Ways.{routers_over}
+use Rattle.hop_ends.specs.Ways.{routers_over}
 use Rattle.forwarding.proofs.PartKnown.{step_over}
 use Rattle.forwarding.proofs.SameWalkLemmas.{reaches_back, reaches_on, reaches_there, same_back, start_reached, walk_reaches, walk_there}
 

@@ -13,14 +13,13 @@ use Rattle.lsa_codec.specs.declared.address.Addr.{Addr}
 use Rattle.lsa_codec.specs.declared.address.RouterId.{RouterId}
 use Rattle.lsa_codec.proofs.OrderLemmas.{router_exact}
 use Rattle.lsdb.specs.Lists.{Lists}
-use Rattle.area_graph.specs.Topology.{Topology}
 use Rattle.area_graph.proofs.MemberLemmas.{In, In-from_Contains}
 use Rattle.routing_table.specs.Routers.{attached_routers}
 use Rattle.forwarding.specs.Graphs.{IsForwardingFrom, StepValue, graph_of, graph_over, next_in, routers_of, routes_at, step_at, step_of, ways_by}
 use Rattle.forwarding.specs.Matches.{RouterValue, router_in}
-use Rattle.forwarding.specs.Owners.{AreGraphsOf}
+use Rattle.hop_ends.specs.Owners.{AreGraphsOf, GraphsValue}
 use Rattle.forwarding.specs.Walks.{Reaches}
-use Rattle.forwarding.specs.Ways.{routers_over}
+use Rattle.hop_ends.specs.Ways.{routers_over}
 use Rattle.forwarding.specs.steps.OnTheWay.{IsFirstMissing, IsPart, is_among, is_missing}
 use Rattle.forwarding.proofs.Insertions.{find_insert_other, find_insert_same, map_insert, passes_first}
 use Rattle.forwarding.proofs.SameWalkLemmas.{reaches_back}
@@ -179,7 +178,7 @@ module _ (db : Lists) (address : Addr) where
           (step_over (routers_of db) router ∙ ap (option_map (step_of db address)) (sym (same_routes router reached)) ∙ sym (step_known router))
 
       -- all that packets pass is known
-      pub all_known : (graphs : List Topology) → AreGraphsOf db graphs → IsForwardingFrom db start address (record { graphs = graphs; routers = routers })
+      pub all_known : (graphs : GraphsValue) → AreGraphsOf db graphs → IsForwardingFrom db start address (record { graphs = graphs; routers = routers })
       all_known graphs are = record {
         graphs = are;
         reached = λ router reached. same_routes router (reaches_back (next_in graph) (next_in (graph_of db address)) start same_next router reached);

@@ -13,7 +13,7 @@ use Rattle.area_graph.specs.Rising.{rising}
 use Rattle.area_graph.proofs.MemberLemmas.{In, In-filter_map, In-flat_map, In-list_any, Some-same, filter_map-In, flat_map-In, list_any-In}
 use Rattle.area_graph.proofs.RisingLemmas.{In-rising, rising-In, rising-pairs}
 use Rattle.forwarding.specs.Graphs.{StepValue, next_in, ways_at}
-use Rattle.forwarding.specs.Ways.{router_over}
+use Rattle.hop_ends.specs.Ways.{router_over}
 use Rattle.forwarding.specs.steps.Levels.{has_router, next_level, unseen, unseen_from, unseen_over}
 use Rattle.forwarding.specs.Walks.{AreReached, IsLess}
 use Rattle.forwarding.proofs.Rounds.{IsRound, all_reached, first_round, next_round}

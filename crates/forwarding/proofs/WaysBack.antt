@@ -13,7 +13,7 @@ use Rattle.area_graph.proofs.MemberLemmas.{In, Contains-from_In, In-cases, In-fi
 use Rattle.area_graph.proofs.RisingLemmas.{Contains-rising, rising-pairs}
 use Rattle.forwarding.specs.Graphs.{StepValue, next_in, ways_at}
 use Rattle.forwarding.specs.Walks.{AreReached, Goes, IsLess, IsLoopOf, IsOnCycle, IsWalk, Reaches}
-use Rattle.forwarding.specs.Ways.{router_over}
+use Rattle.hop_ends.specs.Ways.{router_over}
 use Rattle.forwarding.specs.steps.Looping.{AreBack, leads_to, sends_to}
 use Rattle.forwarding.proofs.Rounded.{less_pairs}
 use Rattle.forwarding.proofs.Walked.{AllPairs-from, InPairs-from, walk_last, walk_push}

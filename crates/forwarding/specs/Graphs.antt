@@ -7,19 +7,18 @@ use Rattle.lsa_codec.specs.Order.{router_cmp}
 use Rattle.lsa_codec.specs.declared.address.Addr.{Addr}
 use Rattle.lsa_codec.specs.declared.address.RouterId.{RouterId}
 use Rattle.lsdb.specs.Lists.{Lists}
-use Rattle.area_graph.specs.Topology.{Topology}
 use Rattle.routing_table.specs.Routers.{attached_routers}
 use Rattle.forwarding.specs.declared.ends.Ends.{Ends}
-use Rattle.forwarding.specs.declared.way.Way.{Way}
+use Rattle.hop_ends.specs.declared.way.Way.{Way}
 use Rattle.forwarding.specs.Matches.{MatchValue, RouterValue, match_of, router_in}
-use Rattle.forwarding.specs.Owners.{AreGraphsOf}
+use Rattle.hop_ends.specs.Owners.{AreGraphsOf, GraphsValue}
 use Rattle.forwarding.specs.Walks.{Reaches}
-use Rattle.forwarding.specs.Ways.{is_direct, is_exit, routers_over}
+use Rattle.hop_ends.specs.Ways.{is_direct, is_exit, routers_over}
 
 -- what is calculated of a database for the forwarding graphs of all addresses: the graphs of its areas, and of each attached
 -- router what its entries come from
 pub record ForwardingValue : Type 0 where
-  pub graphs : List Topology
+  pub graphs : GraphsValue
   pub routers : List RouterValue
 
 -- the attached routers, in rising order

@@ -1,5 +1,3 @@
-pub mod Ways
-pub mod Owners
 pub mod OwnExternals
 pub mod Matches
 pub mod Walks

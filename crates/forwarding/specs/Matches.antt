@@ -16,8 +16,8 @@ use Rattle.best_ways.specs.declared.rank.PathType.{PathType}
 use Rattle.best_ways.specs.declared.rank.PathType.TheVariants.{Intra, Inter, Ext1, Ext2}
 use Rattle.routing_table.specs.Tables.{table_in}
 use Rattle.forwarding.specs.OwnExternals.{own_externals}
-use Rattle.forwarding.specs.Ways.{ways_of}
-use Rattle.forwarding.specs.declared.way.Way.{Way}
+use Rattle.hop_ends.specs.Ways.{ways_of}
+use Rattle.hop_ends.specs.declared.way.Way.{Way}
 
 -- an entry: its prefix, whether that is an external prefix of the router's own, and the ways of its route
 pub record MatchValue : Type 0 where

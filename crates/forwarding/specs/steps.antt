@@ -1,5 +1,4 @@
 -- What the steps of the code do: only contracts within the crate cite these.
-pub mod Rows
 pub mod Bases
 pub mod Levels
 pub mod OnTheWay

@@ -6,11 +6,11 @@ ghost use Rattle.std.specs.Option.{option_copied};
 ghost use Rattle.lsa_codec.specs.declared.address.RouterId.{RouterId as AnyRouter};
 ghost use Rattle.forwarding.specs.Graphs.{AreEnds, delivers, drops, leaves_network, next_in};
 ghost use Rattle.forwarding.specs.Walks.{AreReached};
-ghost use Rattle.forwarding.specs.Ways.{is_direct, is_exit};
+ghost use Rattle.hop_ends.specs.Ways.{is_direct, is_exit};
 ghost use Rattle.forwarding.specs.steps.Ending.{either, ends_at, no_ends};
 
 use crate::graph::{ForwardingGraph, RouterStep};
-use crate::way::Way;
+use hop_ends::Way;
 use lsa_codec::RouterId;
 use std::alloc::Allocator;
 

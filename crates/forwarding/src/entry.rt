@@ -3,12 +3,10 @@
 ghost use Rattle.std.specs.Prelude.{◌≡◌, IfOk};
 ghost use Rattle.lsdb.specs.Lists.{Lists};
 ghost use Rattle.forwarding.specs.Matches.{own_entry, route_entry};
-ghost use Rattle.forwarding.specs.Owners.{AreGraphsOf};
+ghost use Rattle.hop_ends.specs.Owners.{AreGraphsOf};
 
-use crate::area_graphs::AreaGraphs;
-use crate::way::Way;
-use crate::ways::ways_of;
 use area_routes::Route;
+use hop_ends::{AreaGraphs, Way, ways_of};
 use lsa_codec::{Prefix, RouterId};
 use std::alloc::{AllocError, Allocator, Global};
 use std::marker::Model;
@@ -49,7 +47,7 @@ impl<A: Allocator + Copy> Match<A> {
     /// The entry by a route of a router's table.
     pub(crate) fn by_route(
         alloc: A,
-        graphs: &AreaGraphs<A>,
+        graphs: &AreaGraphs<'_, A>,
         router: RouterId,
         route: &Route<A>,
     ) -> Result<Match<A>, AllocError>

@@ -7,12 +7,12 @@ ghost use Rattle.lsa_codec.specs.Order.{router_cmp};
 ghost use Rattle.lsdb.specs.Lists.{Lists};
 ghost use Rattle.lsdb.specs.Slots.{lists_of};
 ghost use Rattle.forwarding.specs.Graphs.{IsForwardingOf, graph_of, routes_at, step_of};
-ghost use Rattle.forwarding.specs.Owners.{AreGraphsOf};
+ghost use Rattle.hop_ends.specs.Owners.{AreGraphsOf};
 
-use crate::area_graphs::AreaGraphs;
 use crate::graph::{ForwardingGraph, RouterStep};
 use crate::router_routes::RouterRoutes;
 use crate::table_basis::TableBasis;
+use hop_ends::AreaGraphs;
 use lsa_codec::{Addr, RouterId};
 use lsdb::Database;
 use routing_table::routers;
@@ -23,12 +23,12 @@ use std::marker::Model;
 /// What the forwarding graphs of a database come from: the graphs of its areas, and of each
 /// attached router its table and the external prefixes that it announces.
 #[derive(Drop)]
-pub struct Forwarding<A: Allocator = Global> {
-    pub(crate) graphs: AreaGraphs<A>,
+pub struct Forwarding<'a, A: Allocator = Global> {
+    pub(crate) graphs: AreaGraphs<'a, A>,
     pub(crate) routers: Vec<RouterRoutes<A>, A>,
 }
 
-impl<A: Allocator> Model for Forwarding<A> {
+impl<'a, A: Allocator> Model for Forwarding<'a, A> {
     ghost use Rattle.std.specs.Prelude.{map};
     ghost use Rattle.std.specs.List.Sorted.{IsStrictlySortedBy};
     ghost use Rattle.lsa_codec.specs.Order.{router_cmp};
@@ -44,7 +44,7 @@ impl<A: Allocator> Model for Forwarding<A> {
 /// A router and its match of an address.
 pub(crate) fn step_of<A: Allocator + Copy>(
     alloc: A,
-    graphs: &AreaGraphs<A>,
+    graphs: &AreaGraphs<'_, A>,
     routes: &RouterRoutes<A>,
     address: Addr,
 ) -> Result<RouterStep<A>, AllocError>
@@ -59,7 +59,7 @@ pub(crate) fn step_of<A: Allocator + Copy>(
     })
 }
 
-impl<A: Allocator + Copy> Forwarding<A> {
+impl<'a, A: Allocator + Copy> Forwarding<'a, A> {
     /// The graphs, tables and external prefixes of a database. The meter counts a tree for each
     /// router and area that it is attached to.
     ///
@@ -68,13 +68,13 @@ impl<A: Allocator + Copy> Forwarding<A> {
     /// Memory ran out.
     pub fn of(
         alloc: A,
-        database: &Database<A>,
+        database: &'a Database<A>,
         meter: &mut Meter,
-    ) -> Result<Forwarding<A>, AllocError>
+    ) -> Result<Forwarding<'a, A>, AllocError>
         ensures { IfOk result (IsForwardingOf (lists_of database.now)) }
     {
-        let graphs = AreaGraphs::of(alloc, database)?;
         let attached = routers(alloc, database)?;
+        let graphs = AreaGraphs::for_routers(alloc, database, &attached)?;
         let mut basis = TableBasis::new(alloc);
         let mut routers = Vec::new(alloc);
         for router in &attached {
@@ -84,7 +84,7 @@ impl<A: Allocator + Copy> Forwarding<A> {
     }
 
     /// The graphs of the areas.
-    pub fn graphs(&self) -> &AreaGraphs<A>
+    pub fn graphs(&self) -> &AreaGraphs<'a, A>
         ensures { result.now ≡ self.now.graphs }
     {
         &self.graphs

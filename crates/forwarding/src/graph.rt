@@ -7,7 +7,7 @@ ghost use Rattle.lsa_codec.specs.Order.{router_cmp};
 ghost use Rattle.forwarding.specs.Graphs.{step_at, ways_at};
 
 use crate::entry::Match;
-use crate::way::Way;
+use hop_ends::Way;
 use lsa_codec::RouterId;
 use std::alloc::{Allocator, Global};
 use std::marker::Model;

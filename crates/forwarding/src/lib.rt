@@ -6,18 +6,6 @@
 //! its own and out of the network. Walks in it are the paths of packets.
 #![tactic(auto)]
 
-// Sets of routers.
-mod in_order;
-
-// The routers that next hops lead to.
-mod area_graphs;
-mod far_ends;
-mod owners;
-
-// The ways of routes.
-mod way;
-mod ways;
-
 // The match of an address.
 mod entry;
 mod own_externals;
@@ -36,7 +24,6 @@ mod reached;
 // What holds of the definitions.
 mod laws;
 
-pub use area_graphs::AreaGraphs;
 pub use ends::Ends;
 pub use entry::Match;
 pub use forwarding::Forwarding;
@@ -44,4 +31,3 @@ pub use graph::{ForwardingGraph, RouterStep};
 pub use laws::matches_are_longest;
 pub use loops::Loop;
 pub use router_routes::RouterRoutes;
-pub use way::Way;

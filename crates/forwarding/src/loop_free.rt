@@ -5,7 +5,7 @@ ghost use Rattle.forwarding.specs.Graphs.{next_in};
 ghost use Rattle.forwarding.specs.steps.LoopFree.{AreLoopFree, leads_into, leads_only_into};
 
 use crate::graph::ForwardingGraph;
-use crate::way::Way;
+use hop_ends::Way;
 use lsa_codec::RouterId;
 use std::alloc::{AllocError, Allocator};
 use std::collections::BTreeSet;

@@ -7,10 +7,8 @@ ghost use Rattle.forwarding.specs.Walks.{AreLoops, IsLoopOf, IsOnCycle, Reaches}
 ghost use Rattle.forwarding.specs.steps.Looping.{AreBack, IsFoundFrom, is_first, leads_to, sends_to};
 ghost use Rattle.forwarding.specs.steps.LoopFree.{AreLoopFree};
 
-use crate::far_ends::push_some;
 use crate::graph::ForwardingGraph;
-use crate::in_order::in_order;
-use crate::way::Way;
+use hop_ends::{Way, in_order, push_some};
 use lsa_codec::RouterId;
 use std::alloc::{AllocError, Allocator, Global};
 use std::collections::BTreeSet;

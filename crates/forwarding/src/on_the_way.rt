@@ -5,18 +5,18 @@ ghost use Rattle.std.specs.Option.{option_copied};
 ghost use Rattle.lsdb.specs.Slots.{lists_of};
 ghost use Rattle.routing_table.specs.Routers.{attached_routers};
 ghost use Rattle.forwarding.specs.Graphs.{IsForwardingFrom, graph_over, step_at};
-ghost use Rattle.forwarding.specs.Owners.{AreGraphsOf};
+ghost use Rattle.hop_ends.specs.Owners.{AreGraphsOf};
 ghost use Rattle.forwarding.specs.steps.Bases.{IsBasisOf};
 ghost use Rattle.forwarding.specs.steps.OnTheWay.{IsFirstMissing, IsPart, is_among, is_missing};
 ghost use Rattle.std.specs.Prelude.{None};
 ghost use Rattle.std.specs.List.Sorted.{IsStrictlySortedBy};
 ghost use Rattle.lsa_codec.specs.Order.{router_cmp};
 
-use crate::area_graphs::AreaGraphs;
 use crate::forwarding::{Forwarding, step_of};
 use crate::graph::ForwardingGraph;
 use crate::router_routes::RouterRoutes;
 use crate::table_basis::TableBasis;
+use hop_ends::AreaGraphs;
 use lsa_codec::{Addr, RouterId};
 use lsdb::Database;
 use routing_table::routers;
@@ -66,7 +66,7 @@ fn first_missing<A: Allocator + Copy>(
 fn add<A: Allocator + Copy>(
     alloc: A,
     database: &Database<A>,
-    graphs: &AreaGraphs<A>,
+    graphs: &AreaGraphs<'_, A>,
     address: Addr,
     router: RouterId,
     basis: &mut TableBasis<A>,
@@ -99,7 +99,7 @@ fn add<A: Allocator + Copy>(
     Ok(())
 }
 
-impl<A: Allocator + Copy> Forwarding<A> {
+impl<'a, A: Allocator + Copy> Forwarding<'a, A> {
     /// What is needed for packets from a router to an address alone, and the forwarding graph of
     /// the address of the routers that these pass. The meter counts a tree for each of these
     /// routers and area that it is attached to.
@@ -109,11 +109,11 @@ impl<A: Allocator + Copy> Forwarding<A> {
     /// Memory ran out.
     pub fn from_router(
         alloc: A,
-        database: &Database<A>,
+        database: &'a Database<A>,
         start: RouterId,
         address: Addr,
         meter: &mut Meter,
-    ) -> Result<(Forwarding<A>, ForwardingGraph<A>), AllocError>
+    ) -> Result<(Forwarding<'a, A>, ForwardingGraph<A>), AllocError>
         ensures forwarding { IfOk result
             (λ found. IsForwardingFrom (lists_of database.now) start address found.0) }
         ensures graph { IfOk result

@@ -8,10 +8,8 @@ ghost use Rattle.forwarding.specs.Graphs.{next_in};
 ghost use Rattle.forwarding.specs.Walks.{AreReached};
 ghost use Rattle.forwarding.specs.steps.Levels.{next_level, unseen, unseen_from, unseen_over};
 
-use crate::far_ends::push_some;
 use crate::graph::ForwardingGraph;
-use crate::in_order::in_order;
-use crate::way::Way;
+use hop_ends::{Way, in_order, push_some};
 use lsa_codec::RouterId;
 use std::alloc::{AllocError, Allocator};
 use std::collections::BTreeSet;

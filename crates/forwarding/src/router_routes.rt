@@ -7,13 +7,13 @@ ghost use Rattle.lsdb.specs.Lists.{Lists};
 ghost use Rattle.lsdb.specs.Slots.{lists_of};
 ghost use Rattle.forwarding.specs.Matches.{entry_for, is_intra, is_own_hop, is_own_network, match_of, router_in};
 ghost use Rattle.forwarding.specs.steps.Bases.{IsBasisOf};
-ghost use Rattle.forwarding.specs.Owners.{AreGraphsOf};
+ghost use Rattle.hop_ends.specs.Owners.{AreGraphsOf};
 
-use crate::area_graphs::AreaGraphs;
 use crate::entry::Match;
 use crate::own_externals::own_externals;
 use crate::table_basis::TableBasis;
 use area_routes::{PathType, Route, Routes};
+use hop_ends::AreaGraphs;
 use lsa_codec::{Addr, Prefix, RouterId};
 use lsdb::Database;
 use next_hops::Hop;
@@ -133,7 +133,7 @@ impl<A: Allocator + Copy> RouterRoutes<A> {
     pub fn entry_for(
         &self,
         alloc: A,
-        graphs: &AreaGraphs<A>,
+        graphs: &AreaGraphs<'_, A>,
         net: Prefix,
     ) -> Result<Option<Match<A>>, AllocError>
         ensures { IfOk result (λ found. (db : Lists) → AreGraphsOf db graphs.now
@@ -158,7 +158,7 @@ impl<A: Allocator + Copy> RouterRoutes<A> {
     pub fn match_of(
         &self,
         alloc: A,
-        graphs: &AreaGraphs<A>,
+        graphs: &AreaGraphs<'_, A>,
         address: Addr,
     ) -> Result<Option<Match<A>>, AllocError>
         ensures { IfOk result (λ found. (db : Lists) → AreGraphsOf db graphs.now

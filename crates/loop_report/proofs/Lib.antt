@@ -4,3 +4,8 @@ pub mod Among
 pub mod OneAtom
 pub mod Search
 pub mod Parted
+pub mod Reading
+pub mod LongestHere
+pub mod Sources
+pub mod NoLoops
+pub mod Again

@@ -5,8 +5,8 @@ use Rattle.std.specs.Option.{option_map_or}
 use Rattle.lsa_codec.specs.Prefix.{Net}
 use Rattle.lsa_codec.specs.declared.address.RouterId.{RouterId}
 use Rattle.forwarding.specs.Graphs.{StepValue, drops, passes_at}
-use Rattle.forwarding.specs.Ways.{router_over}
-use Rattle.forwarding.specs.declared.way.Way.{Way}
+use Rattle.hop_ends.specs.Ways.{router_over}
+use Rattle.hop_ends.specs.declared.way.Way.{Way}
 use Rattle.microloops.specs.Changeover.{routers_of}
 
 -- the ways of a router's match

@@ -1,3 +1,5 @@
 -- What the steps of the code do: only contracts within the crate cite these.
 pub mod Ends
 pub mod Comparing
+pub mod Targets
+pub mod Falling

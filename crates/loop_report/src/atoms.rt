@@ -59,7 +59,11 @@ impl<A: Allocator + Copy> Atoms<A> {
     /// # Errors
     ///
     /// Memory ran out.
-    pub fn of(alloc: A, was: &Forwarding<A>, is: &Forwarding<A>) -> Result<Atoms<A>, AllocError>
+    pub fn of(
+        alloc: A,
+        was: &Forwarding<'_, A>,
+        is: &Forwarding<'_, A>,
+    ) -> Result<Atoms<A>, AllocError>
         ensures { IfOk result (λ atoms. atoms
             ≡ rising prefix_cmp (nets_of_all was.now.routers ++ nets_of_all is.now.routers)) }
     {

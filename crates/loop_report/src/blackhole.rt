@@ -7,7 +7,8 @@ ghost use Rattle.forwarding.specs.Graphs.{drops};
 ghost use Rattle.microloops.specs.Changeover.{routers_of};
 ghost use Rattle.loop_report.specs.Blackholes.{blackhole_at, is_blackhole, is_new, leads_to, new_blackholes, senders, sends_to, ways_of};
 
-use forwarding::{ForwardingGraph, RouterStep, Way};
+use forwarding::{ForwardingGraph, RouterStep};
+use hop_ends::Way;
 use lsa_codec::{Prefix, RouterId};
 use std::alloc::{AllocError, Allocator, Global};
 use std::marker::Model;

@@ -17,7 +17,7 @@ use std::alloc::{AllocError, Allocator};
 /// What may loop at the addresses of an atom.
 fn at_atom<A: Allocator + Copy>(
     alloc: A,
-    compared: &Compared<A>,
+    compared: &Compared<'_, A>,
     net: Prefix,
 ) -> Result<Vec<PrefixLoop<A>, A>, AllocError>
     ensures { IfOk result (λ loops. (was is : Lists) → IsComparedOf was is compared.now
@@ -34,7 +34,7 @@ fn at_atom<A: Allocator + Copy>(
 /// What may loop at the atoms of some prefixes, in their order.
 fn at_atoms<A: Allocator + Copy>(
     alloc: A,
-    compared: &Compared<A>,
+    compared: &Compared<'_, A>,
     nets: &[Prefix],
 ) -> Result<Vec<PrefixLoop<A>, A>, AllocError>
     ensures { IfOk result (λ loops. (was is : Lists) → IsComparedOf was is compared.now

@@ -14,12 +14,14 @@ mod nets;
 
 // What one forwarding graph shows, or two of one address.
 mod blackhole;
+mod falling;
 mod loops;
 
 // What the databases show.
 mod changeover;
 mod compared;
 mod report;
+mod targets;
 
 // The texts.
 mod blackhole_text;

@@ -3,6 +3,7 @@
 ghost use Rattle.std.specs.Prelude.{◌≡◌, ◌++◌, [], IfOk, OnOk};
 ghost use Rattle.lsdb.specs.Lists.{Lists};
 ghost use Rattle.lsdb.specs.Slots.{lists_of};
+ghost use Rattle.forwarding.specs.Graphs.{graph_of};
 ghost use Rattle.loop_report.specs.Blackholes.{AreNewBlackholes, new_blackholes};
 ghost use Rattle.loop_report.specs.Loops.{AreLoopsNow, AreLoopsOf};
 ghost use Rattle.loop_report.specs.Parts.{AreAtAtoms, AreParts, IsAtAtom};
@@ -10,9 +11,9 @@ ghost use Rattle.loop_report.specs.steps.Comparing.{IsComparedOf};
 
 use crate::blackhole::{Blackhole, new_blackholes};
 use crate::compared::Compared;
+use crate::falling::costs_fall;
 use crate::loops::{PrefixLoop, loops_at};
-use forwarding::ForwardingGraph;
-use lsa_codec::Prefix;
+use lsa_codec::{Addr, Prefix};
 use lsdb::Database;
 use spf::Meter;
 use std::alloc::{AllocError, Allocator, Global};
@@ -60,24 +61,36 @@ impl<A: Allocator + Copy> LoopReport<A> {
         self.blackholes.append(&mut blackholes)
     }
 
-    /// The loops of a forwarding graph, and the blackholes that the graph before does not have.
-    fn at_graphs(
+    /// The loops of the forwarding graphs of an address, and the blackholes that the graph before
+    /// does not have.
+    fn at_address(
         alloc: A,
+        compared: &Compared<'_, A>,
         net: Prefix,
-        was: &ForwardingGraph<A>,
-        is: &ForwardingGraph<A>,
+        address: Addr,
     ) -> Result<LoopReport<A>, AllocError>
-        ensures loops { IfOk result (λ report. AreLoopsOf net is.now report.loops) }
+        ensures loops { IfOk result (λ report. (was is : Lists) → IsComparedOf was is compared.now
+            → AreLoopsOf net (graph_of is address) report.loops) }
         ensures blackholes { IfOk result
-            (λ report. report.blackholes ≡ new_blackholes net was.now is.now) }
+            (λ report. (was is : Lists) → IsComparedOf was is compared.now
+            → report.blackholes ≡ new_blackholes net (graph_of was address) (graph_of is address)) }
     {
-        let loops = loops_at(alloc, net, is)?;
-        let blackholes = new_blackholes(alloc, net, was, is)?;
+        if costs_fall(&compared.is, &compared.hops, address) {
+            return Ok(LoopReport::empty(alloc));
+        }
+        let earlier = compared.was.graph(alloc, address)?;
+        let present = compared.is.graph(alloc, address)?;
+        let loops = loops_at(alloc, net, &present)?;
+        let blackholes = new_blackholes(alloc, net, &earlier, &present)?;
         Ok(LoopReport { loops, blackholes })
     }
 
     /// The loops and new blackholes of the addresses of an atom.
-    fn at_atom(alloc: A, compared: &Compared<A>, net: Prefix) -> Result<LoopReport<A>, AllocError>
+    fn at_atom(
+        alloc: A,
+        compared: &Compared<'_, A>,
+        net: Prefix,
+    ) -> Result<LoopReport<A>, AllocError>
         ensures loops { IfOk result (λ report. (was is : Lists) → IsComparedOf was is compared.now
             → IsAtAtom AreLoopsNow was is net report.loops) }
         ensures blackholes { IfOk result
@@ -87,15 +100,13 @@ impl<A: Allocator + Copy> LoopReport<A> {
         let Some(address) = compared.atoms.address_of(net) else {
             return Ok(LoopReport::empty(alloc));
         };
-        let earlier = compared.was.graph(alloc, address)?;
-        let present = compared.is.graph(alloc, address)?;
-        LoopReport::at_graphs(alloc, net, &earlier, &present)
+        LoopReport::at_address(alloc, compared, net, address)
     }
 
     /// The loops and new blackholes of the atoms of some prefixes, in their order.
     fn at_atoms(
         alloc: A,
-        compared: &Compared<A>,
+        compared: &Compared<'_, A>,
         nets: &[Prefix],
     ) -> Result<LoopReport<A>, AllocError>
         ensures loops { IfOk result (λ report. (was is : Lists) → IsComparedOf was is compared.now

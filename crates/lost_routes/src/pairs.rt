@@ -73,7 +73,7 @@ fn pairs_by<A: Allocator + Copy>(
     alloc: A,
     baseline: &Announced<A>,
     now: &Announced<A>,
-    were: &Forwarding<A>,
+    were: &Forwarding<'_, A>,
     routers: &[RouterRoutes<A>],
 ) -> Result<LostPairs<A>, AllocError>
     ensures { IfOk result (λ found. found
@@ -101,8 +101,8 @@ impl<A: Allocator + Copy> LostPairs<A> {
         alloc: A,
         baseline: &Announced<A>,
         now: &Announced<A>,
-        were: &Forwarding<A>,
-        are: &Forwarding<A>,
+        were: &Forwarding<'_, A>,
+        are: &Forwarding<'_, A>,
     ) -> Result<LostPairs<A>, AllocError>
         ensures { IfOk result (λ found. found
             ≡ pairs_by baseline.now now.now were.now.routers are.now.routers) }

@@ -8,7 +8,7 @@ use Rattle.lsa_codec.specs.Order.{router_cmp}
 use Rattle.lsa_codec.specs.declared.address.RouterId.{RouterId}
 use Rattle.area_graph.proofs.MemberLemmas.{Contains-from_In, In, In-from_Contains, map-In}
 use Rattle.forwarding.specs.Graphs.{StepValue, next_in}
-use Rattle.forwarding.specs.Ways.{routers_over}
+use Rattle.hop_ends.specs.Ways.{routers_over}
 use Rattle.microloops.specs.Changeover.{next_in_either, routers_in_either, routers_of}
 use Rattle.microloops.specs.steps.Groups.{Has}
 use Rattle.microloops.specs.steps.Matched.{ways_of}

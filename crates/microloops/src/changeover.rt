@@ -10,7 +10,8 @@ ghost use Rattle.microloops.specs.steps.Matched.{ways_of};
 
 use crate::microloop::Microloop;
 use crate::search::Search;
-use forwarding::{ForwardingGraph, RouterStep, Way};
+use forwarding::{ForwardingGraph, RouterStep};
+use hop_ends::Way;
 use lsa_codec::RouterId;
 use std::alloc::{AllocError, Allocator};
 use std::collections::BTreeSet;

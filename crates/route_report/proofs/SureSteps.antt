@@ -13,11 +13,11 @@ use Rattle.lsa_codec.specs.declared.address.RouterId.{RouterId}
 use Rattle.lsa_codec.proofs.OrderLemmas.{router_exact, router_total}
 use Rattle.area_graph.proofs.MemberLemmas.{In, Contains-from_In, In-filter_map, In-from_Contains, In-list_any, filter_map-In, list_all-In, list_any-In}
 use Rattle.area_graph.proofs.RisingLemmas.{In-insert, insert-In}
-use Rattle.forwarding.specs.declared.way.Way.{Way}
+use Rattle.hop_ends.specs.declared.way.Way.{Way}
 use Rattle.forwarding.specs.Graphs.{StepValue, next_in, step_at, ways_by}
 use Rattle.forwarding.specs.Matches.{MatchValue}
 use Rattle.forwarding.specs.Walks.{AreReached, IsWalk}
-use Rattle.forwarding.specs.Ways.{router_over, routers_over}
+use Rattle.hop_ends.specs.Ways.{router_over, routers_over}
 use Rattle.route_report.specs.Passing.{IsPassed, ends_by, ends_walks}
 use Rattle.route_report.specs.steps.Sure.{Adds, AreSure, IsSettled, has_router, is_sure, leads_into, leads_only_into, sure_by}
 

@@ -5,8 +5,8 @@ use Rattle.lsa_codec.specs.declared.address.RouterId.{RouterId}
 use Rattle.lsdb.specs.Lists.{Lists}
 use Rattle.next_hops.specs.declared.hop.Hop.{Hop}
 use Rattle.next_hops.specs.declared.hop.Hop.TheVariants.{Connected, Link, Attached, Gateway}
-use Rattle.forwarding.specs.declared.way.Way.{Way}
-use Rattle.forwarding.specs.declared.way.Way.TheVariants.{Via, Direct, Exit}
+use Rattle.hop_ends.specs.declared.way.Way.{Way}
+use Rattle.hop_ends.specs.declared.way.Way.TheVariants.{Via, Direct, Exit}
 use Rattle.route_lines.specs.declared.path_step.PathStep.{PathStep}
 use Rattle.route_lines.specs.declared.path_step.StepTarget.{StepTarget}
 use Rattle.route_lines.specs.declared.path_step.StepTarget.TheVariants.{To, Delivered, External}

@@ -5,8 +5,8 @@ use Rattle.lsa_codec.specs.declared.address.RouterId.{RouterId}
 use Rattle.lsdb.specs.Lists.{Lists}
 use Rattle.next_hops.specs.declared.hop.Hop.{Hop}
 use Rattle.next_hops.specs.declared.hop.Hop.TheVariants.{Connected, Link, Attached, Gateway}
-use Rattle.forwarding.specs.declared.way.Way.{Way}
-use Rattle.forwarding.specs.declared.way.Way.TheVariants.{Via, Direct, Exit}
+use Rattle.hop_ends.specs.declared.way.Way.{Way}
+use Rattle.hop_ends.specs.declared.way.Way.TheVariants.{Via, Direct, Exit}
 use Rattle.route_lines.specs.declared.route_way.WayTarget.TheVariants as target
 use Rattle.route_lines.specs.RouteLines.{RouteWayValue}
 use Rattle.route_report.specs.declared.sought.Leg.{Leg}

@@ -2,12 +2,13 @@
 
 ghost use Rattle.std.specs.Prelude.{◌≡◌, IfOk, option_map};
 ghost use Rattle.lsdb.specs.Slots.{lists_of};
-ghost use Rattle.forwarding.specs.Owners.{AreGraphsOf};
+ghost use Rattle.hop_ends.specs.Owners.{AreGraphsOf};
 ghost use Rattle.router_entries.specs.Entries.{is_own_external};
 ghost use Rattle.route_report.specs.Lines.{announced_by, line_by, line_for, line_of, own_source, source_of};
 
 use crate::way::ways_over;
-use forwarding::{AreaGraphs, Match, RouterRoutes};
+use forwarding::{Match, RouterRoutes};
+use hop_ends::AreaGraphs;
 use lsa_codec::{Prefix, RouterId};
 use lsdb::Database;
 use route_lines::{OwnSource, RouteLine, RouteSource};
@@ -118,7 +119,7 @@ pub(crate) fn line_by<A: Allocator + Copy>(
 pub fn route_line<A: Allocator + Copy>(
     alloc: A,
     database: &Database<A>,
-    graphs: &AreaGraphs<A>,
+    graphs: &AreaGraphs<'_, A>,
     routes: &RouterRoutes<A>,
     net: Prefix,
 ) -> Result<Option<RouteLine<A>>, AllocError>

@@ -8,7 +8,8 @@ ghost use Rattle.forwarding.specs.Walks.{AreReached};
 ghost use Rattle.route_report.specs.Passing.{IsPassed, ends_by};
 ghost use Rattle.route_report.specs.steps.Sure.{Adds, leads_into, leads_only_into, sure_by};
 
-use forwarding::{ForwardingGraph, RouterStep, Way};
+use forwarding::{ForwardingGraph, RouterStep};
+use hop_ends::Way;
 use lsa_codec::RouterId;
 use std::alloc::{AllocError, Allocator};
 use std::collections::BTreeSet;

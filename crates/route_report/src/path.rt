@@ -30,7 +30,7 @@ fn source_by<A: Allocator + Copy>(
 /// Where the entry of a router that is known for a prefix comes from, if there is one.
 fn source_in<A: Allocator + Copy>(
     database: &Database<A>,
-    forwarding: &Forwarding<A>,
+    forwarding: &Forwarding<'_, A>,
     router: RouterId,
     net: Prefix,
 ) -> Option<RouteSource>
@@ -70,7 +70,7 @@ fn push_matched<A: Allocator + Copy>(
 fn push_steps_of<A: Allocator + Copy>(
     alloc: A,
     database: &Database<A>,
-    forwarding: &Forwarding<A>,
+    forwarding: &Forwarding<'_, A>,
     step: &RouterStep<A>,
     steps: &mut Vec<PathStep, A>,
 ) -> Result<(), AllocError>
@@ -90,7 +90,7 @@ fn push_steps_of<A: Allocator + Copy>(
 fn steps_of<A: Allocator + Copy>(
     alloc: A,
     database: &Database<A>,
-    forwarding: &Forwarding<A>,
+    forwarding: &Forwarding<'_, A>,
     graph: &ForwardingGraph<A>,
     routers: &[RouterId],
 ) -> Result<Vec<PathStep, A>, AllocError>
@@ -156,7 +156,7 @@ fn loops_of<A: Allocator + Copy>(
 pub(crate) fn path_in<A: Allocator + Copy>(
     alloc: A,
     database: &Database<A>,
-    forwarding: &Forwarding<A>,
+    forwarding: &Forwarding<'_, A>,
     graph: &ForwardingGraph<A>,
     start: RouterId,
 ) -> Result<Path<A>, AllocError>

@@ -3,11 +3,12 @@
 ghost use Rattle.std.specs.Prelude.{◌≡◌, [], IfOk, Some};
 ghost use Rattle.std.specs.List.{cons_option, filter_map};
 ghost use Rattle.lsdb.specs.Slots.{lists_of};
-ghost use Rattle.forwarding.specs.Owners.{AreGraphsOf};
+ghost use Rattle.hop_ends.specs.Owners.{AreGraphsOf};
 ghost use Rattle.route_report.specs.Lines.{answered, line_for, lines_of, route_of, routes_of};
 
 use crate::line::{line_by, route_line};
-use forwarding::{AreaGraphs, RouterRoutes};
+use forwarding::RouterRoutes;
+use hop_ends::AreaGraphs;
 use lsa_codec::{Addr, Prefix, RouterId};
 use lsdb::Database;
 use route_lines::RouteLine;
@@ -33,7 +34,7 @@ fn listed<A: Allocator + Copy>(
 fn lines_for<A: Allocator + Copy>(
     alloc: A,
     database: &Database<A>,
-    graphs: &AreaGraphs<A>,
+    graphs: &AreaGraphs<'_, A>,
     routes: &RouterRoutes<A>,
     nets: &[Prefix],
 ) -> Result<Vec<RouteLine<A>, A>, AllocError>
@@ -53,7 +54,7 @@ fn lines_for<A: Allocator + Copy>(
 fn all_lines<A: Allocator + Copy>(
     alloc: A,
     database: &Database<A>,
-    graphs: &AreaGraphs<A>,
+    graphs: &AreaGraphs<'_, A>,
     routes: &RouterRoutes<A>,
 ) -> Result<Vec<RouteLine<A>, A>, AllocError>
     ensures { IfOk result (λ lines. AreGraphsOf (lists_of database.now) graphs.now
@@ -68,7 +69,7 @@ fn all_lines<A: Allocator + Copy>(
 fn matched<A: Allocator + Copy>(
     alloc: A,
     database: &Database<A>,
-    graphs: &AreaGraphs<A>,
+    graphs: &AreaGraphs<'_, A>,
     routes: &RouterRoutes<A>,
     address: Addr,
 ) -> Result<Vec<RouteLine<A>, A>, AllocError>
@@ -96,7 +97,7 @@ pub fn routes_of<A: Allocator + Copy>(
     ensures { IfOk result
         (λ lines. lines.items ≡ routes_of (lists_of database.now) router address) }
 {
-    let graphs = AreaGraphs::of(alloc, database)?;
+    let graphs = AreaGraphs::for_routers(alloc, database, &[router])?;
     let routes = RouterRoutes::of(alloc, database, router, meter)?;
     match address {
         Some(address) => matched(alloc, database, &graphs, &routes, address),

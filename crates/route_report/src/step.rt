@@ -7,7 +7,7 @@ ghost use Rattle.route_report.specs.StepsOver.{cost_over, hop_of, step_down, ste
 use crate::found::least_cost;
 use crate::sought::{Leg, Side, Sought};
 use crate::way::{gateway_of, interface_of};
-use forwarding::Way;
+use hop_ends::Way;
 use lsa_codec::{Prefix, RouterId};
 use lsdb::Database;
 use next_hops::Hop;

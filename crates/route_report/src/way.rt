@@ -6,7 +6,7 @@ ghost use Rattle.route_report.specs.Ways.{addresses_over, gateway_of, interface_
 
 use crate::found::far_addresses;
 use crate::sought::Leg;
-use forwarding::Way;
+use hop_ends::Way;
 use lsa_codec::{Addr, RouterId};
 use lsdb::Database;
 use next_hops::Hop;

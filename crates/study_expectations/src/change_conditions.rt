@@ -1,9 +1,10 @@
 //! Conditions about what differs from the baseline.
 #![tactic(auto, unfolding(crate::specs::ChangeVerdicts::changes_beside, crate::specs::ChangeVerdicts::pairs_verdict, crate::specs::ChangeVerdicts::changes_verdict, crate::specs::ChangeVerdicts::same_verdict, crate::specs::ChangeVerdicts::few_verdict))]
 
-ghost use Rattle.std.specs.Prelude.{◌≡◌, IfOk};
+ghost use Rattle.std.specs.Prelude.{◌≡◌, ◌∷◌, [], IfOk};
 ghost use Rattle.network_names.specs.Names.{called};
 ghost use Rattle.lsdb.specs.Slots.{lists_of};
+ghost use Rattle.comparison.specs.Named.{all_changes, changes_for};
 ghost use Rattle.study_script.specs.Expected.{pairs_allowed};
 ghost use Rattle.study_answers.specs.Missing.{beside, missing_pairs, missing_text};
 ghost use Rattle.study_expectations.specs.ChangeVerdicts.{changes_beside, changes_verdict, few_verdict, is_known_if_named, pairs_verdict, same_verdict};
@@ -13,7 +14,7 @@ ghost use Rattle.study_expectations.specs.steps.Verdicts.{verdict_of};
 use crate::verdict::Verdict;
 use change_lines::{Changes, Pair, push_changes_found};
 use change_report::{are_allowed, are_few, push_found};
-use comparison::Comparison;
+use comparison::{Comparison, RouterComparison};
 use lsa_codec::RouterId;
 use lsdb::Database;
 use network_names::Names;
@@ -88,6 +89,33 @@ fn is_known_if_named<A: Allocator + Copy>(
     }
 }
 
+/// What differs for a router. Of all tables only those of this router are calculated.
+fn router_changes<A: Allocator + Copy>(
+    alloc: A,
+    baseline: &Database<A>,
+    database: &Database<A>,
+    router: RouterId,
+) -> Result<Changes<A>, AllocError>
+    ensures { IfOk result (λ found. found ≡ changes_for
+        (beside (lists_of baseline.now) (lists_of database.now)) (router ∷ [])) }
+{
+    let one = RouterComparison::of(alloc, baseline, database, router, &mut Meter::new())?;
+    one.changes(alloc)
+}
+
+/// What differs for all routers.
+fn all_changes<A: Allocator + Copy>(
+    alloc: A,
+    baseline: &Database<A>,
+    database: &Database<A>,
+) -> Result<Changes<A>, AllocError>
+    ensures { IfOk result (λ found. found
+        ≡ all_changes (beside (lists_of baseline.now) (lists_of database.now))) }
+{
+    let both = Comparison::of(alloc, baseline, database, &mut Meter::new())?;
+    both.changes(alloc)
+}
+
 /// What differs, for a router or for all.
 fn changes_beside<A: Allocator + Copy>(
     alloc: A,
@@ -98,10 +126,9 @@ fn changes_beside<A: Allocator + Copy>(
     ensures { IfOk result (λ found. found
         ≡ changes_beside (lists_of baseline.now) (lists_of database.now) router) }
 {
-    let both = Comparison::of(alloc, baseline, database, &mut Meter::new())?;
     match router {
-        Some(router) => both.changes_of(alloc, router),
-        None => both.changes(alloc),
+        Some(router) => router_changes(alloc, baseline, database, router),
+        None => all_changes(alloc, baseline, database),
     }
 }
 

@@ -50,12 +50,15 @@ or_names otherwise None = otherwise
 abbrev pub known_name : List Word → Word → List ℕ → List ℕ
 known_name known word otherwise = or_names otherwise (near word known)
 
+abbrev pub router_hint : List ℕ
+router_hint = codes "an address is four numbers, 0 to 255; names are those of --names"
+
 -- in place of a word that is neither an address nor a name; only a part of a list is empty
 abbrev pub name_hint : List Word → Word → List ℕ
 name_hint known word =
     if length word == 0 then codes "a list has no spaces"
     else if is_like_address word then address_hint
-    else known_name known word address_hint
+    else known_name known word router_hint
 
 -- the prefix of an address and a length that a word spells before and after its slash (47), its host bits 0
 abbrev pub without_host_bits : Word → Option Net

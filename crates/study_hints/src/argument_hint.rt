@@ -49,6 +49,9 @@ pub(crate) fn push_kind_hint<A: Allocator + Copy>(
 /// What an address is.
 const ADDRESS_FORM: &str = "an address is four numbers, 0 to 255";
 
+/// What an address is, and a name.
+const ROUTER_FORM: &str = "an address is four numbers, 0 to 255; names are those of --names";
+
 /// What the number of a link is.
 const LINK_RANGE: &str = "LINK is 1 to 65535";
 
@@ -101,8 +104,8 @@ fn push_known_name<A: Allocator + Copy>(
     text.extend_from_slice(*name)
 }
 
-/// Adds the name that is most like a word, or else what an address is. Only a part of a list is
-/// empty.
+/// Adds the name that is most like a word, or else what an address is, and a name. Only a part of a
+/// list is empty.
 pub(crate) fn push_name_hint<A: Allocator + Copy>(
     text: &mut Vec<u8, A>,
     known: &[&[u8]],
@@ -116,7 +119,7 @@ pub(crate) fn push_name_hint<A: Allocator + Copy>(
     } else if is_like_address(word) {
         push_address_form(text)
     } else {
-        push_known_name(text, known, word, ADDRESS_FORM)
+        push_known_name(text, known, word, ROUTER_FORM)
     }
 }
 

@@ -1,16 +1,18 @@
 //! Answers about what differs from the baseline.
 #![tactic(auto, unfolding(crate::specs::ChangeAnswers::changes_of, crate::specs::ChangeAnswers::changes_answer, crate::specs::ChangeAnswers::differences_answer))]
 
-ghost use Rattle.std.specs.Prelude.{◌≡◌, IfOk};
+ghost use Rattle.std.specs.Prelude.{◌≡◌, ◌∷◌, [], None, Some, IfOk};
 ghost use Rattle.network_names.specs.Names.{called};
 ghost use Rattle.lsdb.specs.Slots.{lists_of};
+ghost use Rattle.comparison.specs.Named.{changes_for};
+ghost use Rattle.study_answers.specs.Missing.{beside};
 ghost use Rattle.study_questions.specs.ChangeAnswers.{changes_answer, changes_of, changes_reply, differences_answer};
 ghost use Rattle.study_questions.specs.steps.Missing.{missing_answer};
 
 use crate::listing::listed;
 use crate::text::{head, push_number_after, push_router_after};
 use change_lines::{ChangeLine, Changes, push_counts};
-use change_report::lines_of_changes;
+use change_report::{lines_of_changes, router_changes};
 use comparison::Comparison;
 use lsa_codec::RouterId;
 use lsa_differences::difference_lines;
@@ -43,20 +45,38 @@ fn changes_reply<A: Allocator + Copy>(
     Ok(text)
 }
 
-/// The answer to `changes`, by what differs.
+/// The answer to `changes` of one router. Of all tables only those of this router are calculated.
+fn changes_of_router<A: Allocator + Copy>(
+    alloc: A,
+    names: &Names<'_, A>,
+    branch: u8,
+    baseline: &Database<A>,
+    database: &Database<A>,
+    router: RouterId,
+) -> Result<Answer<A>, AllocError>
+    ensures { IfOk result (λ answer. answer ≡ changes_of (called names.now) branch
+        (lists_of baseline.now) (lists_of database.now) (Some router)
+        (changes_for (beside (lists_of baseline.now) (lists_of database.now)) (router ∷ []))) }
+{
+    let mut meter = Meter::new();
+    let (changes, lines) = router_changes(alloc, baseline, database, router, &mut meter)?;
+    let text = changes_reply(alloc, names, branch, Some(router), &changes, &lines)?;
+    Ok(Answer::accepted(alloc, text))
+}
+
+/// The answer to `changes` of all routers, by what differs.
 fn changes_of<A: Allocator + Copy>(
     alloc: A,
     names: &Names<'_, A>,
     branch: u8,
     both: &Comparison<'_, A>,
-    router: Option<RouterId>,
     changes: &Changes<A>,
 ) -> Result<Answer<A>, AllocError>
     ensures { IfOk result (λ answer. answer ≡ changes_of (called names.now) branch
-        both.now.baseline both.now.present router changes.now) }
+        both.now.baseline both.now.present None changes.now) }
 {
     let lines = lines_of_changes(alloc, both, &changes.names)?;
-    let text = changes_reply(alloc, names, branch, router, changes, &lines)?;
+    let text = changes_reply(alloc, names, branch, None, changes, &lines)?;
     Ok(Answer::accepted(alloc, text))
 }
 
@@ -76,13 +96,11 @@ pub(crate) fn changes_answer<A: Allocator + Copy>(
         if !is_known(alloc, baseline, database, one)? {
             return no_router(alloc, branch);
         }
-        let both = Comparison::of(alloc, baseline, database, &mut Meter::new())?;
-        let changes = both.changes_of(alloc, one)?;
-        return changes_of(alloc, names, branch, &both, router, &changes);
+        return changes_of_router(alloc, names, branch, baseline, database, one);
     }
     let both = Comparison::of(alloc, baseline, database, &mut Meter::new())?;
     let changes = both.changes(alloc)?;
-    changes_of(alloc, names, branch, &both, None, &changes)
+    changes_of(alloc, names, branch, &both, &changes)
 }
 
 /// The answer to `differences`.

@@ -15,3 +15,4 @@ mod lost;
 
 // Calls where memory is refused.
 mod growths;
+mod hub_growths;

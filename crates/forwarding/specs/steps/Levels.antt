@@ -5,9 +5,9 @@ use Rattle.std.specs.Ordering.{eq_by_cmp}
 use Rattle.lsa_codec.specs.Order.{router_cmp}
 use Rattle.lsa_codec.specs.declared.address.RouterId.{RouterId}
 use Rattle.area_graph.specs.Rising.{rising}
-use Rattle.forwarding.specs.declared.way.Way.{Way}
+use Rattle.hop_ends.specs.declared.way.Way.{Way}
 use Rattle.forwarding.specs.Graphs.{StepValue, ways_at}
-use Rattle.forwarding.specs.Ways.{router_over}
+use Rattle.hop_ends.specs.Ways.{router_over}
 
 abbrev pub has_router : List RouterId → RouterId → Bool
 has_router routers router = list_any (eq_by_cmp router_cmp router) routers

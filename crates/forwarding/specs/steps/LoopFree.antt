@@ -3,10 +3,10 @@ use Rattle.std.specs.Prelude.{Bool, true, List, Contains}
 use Rattle.std.specs.List.{list_all}
 use Rattle.std.specs.Option.{option_map_or}
 use Rattle.lsa_codec.specs.declared.address.RouterId.{RouterId}
-use Rattle.forwarding.specs.declared.way.Way.{Way}
+use Rattle.hop_ends.specs.declared.way.Way.{Way}
 use Rattle.forwarding.specs.Graphs.{StepValue, ways_at}
 use Rattle.forwarding.specs.Walks.{IsOnCycle}
-use Rattle.forwarding.specs.Ways.{router_over}
+use Rattle.hop_ends.specs.Ways.{router_over}
 use Rattle.forwarding.specs.steps.Levels.{has_router}
 
 -- a way ends, or leads to one of these routers

@@ -3,10 +3,10 @@ use Rattle.std.specs.Prelude.{◌↔◌, Bool, false, ◌==◌, List, Option, Co
 use Rattle.std.specs.List.{list_any}
 use Rattle.std.specs.Option.{option_map_or}
 use Rattle.lsa_codec.specs.declared.address.RouterId.{RouterId}
-use Rattle.forwarding.specs.declared.way.Way.{Way}
+use Rattle.hop_ends.specs.declared.way.Way.{Way}
 use Rattle.forwarding.specs.Graphs.{StepValue, next_in, ways_at}
 use Rattle.forwarding.specs.Walks.{IsLoopFrom, Reaches}
-use Rattle.forwarding.specs.Ways.{router_over}
+use Rattle.hop_ends.specs.Ways.{router_over}
 
 -- a way to this router
 abbrev pub leads_to : RouterId → Way → Bool

@@ -5,9 +5,9 @@ use Rattle.std.specs.Option.{option_map_or}
 use Rattle.std.specs.Ordering.{eq_by_cmp}
 use Rattle.lsa_codec.specs.Order.{router_cmp}
 use Rattle.lsa_codec.specs.declared.address.RouterId.{RouterId}
-use Rattle.forwarding.specs.declared.way.Way.{Way}
+use Rattle.hop_ends.specs.declared.way.Way.{Way}
 use Rattle.forwarding.specs.Graphs.{StepValue, step_at}
-use Rattle.forwarding.specs.Ways.{router_over}
+use Rattle.hop_ends.specs.Ways.{router_over}
 use Rattle.route_report.specs.Passing.{IsPassed, ends_by}
 
 abbrev pub has_router : List RouterId → RouterId → Bool

@@ -1,7 +1,8 @@
 //! What calls answer, as bytes that say all of it.
 
 use super::texts::{push_graph, push_match, push_routers};
-use forwarding::{AreaGraphs, Forwarding, ForwardingGraph, Loop, Match, RouterRoutes};
+use forwarding::{Forwarding, ForwardingGraph, Loop, Match, RouterRoutes};
+use hop_ends::AreaGraphs;
 use lsa_codec::{Addr, RouterId};
 use std::alloc::{AllocError, Global};
 use std::test::*;
@@ -52,7 +53,7 @@ pub(super) fn of_routers(
 pub(super) fn of_area_graphs<'a>(
     alloc: Global,
     failing: &'a FailingAlloc,
-    graphs: Result<AreaGraphs<&'a FailingAlloc>, AllocError>,
+    graphs: Result<AreaGraphs<'_, &'a FailingAlloc>, AllocError>,
 ) -> Result<Answer, Fail> {
     let Ok(graphs) = graphs else {
         return Ok(None);
@@ -84,7 +85,7 @@ pub(super) fn of_match(
 pub(super) fn of_routes<'a>(
     alloc: Global,
     failing: &'a FailingAlloc,
-    graphs: &AreaGraphs<&'a FailingAlloc>,
+    graphs: &AreaGraphs<'_, &'a FailingAlloc>,
     routes: Result<RouterRoutes<&'a FailingAlloc>, AllocError>,
 ) -> Result<Answer, Fail> {
     let Ok(routes) = routes else {
@@ -104,7 +105,7 @@ pub(super) fn of_routes<'a>(
 pub(super) fn of_forwarding<'a>(
     alloc: Global,
     failing: &'a FailingAlloc,
-    forwarding: Result<Forwarding<&'a FailingAlloc>, AllocError>,
+    forwarding: Result<Forwarding<'_, &'a FailingAlloc>, AllocError>,
 ) -> Result<Answer, Fail> {
     let Ok(forwarding) = forwarding else {
         return Ok(None);

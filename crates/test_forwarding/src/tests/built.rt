@@ -2,7 +2,7 @@
 //! nothing of what they answer, and the tests are proved soon.
 
 use super::texts::push_routers;
-use forwarding::{AreaGraphs, Forwarding, ForwardingGraph};
+use forwarding::{Forwarding, ForwardingGraph};
 use lsa_codec::{Addr, RouterId};
 use lsdb::Database;
 use spf::Meter;
@@ -66,10 +66,22 @@ fn graph_from(
     Ok(graph)
 }
 
-/// The graphs of the areas of the network.
-pub(super) fn area_graphs(alloc: Global) -> Result<AreaGraphs, Fail> {
-    let database = Database::load(alloc, network_bytes())?;
-    Ok(AreaGraphs::of(alloc, &database)?)
+/// The database of the network.
+pub(super) fn built_database(alloc: Global) -> Result<Database, Fail> {
+    Ok(Database::load(alloc, network_bytes())?)
+}
+
+/// The routers that packets for an address reach from a router, by the graph of all routers.
+pub(super) fn reached(
+    alloc: Global,
+    network: &str,
+    from: u32,
+    address: u32,
+) -> Result<String, Fail> {
+    let graph = graph_of(alloc, &dump_of_text(alloc, network)?, address)?;
+    let mut text = String::new(alloc);
+    push_routers(alloc, &mut text, &graph.reached(alloc, RouterId(from))?)?;
+    Ok(text)
 }
 
 /// The routers that packets for an address reach from a router, how they end, and the loops.

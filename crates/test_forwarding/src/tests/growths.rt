@@ -5,7 +5,8 @@ use super::answers::{
 };
 use super::built::network_bytes;
 use super::paths::BORDERS;
-use forwarding::{AreaGraphs, Forwarding, ForwardingGraph, RouterRoutes};
+use forwarding::{Forwarding, ForwardingGraph, RouterRoutes};
+use hop_ends::AreaGraphs;
 use lsa_codec::{Addr, Prefix, RouterId};
 use lsdb::Database;
 use spf::Meter;
@@ -67,11 +68,11 @@ const SECOND: Addr = Addr(0x0a05_0002);
 
 /// What the calls are lent.
 #[derive(Drop)]
-struct Lent<'a> {
-    database: Database<&'a FailingAlloc>,
-    graphs: AreaGraphs<&'a FailingAlloc>,
+struct Lent<'d, 'a> {
+    database: &'d Database<&'a FailingAlloc>,
+    graphs: AreaGraphs<'d, &'a FailingAlloc>,
     routes: RouterRoutes<&'a FailingAlloc>,
-    forwarding: Forwarding<&'a FailingAlloc>,
+    forwarding: Forwarding<'d, &'a FailingAlloc>,
     graph: ForwardingGraph<&'a FailingAlloc>,
     borders: ForwardingGraph<&'a FailingAlloc>,
 }
@@ -84,11 +85,14 @@ fn borders(alloc: Global, failing: &FailingAlloc) -> Result<ForwardingGraph<&Fai
     Ok(forwarding.graph(failing, LOOPING)?)
 }
 
-fn lend(alloc: Global, failing: &FailingAlloc) -> Result<Lent<'_>, Fail> {
-    let database = Database::load(failing, network_bytes())?;
-    let graphs = AreaGraphs::of(failing, &database)?;
-    let routes = RouterRoutes::of(failing, &database, ROUTER, &mut Meter::new())?;
-    let forwarding = Forwarding::of(failing, &database, &mut Meter::new())?;
+fn lend<'d, 'a>(
+    alloc: Global,
+    failing: &'a FailingAlloc,
+    database: &'d Database<&'a FailingAlloc>,
+) -> Result<Lent<'d, 'a>, Fail> {
+    let graphs = AreaGraphs::of(failing, database)?;
+    let routes = RouterRoutes::of(failing, database, ROUTER, &mut Meter::new())?;
+    let forwarding = Forwarding::of(failing, database, &mut Meter::new())?;
     let graph = forwarding.graph(failing, ADDRESS)?;
     Ok(Lent {
         database,
@@ -104,7 +108,7 @@ fn lend(alloc: Global, failing: &FailingAlloc) -> Result<Lent<'_>, Fail> {
 fn answer_by_graph<'a>(
     alloc: Global,
     failing: &'a FailingAlloc,
-    lent: &Lent<'a>,
+    lent: &Lent<'_, 'a>,
     call: Call,
 ) -> Result<Answer, Fail> {
     let borders = &lent.borders;
@@ -121,9 +125,9 @@ fn answer_by_graph<'a>(
 /// The forwarding graph of the routers that packets from one pass.
 fn on_the_way<'a>(
     failing: &'a FailingAlloc,
-    lent: &Lent<'a>,
+    lent: &Lent<'_, 'a>,
 ) -> Result<ForwardingGraph<&'a FailingAlloc>, AllocError> {
-    let (database, meter) = (&lent.database, &mut Meter::new());
+    let (database, meter) = (lent.database, &mut Meter::new());
     let (_, graph) = Forwarding::from_router(failing, database, ROUTER, ADDRESS, meter)?;
     Ok(graph)
 }
@@ -132,7 +136,7 @@ fn on_the_way<'a>(
 fn answer_by_routes<'a>(
     alloc: Global,
     failing: &'a FailingAlloc,
-    lent: &Lent<'a>,
+    lent: &Lent<'_, 'a>,
     call: Call,
 ) -> Result<Answer, Fail> {
     let (graphs, routes) = (&lent.graphs, &lent.routes);
@@ -148,14 +152,14 @@ fn answer_by_routes<'a>(
     }
 }
 
-impl<'a> CallOn<'a, Lent<'a>> for Call {
+impl<'d, 'a> CallOn<'a, Lent<'d, 'a>> for Call {
     fn answer(
         &self,
         alloc: Global,
         failing: &'a FailingAlloc,
-        lent: &mut Lent<'a>,
+        lent: &mut Lent<'d, 'a>,
     ) -> Result<Answer, Fail> {
-        let (database, graphs) = (&lent.database, &lent.graphs);
+        let (database, graphs) = (lent.database, &lent.graphs);
         match self {
             Call::AreaGraphs => of_area_graphs(alloc, failing, AreaGraphs::of(failing, database)),
             Call::FarEnds => of_routers(alloc, graphs.far_ends(failing, ROUTER, LINK)),
@@ -175,7 +179,9 @@ impl<'a> CallOn<'a, Lent<'a>> for Call {
 
 impl FallibleCall for Call {
     fn outcome(&self, alloc: Global, failing: &FailingAlloc, left: u64) -> Result<Outcome, Fail> {
-        outcome_of(alloc, failing, lend(alloc, failing)?, *self, left)
+        let database = Database::load(failing, network_bytes())?;
+        let lent = lend(alloc, failing, &database)?;
+        outcome_of(alloc, failing, lent, *self, left)
     }
 }
 

@@ -1,6 +1,6 @@
 //! Paths of packets.
 
-use super::built::{Network, path};
+use super::built::{Network, path, reached};
 use std::test::*;
 use test_support::{R1, R2, R3, R4};
 
@@ -28,6 +28,17 @@ router 1.1.1.1 flags=1: point-to-point 2.2.2.2 data=10.0.0.1 cost=10
 router 2.2.2.2 flags=1: point-to-point 1.1.1.1 data=10.0.0.2 cost=10
 summary 10.9.0.0/16 by=1.1.1.1 cost=5
 summary 10.9.0.0/16 by=2.2.2.2 cost=5";
+
+/// 1.1.1.1 reaches 2.2.2.2 and 3.3.3.3 over one interface, and 4.4.4.4 over both at the same cost.
+pub(super) const HUB: &str = "area 0.0.0.0
+router 1.1.1.1: point-to-point 2.2.2.2 data=10.0.0.1 cost=10, \
+point-to-point 3.3.3.3 data=10.0.0.1 cost=10
+router 2.2.2.2: point-to-point 1.1.1.1 data=10.0.0.2 cost=10, \
+point-to-point 4.4.4.4 data=10.0.24.2 cost=10, stub 10.2.0.0/16 cost=1
+router 3.3.3.3: point-to-point 1.1.1.1 data=10.0.0.3 cost=10, \
+point-to-point 4.4.4.4 data=10.0.34.3 cost=10
+router 4.4.4.4: point-to-point 2.2.2.2 data=10.0.24.4 cost=10, \
+point-to-point 3.3.3.3 data=10.0.34.4 cost=10, stub 10.4.0.0/16 cost=1";
 
 /// What a packet shows, the network, the router that it starts at, its address, and its path.
 const PATHS: &[(&str, Network, u32, u32, &str)] = &[
@@ -58,6 +69,21 @@ const PATHS: &[(&str, Network, u32, u32, &str)] = &[
         R1,
         0x0a09_0001,
         "1.1.1.1 2.2.2.2 loop 1.1.1.1 2.2.2.2 ",
+    ),
+    // Paths of least cost to 2.2.2.2 begin with the link to it alone (RFC 2328, 16.1.1).
+    (
+        "over one interface packets go to the neighbor on the least path",
+        Network::Text(HUB),
+        R1,
+        0x0a02_0001,
+        "1.1.1.1 2.2.2.2 delivered ",
+    ),
+    (
+        "over one interface packets go to both neighbors on least paths",
+        Network::Text(HUB),
+        R1,
+        0x0a04_0001,
+        "1.1.1.1 2.2.2.2 3.3.3.3 4.4.4.4 delivered ",
     ),
     // Two areas: 1.1.1.1 and 2.2.2.2 in the backbone, 1.1.1.1 and 3.3.3.3 in the other one. 3.3.3.3
     // has a route by the summary-LSA of 1.1.1.1, which has two equal ways to 2.2.2.2.
@@ -132,5 +158,15 @@ fn packets_go_where_their_paths_lead(rt: HostRuntime) -> Result<(), Fail> {
         let found = path(rt.alloc(), *network, *from, *address)?;
         assert_eq!(rt; found.as_str(), *wanted, "{name}");
     }
+    Ok(())
+}
+
+/// The same where the tables of all routers are made before.
+#[test]
+fn a_hub_sends_to_neighbors_on_least_paths(rt: HostRuntime) -> Result<(), Fail> {
+    let near = reached(rt.alloc(), HUB, R1, 0x0a02_0001)?;
+    assert_eq!(rt; near.as_str(), "1.1.1.1 2.2.2.2 ");
+    let far = reached(rt.alloc(), HUB, R1, 0x0a04_0001)?;
+    assert_eq!(rt; far.as_str(), "1.1.1.1 2.2.2.2 3.3.3.3 4.4.4.4 ");
     Ok(())
 }

@@ -1,7 +1,8 @@
 //! The routers that next hops lead to, and those of a graph.
 
-use super::built::{area_graphs, graph_of};
+use super::built::{built_database, graph_of};
 use super::texts::push_routers;
+use hop_ends::AreaGraphs;
 use lsa_codec::{Addr, RouterId};
 use std::alloc::Global;
 use std::test::*;
@@ -9,7 +10,8 @@ use test_support::{NETWORK, R1, R2, R3};
 
 /// The far ends of an interface of 1.1.1.1.
 fn far_ends(alloc: Global, interface: u32) -> Result<String, Fail> {
-    let graphs = area_graphs(alloc)?;
+    let database = built_database(alloc)?;
+    let graphs = AreaGraphs::of(alloc, &database)?;
     let mut text = String::new(alloc);
     let routers = graphs.far_ends(alloc, RouterId(R1), Addr(interface))?;
     push_routers(alloc, &mut text, &routers)?;
@@ -18,7 +20,8 @@ fn far_ends(alloc: Global, interface: u32) -> Result<String, Fail> {
 
 /// The other routers with an address on the networks of an interface of a router.
 fn owners(alloc: Global, router: u32, interface: u32, address: u32) -> Result<String, Fail> {
-    let graphs = area_graphs(alloc)?;
+    let database = built_database(alloc)?;
+    let graphs = AreaGraphs::of(alloc, &database)?;
     let mut text = String::new(alloc);
     let routers = graphs.owners(alloc, RouterId(router), Addr(interface), Addr(address))?;
     push_routers(alloc, &mut text, &routers)?;

@@ -105,7 +105,7 @@ const LINES: &[(&str, &str)] = &[
     ("routes x1", "script S6 BadAddress x1 (names have core1)"),
     (
         "fail-link 0.0.0.0 r1 9",
-        "script S6 BadAddress 9 (an address is four numbers, 0 to 255)",
+        "script S6 BadAddress 9 (an address is four numbers, 0 to 255; names are those of --names)",
     ),
     (
         "path r1 2.2.r2",

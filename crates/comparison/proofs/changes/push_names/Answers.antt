@@ -8,12 +8,12 @@ use Rattle.comparison.proofs.changes.push_names.Goals as goal
 
 pub loop-found-init : goal.loop-found-init
 loop-found-init g c =
-    adds_start (map_adds (name_of c.args.comparison.now c.args.router)) (λ (cs : List ChangeName). c.args.names.now.items ≡ cs) c.args.changes.now
+    adds_start (map_adds (name_of c.args.both.now c.args.router)) (λ (cs : List ChangeName). c.args.names.now.items ≡ cs) c.args.changes.now
     c.args.names.now.items refl
 
 pub loop-found-preserved : goal.loop-found-preserved
 loop-found-preserved g c =
-    let name = name_of c.args.comparison.now c.args.router in
+    let name = name_of c.args.both.now c.args.router in
     let start = c.args.names.now.items in
     adds_step (map_adds name) (λ (cs : List ChangeName). c.loop-found.names.items ≡ start ++ cs)
     (λ (cs : List ChangeName). c.push.new.self.items ≡ start ++ cs)
@@ -24,5 +24,5 @@ loop-found-preserved g c =
 pub returns : goal.returns
 returns g c =
     c.loop-found.invariant
-    ∙ ap (λ (l : List PrefixChange). c.args.names.now.items ++ map (name_of c.args.comparison.now c.args.router) l)
+    ∙ ap (λ (l : List PrefixChange). c.args.names.now.items ++ map (name_of c.args.both.now c.args.router) l)
     (take_all c.loop-found.found-index c.args.changes.now c.loop-found-test.false)

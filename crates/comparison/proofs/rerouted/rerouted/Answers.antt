@@ -8,7 +8,7 @@ use Rattle.comparison.proofs.rerouted.rerouted.Goals as goal
 
 pub returns : goal.returns
 returns g c =
-    let both = c.args.comparison.now in
+    let both = c.args.both.now in
     let is = c.args.is.now in
     let hops : c.as_slice-2.result.now ≡ hops_of is.routes =
     c.as_slice-2.ensures.hops ∙ c.in_ok-hops.ensures ∙ ap hops_of (c.as_slice.ensures.routes ∙ c.routes.ensures) in

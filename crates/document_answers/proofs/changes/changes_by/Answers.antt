@@ -1,4 +1,4 @@
-use Rattle.std.proofs.Common.{◌≡◌, ℕ, List, ◌++◌, ◌∙◌, ap, subst}
+use Rattle.std.proofs.Common.{◌≡◌, ℕ, List, ◌++◌, None, ◌∙◌, ap, subst}
 use Rattle.change_lines.specs.ChangeTexts.{ChangeLineValue}
 use Rattle.change_report.specs.Lines.{lines_of_changes}
 use Rattle.study_json.specs.Fields.{HaveNumbers, more_text}
@@ -16,7 +16,7 @@ returns g c =
     record {
       text =
           c.in_ok-push_changes.ensures.pushed
-          ∙ ap (λ (t : List ℕ). t ++ more_text (changes_reply c.args.router changes c.deref-2.result.now)) c.new-text.ensures.items
-          ∙ ap (λ (ls : List ChangeLineValue). more_text (changes_reply c.args.router changes ls)) lines;
-      numbers = subst (λ (ls : List ChangeLineValue). HaveNumbers (changes_reply c.args.router changes ls)) lines c.in_ok-push_changes.ensures.numbers;
+          ∙ ap (λ (t : List ℕ). t ++ more_text (changes_reply None changes c.deref-2.result.now)) c.new-text.ensures.items
+          ∙ ap (λ (ls : List ChangeLineValue). more_text (changes_reply None changes ls)) lines;
+      numbers = subst (λ (ls : List ChangeLineValue). HaveNumbers (changes_reply None changes ls)) lines c.in_ok-push_changes.ensures.numbers;
     }

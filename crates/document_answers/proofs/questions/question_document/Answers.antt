@@ -91,8 +91,9 @@ returns-in-Gone-clause-document g c =
 pub returns-in-Loops-clause-document : goal.returns-in-Loops-clause-document
 unfolding IsQuestionDocument
 returns-in-Loops-clause-document g c =
-    by_database (called c.args.names.now) (lists_of c.args.baseline.now) (λ given. documented given) c.loops_document.result
-    (λ db d. IsLoopsDocument (lists_of c.args.baseline.now) db d) c.in-Loops.is c.database-now.ensures.state
+    let was = lists_of c.args.baseline.now in
+    by_database (called c.args.names.now) was (λ given. documented given) c.loops_document.result
+    (λ db d. IsLoopsDocument was db d) c.in-Loops.is c.database-now.ensures.state
     (c.planner-planner.ensures ∙ ap (λ (all : Sessions). all c.args.branch) c.in_ok-prepare.ensures.kept) (λ d is. is) c.loops_document.ensures
 
 pub returns-in-Microloops-clause-document : goal.returns-in-Microloops-clause-document

@@ -1,4 +1,4 @@
-use Rattle.forwarding.proofs.LongestMatch.{longest_is}
+use Rattle.forwarding.proofs.LongestMatchLemmas.{longest_is}
 use Rattle.forwarding.proofs.laws.matches_are_longest.Goals as goal
 
 pub returns : goal.returns

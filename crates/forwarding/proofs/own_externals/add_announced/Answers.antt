@@ -5,7 +5,7 @@ use Rattle.lsa_codec.specs.Order.{prefix_cmp}
 use Rattle.lsa_codec.specs.Prefix.{Net}
 use Rattle.lsa_codec.proofs.OrderLemmas.{prefix_exact, prefix_total}
 use Rattle.area_graph.specs.Rising.{rising}
-use Rattle.forwarding.proofs.RisingMembers.{insert_last}
+use Rattle.hop_ends.proofs.RisingMembersLemmas.{insert_last}
 use Rattle.forwarding.proofs.own_externals.add_announced.Goals as goal
 
 pub returns-in_ok-insert : goal.returns-in_ok-insert

@@ -3,8 +3,8 @@ use Rattle.std.specs.List.{cons_option}
 use Rattle.lsa_codec.specs.declared.address.RouterId.{RouterId}
 use Rattle.next_hops.specs.declared.hop.Hop.TheVariants.{Connected}
 use Rattle.area_routes.proofs.AddsLemmas.{adds_at, filter_map_adds}
-use Rattle.forwarding.specs.declared.way.Way.{Way}
-use Rattle.forwarding.specs.declared.way.Way.TheVariants.{Via}
+use Rattle.hop_ends.specs.declared.way.Way.{Way}
+use Rattle.hop_ends.specs.declared.way.Way.TheVariants.{Via}
 use Rattle.forwarding.specs.steps.Levels.{unseen, unseen_over}
 use Rattle.forwarding.proofs.reached.push_unseen.Goals as goal
 

@@ -5,7 +5,7 @@ use Rattle.lsa_codec.specs.Order.{router_cmp}
 use Rattle.lsa_codec.specs.declared.address.RouterId.{RouterId}
 use Rattle.lsa_codec.proofs.OrderLemmas.{router_exact, router_total}
 use Rattle.area_graph.specs.Rising.{rising}
-use Rattle.forwarding.proofs.RisingMembers.{insert_last}
+use Rattle.hop_ends.proofs.RisingMembersLemmas.{insert_last}
 use Rattle.forwarding.proofs.reached.visit.Goals as goal
 
 abbrev no_router : RouterId

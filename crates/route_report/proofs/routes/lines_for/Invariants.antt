@@ -1,7 +1,7 @@
 use Rattle.std.proofs.Common.{◌≡◌, take}
 use Rattle.std.specs.List.{filter_map}
 use Rattle.lsdb.specs.Slots.{lists_of}
-use Rattle.forwarding.specs.Owners.{AreGraphsOf}
+use Rattle.hop_ends.specs.Owners.{AreGraphsOf}
 use Rattle.route_report.specs.Lines.{line_for}
 use Rattle.route_report.proofs.routes.lines_for.Given as goal
 

@@ -26,25 +26,24 @@ module _ (called : Called) (branch : ℕ) (baseline db : Lists) (both : Compared
   unfolding changes_answer
   for_all router changes none are = changed None changes all_changes are ∙ ap (changes_answer called branch baseline db) (sym none)
 
-  for_one : (router : Option RouterId) (one : RouterId) (changes : ChangesValue) → router ≡ Some one → is_known baseline db one ≡ true
-      → changes ≡ changes_for both (one ∷ [])
-      → changes_of called branch both.baseline both.present (Some one) changes ≡ changes_answer called branch baseline db router
+module _ (called : Called) (branch : ℕ) (baseline db : Lists) where
+  for_one : (router : Option RouterId) (one : RouterId) → router ≡ Some one → is_known baseline db one ≡ true
+      → changes_of called branch baseline db (Some one) (changes_for (beside baseline db) (one ∷ [])) ≡ changes_answer called branch baseline db router
   unfolding changes_answer
-  for_one router one changes some known are =
-      changed (Some one) changes (λ c. changes_for c (one ∷ [])) are
-      ∙ ap (λ b. unless_unknown branch b (changes_of called branch baseline db (Some one) (changes_for (beside baseline db) (one ∷ [])))) (sym known)
+  for_one router one some known =
+      ap (λ b. unless_unknown branch b (changes_of called branch baseline db (Some one) (changes_for (beside baseline db) (one ∷ [])))) (sym known)
       ∙ ap (changes_answer called branch baseline db) (sym some)
 
 pub returns-in-Some : goal.returns-in-Some
 returns-in-Some g c =
-    subst (λ (answer : AnswerValue). IfOk c.changes_of-in-Some.result (λ given. given ≡ answer))
-    (for_one (called c.args.names.now) c.args.branch (lists_of c.args.baseline.now) (lists_of c.args.database.now) c.in_ok-both.both c.in_ok-both.ensures
-    c.args.router c.in-Some.one c.in_ok-changes.changes c.in-Some.is (sym c.in_ok-is_known.ensures ∙ c.if-not-branch.false) c.in_ok-changes.ensures)
-    c.changes_of-in-Some.ensures
+    subst (λ (answer : AnswerValue). IfOk c.changes_of_router.result (λ given. given ≡ answer))
+    (for_one (called c.args.names.now) c.args.branch (lists_of c.args.baseline.now) (lists_of c.args.database.now) c.args.router c.in-Some.one c.in-Some.is
+    (sym c.in_ok-is_known.ensures ∙ c.if-not-branch.false))
+    c.changes_of_router.ensures
 
 pub returns : goal.returns
 returns g c =
-    subst (λ (answer : AnswerValue). IfOk c.changes_of-2.result (λ given. given ≡ answer))
-    (for_all (called c.args.names.now) c.args.branch (lists_of c.args.baseline.now) (lists_of c.args.database.now) c.in_ok-both-2.both c.in_ok-both-2.ensures
-    c.args.router c.in_ok-changes-2.changes c.in_default.is c.in_ok-changes-2.ensures)
-    c.changes_of-2.ensures
+    subst (λ (answer : AnswerValue). IfOk c.changes_of.result (λ given. given ≡ answer))
+    (for_all (called c.args.names.now) c.args.branch (lists_of c.args.baseline.now) (lists_of c.args.database.now) c.in_ok-both.both c.in_ok-both.ensures
+    c.args.router c.in_ok-changes.changes c.in_default.is c.in_ok-changes.ensures)
+    c.changes_of.ensures

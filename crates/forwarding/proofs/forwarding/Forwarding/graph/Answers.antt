@@ -2,7 +2,7 @@ use Rattle.std.proofs.Common.{◌∙◌, List, map, sym, ap, subst}
 use Rattle.std.proofs.lemmas.List.{take_all}
 use Rattle.forwarding.specs.Graphs.{ForwardingValue, step_of}
 use Rattle.forwarding.specs.Matches.{RouterValue}
-use Rattle.forwarding.specs.Owners.{AreGraphsOf}
+use Rattle.hop_ends.specs.Owners.{AreGraphsOf}
 use Rattle.forwarding.proofs.Sorted.{more_ids, more_steps}
 use Rattle.forwarding.proofs.forwarding.Forwarding.graph.Goals as goal
 

@@ -1,7 +1,7 @@
 use Rattle.std.proofs.Common.{◌≡◌, map, take}
 use Rattle.lsdb.specs.Lists.{Lists}
 use Rattle.forwarding.specs.Graphs.{step_of}
-use Rattle.forwarding.specs.Owners.{AreGraphsOf}
+use Rattle.hop_ends.specs.Owners.{AreGraphsOf}
 use Rattle.forwarding.proofs.forwarding.Forwarding.graph.Given as goal
 
 -- the routers so far, each with its match

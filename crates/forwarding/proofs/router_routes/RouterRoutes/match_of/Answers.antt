@@ -2,7 +2,7 @@ use Rattle.std.proofs.Common.{◌≡◌, ℕ, ◌-◌, ◌∙◌, Some, None, sy
 use Rattle.std.proofs.lemmas.Bool.{cases_eq}
 use Rattle.lsa_codec.specs.Prefix.{Net, masked}
 use Rattle.forwarding.specs.Matches.{entry_for}
-use Rattle.forwarding.proofs.LongestMatch.{match_found, match_none}
+use Rattle.forwarding.proofs.LongestMatchLemmas.{match_found, match_none}
 use Rattle.forwarding.proofs.router_routes.RouterRoutes.match_of.Goals as goal
 
 pub loop-shorter-init : goal.loop-shorter-init

@@ -2,7 +2,7 @@ use Rattle.std.proofs.Common.{◌≡◌, ℕ, ◌+◌, ◌<◌, ◌≤◌, None}
 use Rattle.lsdb.specs.Lists.{Lists}
 use Rattle.lsa_codec.specs.Prefix.{masked}
 use Rattle.forwarding.specs.Matches.{entry_for}
-use Rattle.forwarding.specs.Owners.{AreGraphsOf}
+use Rattle.hop_ends.specs.Owners.{AreGraphsOf}
 use Rattle.forwarding.proofs.router_routes.RouterRoutes.match_of.Given as goal
 
 -- no prefix that covers the address and has one of the lengths so far has an entry

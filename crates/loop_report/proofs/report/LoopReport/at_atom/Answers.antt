@@ -1,6 +1,7 @@
-use Rattle.std.proofs.Common.{◌≡◌}
+use Rattle.std.proofs.Common.{◌≡◌, refl}
 use Rattle.std.proofs.lemmas.Result.{IfOk-weaker}
 use Rattle.lsdb.specs.Lists.{Lists}
+use Rattle.forwarding.specs.Graphs.{graph_of}
 use Rattle.loop_report.specs.Blackholes.{AreNewBlackholes, new_blackholes}
 use Rattle.loop_report.specs.Loops.{AreLoopsNow, AreLoopsOf}
 use Rattle.loop_report.specs.Parts.{IsAtAtom}
@@ -18,16 +19,19 @@ returns-in_default-clause-blackholes g c = λ was is of.
 
 pub returns-clause-loops : goal.returns-clause-loops
 returns-clause-loops g c =
-    IfOk-weaker c.at_graphs.result (λ report. AreLoopsOf c.args.net c.in_ok-present.present report.loops)
+    IfOk-weaker c.at_address.result
+    (λ report. (was is : Lists) → IsComparedOf was is c.args.compared.now → AreLoopsOf c.args.net (graph_of is c.in-Some.address) report.loops)
     (λ report. (was is : Lists) → IsComparedOf was is c.args.compared.now → IsAtAtom AreLoopsNow was is c.args.net report.loops)
     (λ report found was is of.
-    at_one AreLoopsNow was is c.args.net c.args.compared.now.atoms of.atoms report.loops c.in-Some.address c.in_ok-earlier.earlier c.in_ok-present.present c.in-Some.ensures
-    (c.in_ok-earlier.ensures was of.before) (c.in_ok-present.ensures is of.now) found) c.at_graphs.ensures.loops
+    at_one AreLoopsNow was is c.args.net c.args.compared.now.atoms of.atoms report.loops c.in-Some.address (graph_of was c.in-Some.address)
+    (graph_of is c.in-Some.address) c.in-Some.ensures refl refl (found was is of)) c.at_address.ensures.loops
 
 pub returns-clause-blackholes : goal.returns-clause-blackholes
 returns-clause-blackholes g c =
-    IfOk-weaker c.at_graphs.result (λ report. report.blackholes ≡ new_blackholes c.args.net c.in_ok-earlier.earlier c.in_ok-present.present)
+    IfOk-weaker c.at_address.result
+    (λ report. (was is : Lists) → IsComparedOf was is c.args.compared.now
+    → report.blackholes ≡ new_blackholes c.args.net (graph_of was c.in-Some.address) (graph_of is c.in-Some.address))
     (λ report. (was is : Lists) → IsComparedOf was is c.args.compared.now → IsAtAtom AreNewBlackholes was is c.args.net report.blackholes)
     (λ report found was is of.
-    at_one AreNewBlackholes was is c.args.net c.args.compared.now.atoms of.atoms report.blackholes c.in-Some.address c.in_ok-earlier.earlier c.in_ok-present.present c.in-Some.ensures
-    (c.in_ok-earlier.ensures was of.before) (c.in_ok-present.ensures is of.now) found) c.at_graphs.ensures.blackholes
+    at_one AreNewBlackholes was is c.args.net c.args.compared.now.atoms of.atoms report.blackholes c.in-Some.address (graph_of was c.in-Some.address)
+    (graph_of is c.in-Some.address) c.in-Some.ensures refl refl (found was is of)) c.at_address.ensures.blackholes

@@ -1,7 +1,0 @@
-use Rattle.lsdb.specs.Slots.{lists_of}
-use Rattle.forwarding.proofs.FirstGraphs.{AreFirst}
-use Rattle.forwarding.proofs.area_graphs.AreaGraphs.of.Given as goal
-
--- the graphs of the areas so far
-abbrev pub invariant-loop-i : goal.invariant-loop-i
-invariant-loop-i g l = AreFirst (lists_of l.database) l.i l.graphs.items

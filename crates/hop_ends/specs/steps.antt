@@ -1,0 +1,2 @@
+-- What the steps of the code do: only contracts within the crate cite these.
+pub mod Rows
