@@ -1,7 +1,7 @@
 """Runs in limited address spaces, so that memory truly runs out, in the middle of whatever is done then.
 
-Two runs, of full histories in three branches and of tables with many next hops, are made in ever larger spaces: from one
-in which the program just starts to one that is ample. Each must end well and whole, or without memory and with a part
+Two runs, of full histories in three branches and of tables with many next hops, are made in ever larger spaces: from the
+smallest in which the program starts to one that is ample. Each must end well and whole, or without memory and with a part
 of the replies from their beginning, without a dump and without a session.
 """
 import dataclasses
@@ -28,13 +28,31 @@ class Run:
     sizes: list[int]
 
 
-def sizes(least: float, times: float, count: int) -> list[int]:
-    """`count` sizes, from `least` MiB on, each `times` the one before."""
-    return [round(least * (1 << 20) * times**step) for step in range(count)]
+def status_in(size: int, program: str) -> int:
+    """The status of `--version` in an address space of this size in bytes: 127 where the program cannot be loaded."""
+    limit = lambda: resource.setrlimit(resource.RLIMIT_AS, (size, size))
+    return subprocess.run([program, "--version"], capture_output=True, timeout=120, preexec_fn=limit).returncode
 
 
-def histories() -> Run:
-    """Full histories in three branches. The program and the C library alone take 3.5 MiB."""
+def least_space(program: str) -> int:
+    """The smallest address space in bytes in which the program starts, to a page of 4,096 bytes."""
+    too_small, enough = 0, 1 << 14
+    while enough - too_small > 1:
+        pages = (too_small + enough) // 2
+        if status_in(pages << 12, program) in (0, 5):
+            enough = pages
+        else:
+            too_small = pages
+    return enough << 12
+
+
+def sizes(least: int, times: float, count: int) -> list[int]:
+    """`count` sizes in bytes, from `least` on, each `times` the one before."""
+    return [round(least * times**step) for step in range(count)]
+
+
+def histories(least: int) -> Run:
+    """Full histories in three branches, in address spaces from `least` bytes on."""
     branches = [b"@%d " % branch for branch in range(1, 4)]
     return Run(
         name="full histories",
@@ -43,12 +61,12 @@ def histories() -> Run:
         replies=b"@0 ok\n" + b"".join(full_history_replies(branch) for branch in branches),
         out=EDITED,
         saved=SESSION,
-        sizes=sizes(4, 13 / 12, 16),
+        sizes=sizes(least, 13 / 12, 19),
     )
 
 
-def tables() -> Run:
-    """Tables and comparisons in two branches, with 4,000 next hops of equal cost."""
+def tables(least: int) -> Run:
+    """Tables and comparisons in two branches, with 4,000 next hops of equal cost, in spaces from `least` bytes on."""
     case = large.equal_ways(4000)
     undone = b"\0\0\0\1cost 0.0.0.0 1.1.1.1 7 11\n"
     return Run(
@@ -58,7 +76,7 @@ def tables() -> Run:
         replies=case.replies + case.replies.replace(b"@0", b"@1"),
         out=case.dump,
         saved=case.dump[:4] + b"\2" + case.dump[5:] + undone,
-        sizes=sizes(4, 36 / 35, 30),
+        sizes=sizes(least, 28 / 27, 30),
     )
 
 
@@ -77,7 +95,8 @@ def ended_in(size: int, run: Run, program: str, folder: pathlib.Path) -> tuple[i
 
 def checks(program: str, folder: pathlib.Path):
     """The name of each run, and how it ended wrongly; and what the runs together did not show."""
-    for run in (histories(), tables()):
+    least = least_space(program)
+    for run in (histories(least), tables(least)):
         lengths = set()
         for size in run.sizes:
             status, replies, *left = ended_in(size, run, program, folder)

@@ -1,6 +1,6 @@
 """Studies in limited address spaces, so that memory runs out in the middle of whatever is done then.
 
-Each study is run in ever smaller spaces, from one that is ample to one in which the program just starts. It must end with
+Each study is run in ever smaller spaces, from one that is ample to the smallest in which the program starts. It must end with
 status 0 and all of its output, or with status 5, its line and a part of the output from its beginning, and then the old
 file of `--out` is left whole.
 """
@@ -10,7 +10,7 @@ import resource
 import subprocess
 
 import large
-from limited import sizes
+from limited import least_space, sizes
 from sample import COST, EDITED, SAMPLE
 from study_ends import summary
 
@@ -30,19 +30,22 @@ class Study:
     sizes: list[int]
 
 
-def histories() -> Study:
-    """Full histories of three branches, with their log."""
+def histories(least: int) -> Study:
+    """Full histories of three branches, with their log, in address spaces from `least` bytes on."""
     edit = b"cost 0.0.0.0 1.1.1.1 1 7\n"
     lines, replies = [COST], [b"@0 ok\n"]
     for branch in (b"@1 ", b"@2 ", b"@3 "):
         lines += [(branch + edit) * 10_000, branch + b"log\n", branch + b"undo 10000\n"]
         replies += [(branch + b"ok\n") * 10_000, branch + b"log 10000\n" + edit * 10_000, branch + b"ok\n"]
     output = b"".join(replies) + summary(30_007)
-    return Study("full histories", SAMPLE, b"".join(lines), output, EDITED, sizes(4, 13 / 12, 16))
+    return Study("full histories", SAMPLE, b"".join(lines), output, EDITED, sizes(least, 13 / 12, 17))
 
 
-def chain(size: int) -> Study:
-    """Words about a chain of routers with a network at its far end: who uses what, the way of a packet, changes, loops."""
+def chain(size: int, least: int) -> Study:
+    """Words about a chain of `size` routers with a network at its far end: who uses what, the way of a packet, changes, loops.
+
+    The address spaces are from `least` bytes on.
+    """
     routers = [large.dotted(large.MANY + place) for place in range(size)]
     costs = [65535 * (size - place) for place in range(size)]
     used = f"20.0.0.0/8 intra cost {costs[0]} area 0.0.0.0 via {routers[1]} 0.0.0.1 out 0.0.0.2"
@@ -62,7 +65,7 @@ def chain(size: int) -> Study:
     lines = "".join(f"{line}\n" for line, _ in answers)
     replies = "".join("@0 " + "".join(f"{row}\n" for row in rows) for _, rows in answers)
     dump = large.chain(size).dump
-    return Study("a chain", dump, lines.encode(), replies.encode() + summary(7, 0, 3), dump, sizes(3.92, 56 / 55, 18))
+    return Study("a chain", dump, lines.encode(), replies.encode() + summary(7, 0, 3), dump, sizes(least, 56 / 55, 19))
 
 
 def differences(study: Study, size: int, program: str, folder: pathlib.Path) -> tuple[list[str], int]:
@@ -81,7 +84,8 @@ def differences(study: Study, size: int, program: str, folder: pathlib.Path) -> 
 
 def checks(program: str, folder: pathlib.Path):
     """The name of each run, and what differs; and what the runs together did not show."""
-    for study in (histories(), chain(300)):
+    least = least_space(program)
+    for study in (histories(least), chain(300, least)):
         printed = set()
         for size in reversed(study.sizes):
             found, length = differences(study, size, program, folder / "limited")
