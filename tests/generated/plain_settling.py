@@ -168,19 +168,21 @@ def with_bit(lsa: bytes, is_set: bool) -> bytes:
     return lsa if flags == lsa[20] else with_checksum(lsa[:20] + bytes([flags]) + lsa[21:])
 
 
-def is_border(before: State, db: State, router: bytes, loaded: dict[bytes, bool]) -> bool | None:
-    """Whether a router has bit B now; `None` where it is left as it is."""
-    was, now = (len(areas_of(it, router)) > 1 for it in (before, db))
-    return loaded.get(router) if was == now else now
+def bits_of(db: State) -> dict[tuple[int, bytes], bool]:
+    """Whether the router-LSA of an area and a router has bit B."""
+    return {(area, lsa[8:12]): bool(lsa[20] & BIT_B) for area, _, lsas in db.areas() for lsa in lsas if lsa[3] == 1 and is_live(lsa)}
 
 
 def bits_settled(before: State, db: State) -> State:
-    loaded = {lsa[8:12]: bool(lsa[20] & BIT_B) for lsas in before.sections for lsa in lsas if lsa[3] == 1 and is_live(lsa)}
-    for place, lsas in enumerate(db.sections[:-1]):
+    """A database whose routers have bit B where they are attached to several areas; as before where that did not change."""
+    loaded = bits_of(before)
+    for place, (area, _, lsas) in enumerate(db.areas()):
         made = []
         for lsa in lsas:
-            bit = is_border(before, db, lsa[8:12], loaded) if lsa[3] == 1 and is_live(lsa) else None
-            made.append(lsa if bit is None else with_bit(lsa, bit))
+            if lsa[3] == 1 and is_live(lsa):
+                was, now = (len(areas_of(it, lsa[8:12])) > 1 for it in (before, db))
+                lsa = with_bit(lsa, loaded.get((area, lsa[8:12]), now) if was == now else now)
+            made.append(lsa)
         db = db.with_section(place, made)
     return db
 
