@@ -1,6 +1,6 @@
 #!/usr/bin/env python3
 """Carries events out on databases, in plain steps: what the routers of a network originate after a link is cut, an interface
-gets another cost, a router is drained, or a router fails.
+gets another cost, a router is drained, or a router fails; and, by plain_additions.py, after links, routers and prefixes come or go.
 
 It was written from RFC 2328 (9.4, 12.4.1, 12.4.2, 14) and RFC 6987 alone, so that it can be compared with the program. Summaries
 of border routers and their bit B are left as they are.
@@ -9,19 +9,23 @@ usage: tests/generated/plain_events.py FOLDER..
 
 Each folder has dumps `d0.oswp`, `d1.oswp` and so on of a real network, and `events.txt`, whose line K is the event between two of
 them. The LSAs of types 1, 2 and 5 after each event must be those of the next dump by meaning: flags without bit B, links and
-routers in any order, the address of each Designated Router as one of its network. LSAs of a router that failed may still stand
-there. The last line is `N passed, M failed`.
+routers in any order, the address of each Designated Router as one of its network, an unnumbered link without its ifIndex. LSAs of
+a router that failed may still stand there; one that withdraws its last external prefix may keep bit E, as it does in FRR while it
+still redistributes. The last line is `N passed, M failed`.
 """
 import collections
 import pathlib
 import sys
 
-from plain_planner import State, address, links_of, originated, prefix, router_key, state_of, with_links
+import plain_additions
+from plain_planner import State, address, links_of, originated, prefix, router_key, state_of, with_links, with_metric
 from plain_reader import number, with_checksum
 from plain_routes import is_live, net_of
 
 POINT_TO_POINT, TRANSIT, STUB = 1, 2, 3
 MAX_LINK_METRIC = 65535
+# The metric of a drained border router's summaries in FRR.
+RAISED = 16711680
 
 
 class Refused(Exception):
@@ -232,6 +236,14 @@ def drain(db: State, router: bytes) -> State:
     return changed(db, router, transit, costing(MAX_LINK_METRIC))
 
 
+def raised(db: State, router: bytes) -> State:
+    """The summaries of networks by a router get the metric that FRR gives them while it is drained."""
+    for place, lsas in enumerate(db.sections[:-1]):
+        db = db.with_section(place, [with_metric(lsa, RAISED) if lsa[3] == 3 and lsa[8:12] == router and is_live(lsa) else lsa
+                                     for lsa in lsas])
+    return db
+
+
 # ---- networks
 
 
@@ -324,12 +336,16 @@ def fail(db: State, router: bytes) -> State:
 # ---- lines
 
 
-def event(db: State, line: str) -> State:
-    """The database after the event of a line, such as `cut 1.1.1.1 2.2.2.2`."""
+def event(before: State, db: State, line: str) -> State:
+    """The database after the event of a line, such as `cut 1.1.1.1 2.2.2.2`; `before` is the loaded one."""
     word, first, *words = line.split()
     router, words = address(first.encode()), [it.encode() for it in words]
+    if word in plain_additions.EVENTS:
+        return plain_additions.EVENTS[word](db, router, words)
+    if word in plain_additions.RELATIVE:
+        return plain_additions.RELATIVE[word](before, db, router, words)
     if word == "drain":
-        return drain(db, router)
+        return raised(drain(db, router), router) if words else drain(db, router)
     if word == "fail":
         return fail(db, router)
     if word == "cut" and b"/" in words[0]:
@@ -349,8 +365,13 @@ def event(db: State, line: str) -> State:
 # ---- what real routers did
 
 
-def meaning(db: State, dead: set[bytes]) -> collections.Counter:
-    """The LSAs of types 1, 2 and 5 by what they say, without those of dead routers."""
+def data(link: bytes) -> bytes | None:
+    """The Link Data of a link, but for the ifIndex of an unnumbered one, which no event names."""
+    return None if link[8] == POINT_TO_POINT and link[4] == 0 else link[4:8]
+
+
+def meaning(db: State, dead: set[bytes], withdrawing: bytes) -> collections.Counter:
+    """The LSAs of types 1, 2 and 5 by what they say, without those of dead routers, and without bit E of one that withdraws."""
     found: collections.Counter = collections.Counter()
     for place, lsas in enumerate(db.sections):
         nets = {lsa[4:8]: net(lsa) for lsa in lsas if lsa[3] == 2 and is_live(lsa)}
@@ -358,9 +379,9 @@ def meaning(db: State, dead: set[bytes]) -> collections.Counter:
             if not is_live(lsa) or lsa[8:12] in dead:
                 continue
             if lsa[3] == 1 and links_of(lsa):
-                links = [(link[8], nets.get(link[:4], link[:4]) if link[8] == TRANSIT else link[:4], link[4:8], link[10:12])
+                links = [(link[8], nets.get(link[:4], link[:4]) if link[8] == TRANSIT else link[:4], data(link), link[10:12])
                          for link in links_of(lsa)]
-                found[place, lsa[8:12], lsa[20] & ~1, tuple(sorted(links, key=repr))] += 1
+                found[place, lsa[8:12], lsa[20] & (~3 if lsa[8:12] == withdrawing else ~1), tuple(sorted(links, key=repr))] += 1
             elif lsa[3] == 2:
                 found[place, net(lsa), tuple(sorted(attached(lsa)))] += 1
             elif lsa[3] == 5:
@@ -369,8 +390,9 @@ def meaning(db: State, dead: set[bytes]) -> collections.Counter:
 
 
 def is_as_real(folder: pathlib.Path, step: int, line: str, dead: set[bytes]) -> bool:
-    before, after = (state_of((folder / f"d{it}.oswp").read_bytes())[0] for it in (step - 1, step))
-    made, real = meaning(event(before, line), dead), meaning(after, dead)
+    loaded, before, after = (state_of((folder / f"d{it}.oswp").read_bytes())[0] for it in (0, step - 1, step))
+    withdrawing = address(line.split()[1].encode()) if line.startswith("withdraw ") else b""
+    made, real = (meaning(it, dead, withdrawing) for it in (event(loaded, before, line), after))
     for item in (made - real) + (real - made):
         print(f"{folder.name} step {step} ({line}): {'only made' if item in made else 'only real'}: {item}")
     return made == real
@@ -383,9 +405,8 @@ def main(folders: list[str]) -> int:
         for step, line in enumerate((folder / "events.txt").read_text().splitlines(), 1):
             if line.startswith("fail "):
                 dead.add(address(line.split()[1].encode()))
-            if line.split()[0] in ("cut", "set-cost", "drain", "fail"):
-                good = is_as_real(folder, step, line, dead)
-                passed, failed = passed + good, failed + (not good)
+            good = is_as_real(folder, step, line, dead)
+            passed, failed = passed + good, failed + (not good)
     print(f"{passed} passed, {failed} failed")
     return 1 if failed else 0
 

@@ -101,12 +101,17 @@ class Loaded:
         return key not in self.metrics and key in self.due
 
 
+def is_held(lsa: bytes, loaded: Loaded, key) -> bool:
+    """A summary that was not due in the loaded database, or is raised since, as those of a drained border router."""
+    return not loaded.was_due(key) or metric(lsa) == RAISED
+
+
 def following(lsas, loaded: Loaded, due: dict) -> list[bytes]:
     """The LSAs of an area whose summaries follow."""
     made = []
     for lsa in lsas:
         key = (lsa[8:12], subject(lsa)) if is_summary(lsa) else None
-        if key is None or not loaded.was_due(key) or metric(lsa) == due.get(key, INFINITY):
+        if key is None or is_held(lsa, loaded, key) or metric(lsa) == due.get(key, INFINITY):
             made.append(lsa)
         elif key in due:
             made.append(with_metric(lsa, due[key]))
