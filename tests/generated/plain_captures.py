@@ -8,6 +8,8 @@ import collections
 import dataclasses
 import re
 
+import plain_planner
+import plain_routes
 from plain_reader import fault_of_lsa, links, number
 
 LONGEST_DUMP = 16_777_216
@@ -55,6 +57,18 @@ class Contents:
         """What standard output has after the name of the file."""
         areas = {area for area, _ in self.kinds} | {observation.area for observation in self.observations} - {None}
         return f"{self.word}, {len(self.observations)} LSAs, {len(areas)} areas"
+
+    def closed(self) -> "Contents":
+        """The same, with the finding that it is empty, if it is; a document in JSON says so itself."""
+        has_others = any(re.fullmatch(r"(Nssa|Opaque) \d+", finding) for finding in self.findings)
+        if not (self.observations or self.kinds or self.headers or has_others or self.word == "printed in JSON"):
+            self.findings.append("Empty")
+        return self
+
+
+def is_notice(finding: str) -> bool:
+    """Whether a finding is about nothing but opaque LSAs, which the planner leaves out."""
+    return bool(re.fullmatch(r"Opaque( area [\d.]+)? \d+", finding) or re.search(r" type (9|10|11) id ", finding))
 
 
 def address(value: int | bytes) -> str:
@@ -221,14 +235,40 @@ class Pcapng:
 # ---- what frames carry
 
 # How long the header of a link is, and where its EtherType stands.
-LINKS = {1: (14, 12), 113: (16, 14), 276: (20, 0)}
+LINKS = {1: (14, 12), 113: (16, 14), 276: (20, 0), 104: (4, 2)}
 TAGS = (0x8100, 0x88A8, 0x9100)
+# PPPoE sessions, and MPLS.
+ENCAPSULATING = (0x8864, 0x8847, 0x8848)
+
+
+def carried_by_ppp(data: bytes) -> bytes:
+    """What a frame of PPP carries as IPv4 (RFC 1661, RFC 1662)."""
+    if data[:2] == b"\xff\x03":
+        data = data[2:]
+    if len(data) < 2:
+        raise FrameWarning("Truncated")
+    if data[:2] != b"\0\x21":
+        raise FrameWarning("NotIpv4")
+    return data[2:]
+
+
+def carried_by_loopback(data: bytes) -> bytes:
+    """What a frame of a loopback interface carries as IPv4."""
+    if len(data) < 4:
+        raise FrameWarning("Truncated")
+    if data[:4] not in (b"\0\0\0\2", b"\2\0\0\0"):
+        raise FrameWarning("NotIpv4")
+    return data[4:]
 
 
 def carried(frame: Frame) -> bytes:
     """What a frame carries as IPv4."""
     if frame.link in (101, 228):
         return frame.data
+    if frame.link in (9, 50):
+        return carried_by_ppp(frame.data)
+    if frame.link in (0, 108):
+        return carried_by_loopback(frame.data)
     if frame.link not in LINKS:
         raise FrameWarning("OtherLink")
     size, at = LINKS[frame.link]
@@ -239,6 +279,8 @@ def carried(frame: Frame) -> bytes:
         if len(data) < 4:
             raise FrameWarning("Truncated")
         kind, data = number(data[2:4]), data[4:]
+    if kind in ENCAPSULATING:
+        raise FrameWarning("Encapsulated")
     if kind != 0x0800:
         raise FrameWarning("NotIpv4")
     return data
@@ -262,7 +304,7 @@ def datagram_of(frame: Frame) -> Datagram:
     if data[0] >> 4 != 4:
         raise FrameWarning("NotIpv4")
     if data[9] != 89:
-        raise FrameWarning("NotOspf")
+        raise FrameWarning("Encapsulated" if data[9] == 47 else "NotOspf")
     header, total = data[0] % 16 * 4, number(data[2:4])
     if header < 20 or total < header or (total > len(data) and not frame.is_cut()):
         raise FrameWarning("BadLength")
@@ -387,6 +429,8 @@ class Capture:
             else:
                 self.contents.observations.append(Observation(scope(rest[3], number(data[8:12])), seen, rest[:length]))
             rest = rest[length:]
+        if rest:
+            raise FrameWarning("BadLength")
 
 
 def contents_of_capture(file: bytes) -> Contents:
@@ -486,7 +530,7 @@ class Walk:
             except Unreadable:
                 self.contents.findings.append("Name")
         if not self.is_of_mib:
-            raise Refused("UnknownKind", 0)
+            raise Refused("Compressed") if self.text[:2] == b"\x1f\x8b" else Refused("UnknownKind", 0)
         for row in self.columns - self.rows:
             self.row_finding(row, "Missing")
         return self.contents
@@ -497,8 +541,19 @@ class Walk:
         self.contents.findings.append(f"{fault} {where}type {key[0]} id {address(key[1:5])} adv {address(key[5:])}")
 
     def object(self, name: bytes, value: bytes) -> None:
-        arcs = arcs_of(name.decode("latin-1"))
+        is_absent = value.startswith((b"No Such Object available on this agent at this OID",
+                                      b"No Such Instance currently exists at this OID"))
+        try:
+            arcs = arcs_of(name.decode("latin-1"))
+        except Unreadable:
+            if not is_absent:
+                raise
+            arcs = []
         if arcs is None:
+            return
+        if is_absent:
+            self.contents.findings.append("NoSuchObject")
+            self.is_of_mib = True
             return
         table, entry, column = (arcs + [0, 0, 0])[:3] if len(arcs) >= 3 else (0, 0, 0)
         index = arcs[3:]
@@ -551,7 +606,7 @@ def contents_of(file: bytes) -> Contents:
     is_capture = file[:4] == SECTION_HEADER or file[:4] in MAGIC_NUMBERS
     contents = contents_of_capture(file) if is_capture else Walk(file).read()
     contents.findings += [f"Nssa area {address(area)}" for area in {area for area, kind in contents.kinds if kind == "nssa"}]
-    return contents
+    return contents.closed()
 
 
 def seconds(lsa: bytes) -> int:
@@ -620,10 +675,10 @@ def named(files: list[Contents]) -> list[str]:
 
 
 def contradicted(files: list[Contents]) -> list[str]:
-    """The lines of the areas that files report both as stub areas and as others."""
+    """The lines of the areas that files report both as stub areas or not-so-stubby ones and as others."""
     kinds: dict[int, set[bool]] = collections.defaultdict(set)
     for area, kind in (kind for file in files for kind in file.kinds):
-        kinds[area].add(kind == "stub")
+        kinds[area].add(kind != "ordinary")
     return [f"database: BothKinds area {address(area)}" for area in sorted(kinds) if len(kinds[area]) == 2]
 
 
@@ -649,9 +704,26 @@ def ends_of(lsa: bytes, kinds: tuple[int, ...]) -> set[bytes]:
     return found
 
 
-def lacking(areas: dict[int, list[bytes]], as_wide: list[bytes]) -> list[str]:
-    """The lines of what a database lacks, as far as its LSAs show, and of what the planner leaves out of it."""
-    lines: list[str] = []
+def live_routers(lsas: list[bytes]) -> list[bytes]:
+    return [lsa for lsa in lsas if lsa[3] == 1 and not is_at_max_age(lsa)]
+
+
+def lacking_borders(areas: dict[int, list[bytes]]) -> list[str]:
+    """The lines of what a database lacks of area border routers, and of those whose router-LSA in the backbone has no
+    links."""
+    backbone = areas.get(0, [])
+    borders = {lsa[4:8] for lsas in areas.values() for lsa in live_routers(lsas) if lsa[20] & 1}
+    linked = {lsa[4:8] for area, lsas in areas.items() if area for lsa in live_routers(lsas) if lsa[22:24] != b"\0\0"}
+    unlinked = {lsa[4:8] for lsa in live_routers(backbone) if lsa[22:24] == b"\0\0"}
+    lines = ["database: Missing area 0.0.0.0"] if borders and 0 not in areas else []
+    lines += lacks_of(borders, {lsa[4:8] for lsa in backbone if lsa[3] == 1}, "abr")
+    return lines + [f"database: NoLinks area 0.0.0.0 router {address(router)}" for router in sorted(unlinked & linked)]
+
+
+def lacking(areas: dict[int, list[bytes]], stubs: set[int], as_wide: list[bytes]) -> list[str]:
+    """The lines of what a database with these stub areas lacks, as far as its LSAs show, and of what the planner leaves
+    out of it."""
+    lines = lacking_borders(areas)
     anywhere: set[bytes] = set()
     for area, lsas in sorted(areas.items()):
         live = [lsa for lsa in lsas if not is_at_max_age(lsa)]
@@ -665,7 +737,29 @@ def lacking(areas: dict[int, list[bytes]], as_wide: list[bytes]) -> list[str]:
         lines += lacks_of(networks, {lsa[4:8] for lsa in lsas if lsa[3] == 2}, f"area {address(area)} network")
         lines += left_out(lsas, f" area {address(area)}")
     asbrs = {lsa[8:12] for lsa in as_wide if lsa[3] == 5 and not is_at_max_age(lsa)}
-    return lines + lacks_of(asbrs, anywhere, "asbr") + left_out(as_wide, "")
+    speakers = {lsa[4:8] for area, lsas in areas.items() if area not in stubs for lsa in live_routers(lsas) if lsa[20] & 2}
+    lines += lacks_of(asbrs, anywhere, "asbr")
+    lines += lacks_of(speakers, {lsa[8:12] for lsa in as_wide if lsa[3] == 5}, "externals")
+    return lines + left_out(as_wide, "")
+
+
+def has_bit(lsas, router: bytes, bit: int) -> bool:
+    return any(lsa[4:8] == router and lsa[20] & bit for lsa in live_routers(lsas))
+
+
+def out_of_profile(areas: plain_routes.Areas) -> list[str]:
+    """The lines of the live summary-LSAs of linked border routers that `refresh` would change, unless a router announces
+    itself by one."""
+    linked = {router for _, _, lsas in areas for (kind, router), edges in plain_routes.graph_of(lsas).edges.items()
+              if kind == "router" and edges}
+    lines: dict[str, list[str]] = {"Raised": [], "NotDue": []}
+    for (area, _, old), (_, _, new) in zip(areas, plain_routes.refreshed(areas, plain_planner.with_metric)):
+        for lsa, after in sorted(zip(old, new), key=lambda both: both[0][3:12]):
+            itself = lsa[3] == 4 and lsa[4:8] == lsa[8:12] and has_bit(old, lsa[8:12], 2)
+            if lsa[25:28] != after[25:28] and lsa[8:12] in linked and not itself:
+                what = "Raised" if lsa[25:28] == b"\xff\0\0" else "NotDue"
+                lines[what].append(f"database: {what} {words((False, area, lsa[3], lsa[4:8], lsa[8:12]))}")
+    return lines["Raised"] + lines["NotDue"]
 
 
 def dump_of(files: list[Contents], keeps: bool = False) -> bytes:
@@ -680,7 +774,7 @@ def dump_of(files: list[Contents], keeps: bool = False) -> bytes:
         raise Refused("TooManyLsas")
     dump = b"OSWP\1" + bytes([len(areas)])
     for area in areas:
-        is_stub = area != 0 and (area, "stub") in kinds
+        is_stub = area != 0 and ((area, "stub") in kinds or (area, "nssa") in kinds)
         dump += area.to_bytes(4, "big") + bytes([is_stub]) + len(lsas[area]).to_bytes(2, "big") + b"".join(lsas[area])
     dump += len(lsas[None]).to_bytes(2, "big") + b"".join(lsas[None])
     if len(dump) > LONGEST_DUMP:

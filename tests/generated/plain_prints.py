@@ -15,6 +15,10 @@ BLANKS = re.compile(rb"[ \t\n\r]+")
 MOST_LEVELS = 128
 
 
+class LeftOut(Exception):
+    """An LSA of a type that is not read, by what the planner leaves out."""
+
+
 class Unreadable(Exception):
     """The fields of an LSA, or of a row, are not read."""
 
@@ -119,6 +123,11 @@ class Header:
                 + self.sequence.to_bytes(4, "big") + self.summed.to_bytes(2, "big") + self.length.to_bytes(2, "big") + body)
 
 
+# What is printed of LSAs that are not read.
+LEFT_OUT = {b"LS Type: NSSA-LSA": "Nssa", b"LS Type: Link-Local Opaque-LSA": "Opaque",
+            b"LS Type: Area-Local Opaque-LSA": "Opaque", b"LS Type: AS-external Opaque-LSA": "Opaque"}
+
+
 def header_in(text: Text) -> Header:
     age = text.value(b"LS age:", decimal(65535))
     options = text.value(b"Options:", hexadecimal(255, b"0x"))
@@ -126,6 +135,11 @@ def header_in(text: Text) -> Header:
     text.word()
     text.pass_over(b"LS Flags:")
     text.word()
+    if text.begins(b"(Translated from Type-7)"):
+        text.pass_over(b"(Translated from Type-7)")
+    left_out = next((feature for label, feature in LEFT_OUT.items() if text.begins(label)), None)
+    if left_out:
+        raise LeftOut(left_out)
     flags = None
     before = text.at
     try:
@@ -185,7 +199,8 @@ class PrintReading:
     """What a print contains, read one LSA after another."""
 
     def __init__(self, word: str):
-        self.found, self.unreadable = Contents(word), 0
+        self.found, self.unreadable, self.rows = Contents(word), 0, 0
+        self.left_out = {"Nssa": 0, "Opaque": 0}
 
     def lsa(self, header: Header, body: bytes, area: int | None) -> None:
         made = header.lsa(body)
@@ -201,7 +216,25 @@ class PrintReading:
     def read(self) -> Contents:
         if self.unreadable:
             self.found.findings.append(f"Unreadable {self.unreadable}")
+        self.found.findings += [f"{feature} {count}" for feature, count in self.left_out.items() if count]
+        if self.rows:
+            self.found.findings.append(f"List {self.rows} (use --against)")
         return self.found
+
+
+def is_row(words: list[bytes]) -> bool:
+    """Whether these words are the fields of a row of a list."""
+    if len(words) < 5:
+        return False
+    try:
+        four_bytes(words[0])
+        four_bytes(words[1])
+        decimal(65535)(words[2])
+        hexadecimal(2 ** 32 - 1, b"0x")(words[3])
+        hexadecimal(65535, b"0x")(words[4])
+    except Unreadable:
+        return False
+    return True
 
 
 def read_text(file: bytes) -> Contents:
@@ -209,6 +242,7 @@ def read_text(file: bytes) -> Contents:
     found, reading, area = [word for word in BLANKS.split(file) if word], PrintReading("printed"), None
     for at in range(len(found)):
         text = Text(found, at)
+        reading.rows += is_row(found[at:at + 5])
         if text.begins(b"(Area") and at + 1 < len(found):
             try:
                 area = number(four_bytes(found[at + 1].partition(b")")[0]))
@@ -221,6 +255,8 @@ def read_text(file: bytes) -> Contents:
             try:
                 header = header_in(text)
                 reading.lsa(header, body_in(text, header), area)
+            except LeftOut as left_out:
+                reading.left_out[str(left_out)] += 1
             except Unreadable:
                 reading.unreadable += 1
     return reading.read()
@@ -322,10 +358,17 @@ def body_of(value, kind: int) -> bytes:
             + address_at(value, "forwardAddress") + number_at(value, "externalRouteTag", 2 ** 32 - 1).to_bytes(4, "big"))
 
 
+# The databases whose LSAs are not read.
+OTHERS = {"nssaExternalLinkStates": 7, "linkLocalOpaqueLsa": 9, "areaLocalOpaqueLsa": 10, "asExternalOpaqueLsa": 11}
+
+
 def read_array(reading: PrintReading, value, kind: int, area: int | None) -> None:
     """Takes the LSAs of an area, or those of AS scope, into account."""
     if type(value) is not list:
         reading.unreadable += 1
+        return
+    if kind > 5:
+        reading.left_out["Nssa" if kind == 7 else "Opaque"] += len(value)
         return
     for one in value:
         try:
@@ -343,14 +386,18 @@ def read_document(file: bytes) -> Contents:
             raise ValueError
     except (ValueError, RecursionError):
         raise Refused("NotJson") from None
+    databases = DATABASES | OTHERS
     names = {name for name, _ in value}
-    if not names & DATABASES.keys():
+    if not names & databases.keys() and len(value) == 1 and type(value[0][1]) is Members:
+        value = value[0][1]
+        names = {name for name, _ in value}
+    if not names & databases.keys():
         raise Refused("NoDatabase")
     reading = PrintReading("printed in JSON")
-    for name, kind in DATABASES.items():
+    for name, kind in databases.items():
         if name not in names:
             continue
-        if kind == 5:
+        if kind in (5, 11):
             read_array(reading, value.get(name), kind, None)
             continue
         try:
@@ -453,7 +500,7 @@ class PrintedList:
 
     def row(self, header: bytes, heading: Heading) -> None:
         kind = header[3]
-        if kind == 9:
+        if kind in (9, 10, 11):
             return
         if kind not in (5, 11) and heading.area is None:
             self.no_area.append(f"NoArea type {kind} id {address(header[4:8])} adv {address(header[8:12])}")

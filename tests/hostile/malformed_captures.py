@@ -192,18 +192,24 @@ def is_as_read(program: str, data: bytes, folder: pathlib.Path) -> tuple[bool, b
         contents = plain_captures.contents_of(data)
     except plain_captures.Refused as refused:
         line = f"{file}: {refused.fault} at {refused.offset}\n"
+        if refused.fault == "Compressed":
+            line = f"{file}: Compressed (zcat {file} | ospf-capture -)\n"
         return (status, said, error.decode(), left) == (3, b"", line, None), False
-    findings = [f"{file}: {finding}" for finding in contents.findings]
+    findings = [f"{file}: {finding}" for finding in contents.findings if not plain_captures.is_notice(finding)]
+    notices = [f"{file}: {finding}" for finding in contents.findings if plain_captures.is_notice(finding)]
     try:
         dump = plain_captures.dump_of([contents])
     except plain_captures.Refused as refused:
         return (status, said, error.decode(), left) == (3, b"", f"dump: {refused.fault}\n", None), False
     lines = error.decode().splitlines()
     lacks = plain_captures.unnamed([contents]) + plain_captures.named([contents])
-    # There may be more findings, of the database.
+    lacks = [line for line in lacks if not plain_captures.is_notice(line)]
+    # There may be more findings and notices, of the database.
     is_same = set(findings) <= set(lines) and [line for line in lines if LACK.match(line)] == lacks
     is_same = is_same and status in ((1,) if findings or lacks else (0, 1))
-    return is_same and (said.decode(), left) == (f"{file}: {contents.line()}\n", dump), True
+    first, *more = said.decode().splitlines()
+    is_same = is_same and first == f"{file}: {contents.line()}" and set(notices) <= set(more)
+    return is_same and all(map(plain_captures.is_notice, (line.partition(": ")[2] for line in more))) and left == dump, True
 
 
 def checks(program: str, make):

@@ -1,5 +1,6 @@
 mod AreaSets
 pub mod Inputs
+pub mod Refusals
 pub mod Parts
 mod PlaceOrder
 mod Members

@@ -10,7 +10,7 @@ use Rattle.std.specs.declared.cmp.Ordering.{Ordering}
 use Rattle.std.specs.declared.cmp.Ordering.TheVariants.{Less, Equal, Greater}
 use Rattle.std.proofs.lemmas.List.Kept.{IsStrictlySortedBy-filter}
 use Rattle.std.proofs.lemmas.Map.Views.{any-filter_same}
-use Rattle.capture_report.specs.Sets.{has, AreMissing}
+use Rattle.capture_report.specs.Sets.{has, AreMissing, AreShared}
 
 pub eq_true : (o : Ordering) → is_eq o ≡ true → o ≡ Equal
 eq_true Less h = cc
@@ -34,4 +34,18 @@ module _ {X : Type 0} {cmp : X → X → Ordering} (total : IsTotalOrder cmp) wh
     order =
         subst (λ l. IsStrictlySortedBy cmp l) (sym e)
         (IsStrictlySortedBy-filter cmp (λ item. not (contains cmp others item)) these.keys h.1);
+  }
+
+  pub in_common : (named others : List X) (these those : BTreeSet X) (both : List X) → IsFromIterResult cmp named these
+      → IsFromIterResult cmp others those → both ≡ filter (λ item. contains cmp those item) these.keys → AreShared cmp named others both
+  in_common named others these those both h k e = record {
+    which = λ item.
+        ap (has cmp item) e
+        ∙ any-filter_same (eq_by_cmp cmp item) (λ x. contains cmp those x) (contains cmp those item)
+        (λ x same. among_same item x same those.keys) these.keys
+        ∙ ap (λ b. b && has cmp item these.keys) (k.0 item)
+        ∙ ap (λ b. has cmp item others && b) (h.0 item);
+    order =
+        subst (λ l. IsStrictlySortedBy cmp l) (sym e)
+        (IsStrictlySortedBy-filter cmp (λ item. contains cmp those item) these.keys h.1);
   }

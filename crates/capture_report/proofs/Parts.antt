@@ -1,7 +1,7 @@
 -- Lists of findings, area after area.
 use Rattle.std.proofs.Common.{◌≡◌, ◌∙◌, sym, ap, subst, refl, ℕ, ◌+◌, List, [], ◌∷◌, ◌++◌, take, map, Some}
 use Rattle.std.specs.List.{AllZip, flat_map, slice_get}
-use Rattle.std.proofs.lemmas.List.{take_more}
+use Rattle.std.proofs.lemmas.List.{flat_map_more, take_more}
 use Rattle.std.proofs.lemmas.Option.{get_or_from_slice_get, slice_get_within}
 use Rattle.lsdb.specs.Lists.{AreaHead}
 
@@ -27,3 +27,7 @@ module _ (areas : List AreaHead) (i : ℕ) (area : AreaHead) (here : slice_get a
   zip_more R old new y before one pushed =
       subst (λ ys. AllZip R (take (i + 1) areas) ys) (sym pushed)
       (subst (λ xs. AllZip R xs (old ++ y ∷ [])) (sym one_more) (zip_push R (take i areas) old area y before one))
+
+  -- what an area gives, after what the areas before it give
+  pub flat_map_next : {Y : Type 0} (f : AreaHead → List Y) → flat_map f (take i areas) ++ f area ≡ flat_map f (take (i + 1) areas)
+  flat_map_next f = flat_map_more f [] (take i areas) area ∙ ap (flat_map f) (sym one_more)

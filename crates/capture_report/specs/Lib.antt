@@ -10,6 +10,7 @@ pub mod Newer
 pub mod HeaderFindings
 pub mod Naming
 pub mod LeftOut
+pub mod Borders
 pub mod DatabaseFindings
 pub mod Runs
 pub mod steps

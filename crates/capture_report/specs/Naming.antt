@@ -85,6 +85,10 @@ router_described lsa = described_by router_lsa lsa
 abbrev pub network_described : List ℕ → Option ℕ
 network_described lsa = described_by network_lsa lsa
 
+-- the AS boundary router that originated an AS-external-LSA
+abbrev pub external_described : List ℕ → Option ℕ
+external_described lsa = if kind_of lsa == external_lsa then Some (advertising_router_of lsa) else None
+
 -- the type of the LSAs that describe these
 abbrev pub ls_type_of : Node → ℕ
 ls_type_of Router = router_lsa

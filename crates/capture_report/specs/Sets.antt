@@ -18,3 +18,8 @@ pub record AreOnce {X : Type 0} (cmp : X → X → Ordering) (reported once : Li
 pub record AreMissing {X : Type 0} (cmp : X → X → Ordering) (named described missing : List X) : Type 0 where
   pub which : (item : X) → has cmp item missing ≡ (not (has cmp item described) && has cmp item named)
   pub order : IsStrictlySortedBy cmp missing
+
+-- those that are in both lists, each once, in rising order
+pub record AreShared {X : Type 0} (cmp : X → X → Ordering) (these others shared : List X) : Type 0 where
+  pub which : (item : X) → has cmp item shared ≡ (has cmp item others && has cmp item these)
+  pub order : IsStrictlySortedBy cmp shared

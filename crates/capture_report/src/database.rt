@@ -8,12 +8,14 @@ ghost use Rattle.lsdb.specs.Slots.{lists_of};
 ghost use Rattle.lsdb.specs.declared.section.Section.TheVariants.{Area, AsWide};
 ghost use Rattle.capture_report.specs.DatabaseFindings.{AreDatabaseFindings, AreFindingsOfArea, AreFindingsOfAs, IsPartOf, routers_anywhere};
 ghost use Rattle.capture_report.specs.Sets.{AreMissing};
-ghost use Rattle.capture_report.specs.Naming.{asbr_named, described_by, ls_type_of, named_by};
+ghost use Rattle.capture_report.specs.Borders.{routers_that_pass};
+ghost use Rattle.capture_report.specs.Naming.{asbr_named, described_by, external_described, ls_type_of, named_by};
 
 use crate::areas::areas_in;
+use crate::borders::{RouterTest, border_findings, routers_that_pass};
 use crate::each::put_each;
 use crate::left_out::put_all_left_out;
-use crate::naming::{Node, asbrs_named, described, named};
+use crate::naming::{Node, asbrs_named, described, externals_described, named};
 use crate::sets::missing;
 use findings::Finding;
 use lsa_codec::{Addr, AreaId, RouterId};
@@ -69,6 +71,20 @@ fn missing_asbrs<A: Allocator + Copy>(
     missing(alloc, &named, &described)
 }
 
+/// The AS boundary routers without an AS-external-LSA.
+fn missing_externals<A: Allocator + Copy>(
+    alloc: A,
+    database: &Database<A>,
+) -> Result<Vec<u32, A>, AllocError>
+    ensures { IfOk result (λ routers. AreMissing nat_cmp
+        (routers_that_pass RouterTest.BorderOfAs (lists_of database.now))
+        (filter_map external_described (lsas_of AsWide (lists_of database.now))) routers.items) }
+{
+    let borders = routers_that_pass(alloc, RouterTest::BorderOfAs, database)?;
+    let described = externals_described(alloc, database.lsas(Section::AsWide))?;
+    missing(alloc, &borders, &described)
+}
+
 /// The findings of an area.
 fn findings_of_area<A: Allocator + Copy>(
     alloc: A,
@@ -104,9 +120,13 @@ fn findings_of_as<A: Allocator + Copy>(
     ensures { IfOk result (λ findings. AreFindingsOfAs (lists_of database.now) findings.items) }
 {
     let routers = missing_asbrs(alloc, database)?;
+    let originators = missing_externals(alloc, database)?;
     let mut findings = Vec::new(alloc);
     put_each(&mut findings, &routers, |id| {
         Finding::MissingAsbr(RouterId(id))
+    })?;
+    put_each(&mut findings, &originators, |id| {
+        Finding::MissingExternals(RouterId(id))
     })?;
     put_all_left_out(&mut findings, Scope::AsWide, database, Section::AsWide)?;
     Ok(findings)
@@ -142,9 +162,10 @@ fn joined<A: Allocator + Copy>(
     Ok(findings)
 }
 
-/// What the database lacks, and what the planner leaves out of it: for each area, in rising order,
-/// the routers that are missing, the networks, and what is left out; and after that the same of the
-/// LSAs of AS scope. Routers and networks rise, and each stands once.
+/// What the database lacks, and what the planner leaves out of it: what is missing of area border
+/// routers; for each area, in rising order, the routers that are missing, the networks, and what is
+/// left out; and after that the same of the LSAs of AS scope. Routers and networks rise, and each
+/// stands once.
 ///
 /// # Errors
 ///
@@ -156,7 +177,8 @@ pub fn database_findings<A: Allocator + Copy>(
     ensures { IfOk result (λ findings. AreDatabaseFindings (lists_of database.now) findings.items) }
 {
     let parts = findings_of_areas(alloc, database)?;
-    let mut findings = joined(alloc, &parts)?;
-    findings.extend_from_slice(&findings_of_as(alloc, database)?)?;
+    let mut findings = border_findings(alloc, database)?;
+    findings.append(&mut joined(alloc, &parts)?)?;
+    findings.append(&mut findings_of_as(alloc, database)?)?;
     Ok(findings)
 }

@@ -5,7 +5,7 @@ ghost use Rattle.host_io.specs.Watched.{inner_of, has_failed};
 ghost use Rattle.host_io.specs.WholeText.{ConsumesAtMost};
 ghost use Rattle.network_files.specs.ParsedFiles.{IsFileOf};
 ghost use Rattle.capture_report.specs.Runs.{AreParsed, IsFileEnd, known};
-ghost use Rattle.capture_report.specs.steps.Inputs.{IsReadEnd};
+ghost use Rattle.capture_report.specs.steps.Inputs.{IsReadEnd, refusal};
 
 use crate::fault::RunFault;
 use host_io::{ReadFault, Watched, read_whole};
@@ -15,6 +15,16 @@ use std::io::Read;
 
 /// The greatest length of a file, in bytes.
 pub const LONGEST_FILE: usize = 536_870_912;
+
+/// How a run ends at a file that is refused for this fault.
+fn refusal(index: usize, fault: FileFault) -> RunFault
+    ensures { result ≡ refusal index fault }
+{
+    match fault {
+        FileFault::OutOfMemory => RunFault::OutOfMemory,
+        _ => RunFault::Refused(index, fault),
+    }
+}
 
 /// Reads a whole file, and what it contains. Its place among the files is `index`, from 0.
 fn read_input<A: Allocator + Copy, R: Read>(
@@ -38,8 +48,7 @@ fn read_input<A: Allocator + Copy, R: Read>(
     };
     match read_file(alloc, &bytes) {
         Ok(parsed) => Ok(parsed),
-        Err(FileFault::OutOfMemory) => Err(RunFault::OutOfMemory),
-        Err(fault) => Err(RunFault::Refused(index, fault)),
+        Err(fault) => Err(refusal(index, fault)),
     }
 }
 

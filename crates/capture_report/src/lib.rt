@@ -29,6 +29,7 @@ mod newer;
 mod shown;
 
 // What a database lacks (RFC 2328, 12.4).
+mod borders;
 mod database;
 mod left_out;
 mod naming;

@@ -3,7 +3,7 @@
 ghost use Rattle.std.specs.Prelude.{◌≡◌, IfOk, map};
 ghost use Rattle.std.specs.List.{filter_map, flat_map};
 ghost use Rattle.lsa_codec.specs.Views.{attached_of};
-ghost use Rattle.capture_report.specs.Naming.{router_of_link, network_of_link, routers_named, networks_named, asbr_named, ls_type_of, named_by, described_by};
+ghost use Rattle.capture_report.specs.Naming.{router_of_link, network_of_link, routers_named, networks_named, asbr_named, ls_type_of, named_by, described_by, external_described};
 
 use lsa_codec::{
     ASBR_SUMMARY_LSA, Attached, EXTERNAL_LSA, Link, LinkKind, Links, Lsa, NETWORK_LSA, ROUTER_LSA,
@@ -187,5 +187,27 @@ pub(crate) fn described<A: Allocator + Copy>(
         ≡ filter_map (described_by (ls_type_of node)) lsas.entry) }
 {
     lsas.filter_map(|lsa| described_by(node, lsa))
+        .collect(alloc)
+}
+
+/// The AS boundary router that originated an AS-external-LSA, at any age.
+fn external_described<A: Allocator + Copy>(lsa: &Lsa<A>) -> Option<u32>
+    ensures { result ≡ external_described lsa.now }
+{
+    let key = lsa.key();
+    if key.kind != EXTERNAL_LSA {
+        return None;
+    }
+    Some(key.adv.0)
+}
+
+/// The AS boundary routers that originated AS-external-LSAs, one for each LSA.
+pub(crate) fn externals_described<A: Allocator + Copy>(
+    alloc: A,
+    lsas: Lsas<'_, A>,
+) -> Result<Vec<u32, A>, AllocError>
+    ensures { IfOk result (λ ids. ids.items ≡ filter_map external_described lsas.entry) }
+{
+    lsas.filter_map(|lsa| external_described(lsa))
         .collect(alloc)
 }

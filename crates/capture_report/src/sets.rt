@@ -2,7 +2,7 @@
 
 ghost use Rattle.std.specs.Prelude.{◌≡◌, IfOk, filter, not};
 ghost use Rattle.std.specs.BTreeSet.{IsFromIterResult, contains};
-ghost use Rattle.capture_report.specs.Sets.{AreMissing, AreOnce};
+ghost use Rattle.capture_report.specs.Sets.{AreMissing, AreOnce, AreShared};
 
 use std::alloc::{AllocError, Allocator};
 use std::collections::BTreeSet;
@@ -43,6 +43,22 @@ fn without<T: Ord + Copy, A: Allocator + Copy>(
         .collect(alloc)
 }
 
+/// The items that are among others too.
+fn among<T: Ord + Copy, A: Allocator + Copy>(
+    alloc: A,
+    items: &BTreeSet<T, A>,
+    others: &BTreeSet<T, A>,
+) -> Result<Vec<T, A>, AllocError>
+    ensures { IfOk result (λ left. left.items
+        ≡ filter (λ item. contains T.cmp others.now item) items.now.keys) }
+{
+    items
+        .iter()
+        .copied()
+        .filter(|item| others.contains(item))
+        .collect(alloc)
+}
+
 /// The items, each once, in rising order.
 pub(crate) fn once<T: Ord + Copy, A: Allocator + Copy>(
     alloc: A,
@@ -65,4 +81,16 @@ pub(crate) fn missing<T: Ord + Copy, A: Allocator + Copy>(
     let named = set_of(alloc, named)?;
     let described = set_of(alloc, described)?;
     without(alloc, &named, &described)
+}
+
+/// The items that are among others too, each once, in rising order.
+pub(crate) fn shared<T: Ord + Copy, A: Allocator + Copy>(
+    alloc: A,
+    items: &[T],
+    others: &[T],
+) -> Result<Vec<T, A>, AllocError>
+    ensures { IfOk result (λ shared. AreShared T.cmp items.now others.now shared.items) }
+{
+    let items = set_of(alloc, items)?;
+    among(alloc, &items, &set_of(alloc, others)?)
 }

@@ -11,6 +11,19 @@ use lsa_instances::{Header, Observation, Place};
 use network_files::ParsedFile;
 use std::alloc::{AllocError, Allocator};
 
+/// The LSAs of which these are instances.
+fn shown_in<A: Allocator + Copy>(
+    alloc: A,
+    observations: &[Observation<A>],
+) -> Result<Vec<Place, A>, AllocError>
+    ensures { IfOk result (λ lsas. lsas.items ≡ map place_of observations.now) }
+{
+    observations
+        .iter()
+        .map(|observation| observation.place())
+        .collect(alloc)
+}
+
 /// The LSA, unless the header flushes it.
 fn named_by(header: &Header) -> Option<Place>
     ensures { result ≡ named_by header.now }
@@ -29,19 +42,6 @@ fn named_in<A: Allocator + Copy>(alloc: A, headers: &[Header]) -> Result<Vec<Pla
     headers
         .iter()
         .filter_map(|header| named_by(header))
-        .collect(alloc)
-}
-
-/// The LSAs of which these are instances.
-fn shown_in<A: Allocator + Copy>(
-    alloc: A,
-    observations: &[Observation<A>],
-) -> Result<Vec<Place, A>, AllocError>
-    ensures { IfOk result (λ lsas. lsas.items ≡ map place_of observations.now) }
-{
-    observations
-        .iter()
-        .map(|observation| observation.place())
         .collect(alloc)
 }
 

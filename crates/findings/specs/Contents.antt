@@ -33,6 +33,8 @@ module _ {A : Type 0} where
   observation_of (parts.Warning warning) = None
   observation_of (parts.Finding finding) = None
   observation_of parts.Unreadable = None
+  observation_of (parts.NotRead feature) = None
+  observation_of parts.Listed = None
 
   abbrev pub kind_of : Part A → Option AreaReport
   kind_of (parts.Lsa observation) = None
@@ -41,6 +43,8 @@ module _ {A : Type 0} where
   kind_of (parts.Warning warning) = None
   kind_of (parts.Finding finding) = None
   kind_of parts.Unreadable = None
+  kind_of (parts.NotRead feature) = None
+  kind_of parts.Listed = None
 
   abbrev pub header_of : Part A → Option Header
   header_of (parts.Lsa observation) = None
@@ -49,6 +53,8 @@ module _ {A : Type 0} where
   header_of (parts.Warning warning) = None
   header_of (parts.Finding finding) = None
   header_of parts.Unreadable = None
+  header_of (parts.NotRead feature) = None
+  header_of parts.Listed = None
 
   -- what a file with these parts contains
   unfoldable pub content_of : List (Part A) → ContentLists A

@@ -2,9 +2,11 @@
 use Rattle.std.specs.Prelude.{ℕ, Bool, true, false, ◌==◌, List, [], ◌∷◌, ◌++◌, count_by, Option, None, Some, if◌then◌else◌}
 use Rattle.std.specs.List.{filter_map}
 use Rattle.findings.specs.declared.finding.Finding.{Finding}
-use Rattle.findings.specs.declared.finding.Finding.TheVariants.{Frames, Unreadable}
+use Rattle.findings.specs.declared.feature.Feature.{Feature}
+use Rattle.findings.specs.declared.feature.Feature.TheVariants.{Nssa, Opaque, VirtualEnd, VirtualLink}
+use Rattle.findings.specs.declared.finding.Finding.TheVariants.{Frames, Unreadable, NotRead, Listed}
 use Rattle.findings.specs.declared.frame_warning.FrameWarning.{FrameWarning}
-use Rattle.findings.specs.declared.frame_warning.FrameWarning.TheVariants.{OtherLink, NotIpv4, NotOspf, Truncated, BadLength, MissingFragment, OtherVersion, BadChecksum, OtherType, RefusedLsa}
+use Rattle.findings.specs.declared.frame_warning.FrameWarning.TheVariants.{OtherLink, NotIpv4, NotOspf, Encapsulated, Truncated, BadLength, MissingFragment, OtherVersion, BadChecksum, OtherType, RefusedLsa}
 use Rattle.findings.specs.declared.part.Part.{Part}
 use Rattle.findings.specs.declared.part.Part.TheVariants as parts
 use Rattle.lsa_codec.specs.declared.fault.LsaFault.TheVariants as lsa
@@ -31,6 +33,7 @@ number_of (RefusedLsa lsa.Mask) = 14
 number_of (RefusedLsa lsa.RouterId) = 15
 number_of (RefusedLsa lsa.ZeroCost) = 16
 number_of (RefusedLsa lsa.OutOfMemory) = 17
+number_of Encapsulated = 18
 
 -- the number of warnings with a reason
 abbrev pub times : List FrameWarning → FrameWarning → ℕ
@@ -44,13 +47,25 @@ counted found reason = if times found reason == 0 then None else Some (Frames re
 -- datagram something other than OSPF
 abbrev pub reasons : List FrameWarning
 reasons =
-    OtherLink ∷ Truncated ∷ BadLength ∷ MissingFragment ∷ OtherVersion ∷ BadChecksum ∷ OtherType ∷ RefusedLsa lsa.Truncated
+    OtherLink ∷ Encapsulated ∷ Truncated ∷ BadLength ∷ MissingFragment ∷ OtherVersion ∷ BadChecksum ∷ OtherType ∷ RefusedLsa lsa.Truncated
     ∷ RefusedLsa lsa.Length ∷ RefusedLsa lsa.BadType ∷ RefusedLsa lsa.Body ∷ RefusedLsa lsa.Checksum ∷ RefusedLsa lsa.Mask
     ∷ RefusedLsa lsa.RouterId ∷ RefusedLsa lsa.ZeroCost ∷ []
 
 -- the warnings about frames, each reason once
 abbrev pub frame_findings : List FrameWarning → List Finding
 frame_findings found = filter_map (counted found) reasons
+
+-- ---- what the planner leaves out
+
+-- a number that no other feature has
+abbrev pub feature_number : Feature → ℕ
+feature_number Nssa = 0
+feature_number Opaque = 1
+feature_number VirtualEnd = 2
+feature_number VirtualLink = 3
+
+abbrev pub is_same_feature : Feature → Feature → Bool
+is_same_feature feature other = feature_number feature == feature_number other
 
 -- ---- all findings
 
@@ -62,6 +77,8 @@ module _ {A : Type 0} where
   warning_of (parts.Warning warning) = Some warning
   warning_of (parts.Finding finding) = None
   warning_of parts.Unreadable = None
+  warning_of (parts.NotRead feature) = None
+  warning_of parts.Listed = None
 
   -- what is reported by itself
   abbrev pub finding_of : Part A → Option Finding
@@ -71,6 +88,8 @@ module _ {A : Type 0} where
   finding_of (parts.Warning warning) = None
   finding_of (parts.Finding finding) = Some finding
   finding_of parts.Unreadable = None
+  finding_of (parts.NotRead feature) = None
+  finding_of parts.Listed = None
 
   abbrev pub is_unreadable : Part A → Bool
   is_unreadable (parts.Lsa observation) = false
@@ -79,11 +98,48 @@ module _ {A : Type 0} where
   is_unreadable (parts.Warning warning) = false
   is_unreadable (parts.Finding finding) = false
   is_unreadable parts.Unreadable = true
+  is_unreadable (parts.NotRead feature) = false
+  is_unreadable parts.Listed = false
+
+  -- an LSA of a type that is not read, which this feature shows
+  abbrev pub is_not_read : Feature → Part A → Bool
+  is_not_read feature (parts.Lsa observation) = false
+  is_not_read feature (parts.Kind area) = false
+  is_not_read feature (parts.Header header) = false
+  is_not_read feature (parts.Warning warning) = false
+  is_not_read feature (parts.Finding finding) = false
+  is_not_read feature parts.Unreadable = false
+  is_not_read feature (parts.NotRead found) = is_same_feature found feature
+  is_not_read feature parts.Listed = false
+
+  -- a row of a list
+  abbrev pub is_listed : Part A → Bool
+  is_listed (parts.Lsa observation) = false
+  is_listed (parts.Kind area) = false
+  is_listed (parts.Header header) = false
+  is_listed (parts.Warning warning) = false
+  is_listed (parts.Finding finding) = false
+  is_listed parts.Unreadable = false
+  is_listed (parts.NotRead feature) = false
+  is_listed parts.Listed = true
 
   -- the number of LSAs and rows whose fields cannot be read, unless it is 0
   abbrev pub unread : List (Part A) → List Finding
   unread these = if count_by is_unreadable these == 0 then [] else Unreadable (count_by is_unreadable these) ∷ []
 
-  -- the warnings about frames, each reason once; what is reported one by one; and the number of what cannot be read
+  -- the number of LSAs that are not read, which this feature shows, unless it is 0
+  abbrev pub not_read : Feature → List (Part A) → List Finding
+  not_read feature these =
+      if count_by (is_not_read feature) these == 0 then [] else NotRead feature (count_by (is_not_read feature) these) ∷ []
+
+  -- the number of rows of lists, unless it is 0
+  abbrev pub listed : List (Part A) → List Finding
+  listed these = if count_by is_listed these == 0 then [] else Listed (count_by is_listed these) ∷ []
+
+  -- the numbers of what is not read
+  unfoldable pub all_unread : List (Part A) → List Finding
+  all_unread these = unread these ++ not_read Nssa these ++ not_read Opaque these ++ listed these
+
+  -- the warnings about frames, each reason once; what is reported one by one; and the numbers of what is not read
   unfoldable pub findings_of : List (Part A) → List Finding
-  findings_of these = frame_findings (filter_map warning_of these) ++ filter_map finding_of these ++ unread these
+  findings_of these = frame_findings (filter_map warning_of these) ++ filter_map finding_of these ++ all_unread these

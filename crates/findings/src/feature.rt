@@ -1,6 +1,7 @@
 //! What the planner leaves out.
 
-ghost use Rattle.std.specs.Prelude.{Some};
+ghost use Rattle.std.specs.Prelude.{◌≡◌, Some};
+ghost use Rattle.findings.specs.Reporting.{feature_number, is_same_feature};
 ghost use Rattle.findings.specs.Texts.{feature_name};
 
 use std::fmt;
@@ -18,6 +19,25 @@ pub enum Feature {
     VirtualEnd,
     /// Virtual links, which are links of type 4 in router-LSAs (RFC 2328, A.4.2).
     VirtualLink,
+}
+
+/// A number that no other feature has.
+fn feature_number(feature: Feature) -> u8
+    ensures { result ≡ feature_number feature }
+{
+    match feature {
+        Feature::Nssa => 0,
+        Feature::Opaque => 1,
+        Feature::VirtualEnd => 2,
+        Feature::VirtualLink => 3,
+    }
+}
+
+/// Whether two features are the same.
+pub(crate) fn is_same_feature(feature: Feature, other: Feature) -> bool
+    ensures { result ≡ is_same_feature feature other }
+{
+    feature_number(feature) == feature_number(other)
 }
 
 impl fmt::Display for Feature {

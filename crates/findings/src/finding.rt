@@ -26,6 +26,14 @@ pub enum Finding {
     Unused(ReportedLsa, UnusedReason),
     /// This number of LSAs or rows is printed whose fields cannot be read.
     Unreadable(usize),
+    /// This number of LSAs is printed of types that are not read, which the planner leaves out.
+    NotRead(Feature, usize),
+    /// This number of rows is printed of a list of LSAs, which has no bodies.
+    Listed(usize),
+    /// The agent of a walk does not have the objects that were asked for (RFC 3416, 4.2.1).
+    NoSuchObject,
+    /// The file contains no LSA, no kind of an area and no header of an LSA.
+    Empty,
     /// The value of `ospfImportAsExtern` of the area is not one of the three kinds (RFC 4750).
     UnreadableKind(AreaId),
     /// An object's name has an unknown form, or its index does not fit its table (RFC 4750).
@@ -45,8 +53,22 @@ pub enum Finding {
     MissingRouter(AreaId, RouterId),
     /// The area has no network-LSA with this Link State ID, and a link leads to the network.
     MissingNetwork(AreaId, Addr),
+    /// An area has an area border router, and there is no backbone (RFC 2328, 3.3).
+    MissingBackbone,
+    /// The backbone has no router-LSA of this area border router (RFC 2328, 3.3).
+    MissingAbr(RouterId),
     /// No area has a router-LSA of this router, which originated an AS-external-LSA.
     MissingAsbr(RouterId),
+    /// There is no AS-external-LSA of this AS boundary router (RFC 2328, 12.4.4).
+    MissingExternals(RouterId),
+    /// The router-LSA of this area border router in the backbone has no links: its routers may
+    /// calculate routes by RFC 3509.
+    NoLinks(RouterId),
+    /// A summary-LSA has the raised metric of a drained area border router, and is due another one
+    /// (RFC 2328, 12.4.3).
+    Raised(ReportedLsa),
+    /// A summary-LSA of an area border router is due another metric (RFC 2328, 12.4.3).
+    NotDue(ReportedLsa),
     /// The LSAs of a scope show this number of these, which the planner leaves out.
     LeftOut(Scope, Feature, usize),
 }
@@ -60,6 +82,10 @@ impl fmt::Display for Finding {
             Finding::Cut(offset) => write!(f, "Cut at {offset}"),
             Finding::Unused(lsa, reason) => write!(f, "{reason} {lsa}"),
             Finding::Unreadable(count) => write!(f, "Unreadable {count}"),
+            Finding::NotRead(feature, count) => write!(f, "{feature} {count}"),
+            Finding::Listed(count) => write!(f, "List {count} (use --against)"),
+            Finding::NoSuchObject => write!(f, "NoSuchObject"),
+            Finding::Empty => write!(f, "Empty"),
             Finding::UnreadableKind(area) => write!(f, "Kind area {area}"),
             Finding::UnreadableName => write!(f, "Name"),
             Finding::Nssa(area) => write!(f, "Nssa area {area}"),
@@ -75,7 +101,13 @@ impl fmt::Display for Finding {
                 f,
                 "Missing area {area} network {network}"
             ),
+            Finding::MissingBackbone => write!(f, "Missing area 0.0.0.0"),
+            Finding::MissingAbr(router) => write!(f, "Missing abr {router}"),
             Finding::MissingAsbr(router) => write!(f, "Missing asbr {router}"),
+            Finding::MissingExternals(router) => write!(f, "Missing externals {router}"),
+            Finding::NoLinks(router) => write!(f, "NoLinks area 0.0.0.0 router {router}"),
+            Finding::Raised(lsa) => write!(f, "Raised {lsa}"),
+            Finding::NotDue(lsa) => write!(f, "NotDue {lsa}"),
             Finding::LeftOut(Scope::Area(area), feature, count) => write!(
                 f,
                 "{feature} area {area} {count}"

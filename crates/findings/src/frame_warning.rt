@@ -17,6 +17,9 @@ pub enum FrameWarning {
     OtherLink,
     /// The frame carries something other than IPv4.
     NotIpv4,
+    /// The frame carries packets that are encapsulated, in PPPoE (RFC 2516), MPLS (RFC 3032) or GRE
+    /// (RFC 2784), as ERSPAN does it too. What is in them is not read.
+    Encapsulated,
     /// The datagram carries a protocol other than OSPF, which is 89.
     NotOspf,
     /// The frame ends before what is to be read there, as one does that was cut short.
@@ -44,6 +47,7 @@ fn warning_name(warning: FrameWarning) -> &'static str
         FrameWarning::OtherLink => "OtherLink",
         FrameWarning::NotIpv4 => "NotIpv4",
         FrameWarning::NotOspf => "NotOspf",
+        FrameWarning::Encapsulated => "Encapsulated",
         FrameWarning::Truncated => "Truncated",
         FrameWarning::BadLength => "BadLength",
         FrameWarning::MissingFragment => "MissingFragment",

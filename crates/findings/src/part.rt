@@ -3,6 +3,7 @@
 ghost use Rattle.std.specs.Prelude.{◌≡◌};
 ghost use Rattle.findings.specs.Parts.{unused};
 
+use crate::feature::Feature;
 use crate::finding::Finding;
 use crate::frame_warning::FrameWarning;
 use crate::reported_lsa::ReportedLsa;
@@ -27,6 +28,12 @@ pub enum Part<A: Allocator = Global> {
     Finding(Finding),
     /// The fields of an LSA or of a row cannot be read. The number of these is reported.
     Unreadable,
+    /// An LSA of a type that is not read, since the planner leaves it out. The number of these is
+    /// reported.
+    NotRead(Feature),
+    /// A row of a list, which has the header of an LSA without its body. The number of these is
+    /// reported.
+    Listed,
 }
 
 impl<A: Allocator + Copy> Part<A> {

@@ -2,8 +2,9 @@
 
 ghost use Rattle.std.specs.Prelude.{◌≡◌, ◌++◌, IfOk, OnOk};
 ghost use Rattle.std.specs.List.{filter_map};
-ghost use Rattle.findings.specs.Reporting.{counted, finding_of, findings_of, frame_findings, is_unreadable, number_of, unread, warning_of};
+ghost use Rattle.findings.specs.Reporting.{all_unread, counted, finding_of, findings_of, frame_findings, is_listed, is_not_read, is_unreadable, listed, not_read, number_of, unread, warning_of};
 
+use crate::feature::{Feature, is_same_feature};
 use crate::finding::Finding;
 use crate::frame_warning::FrameWarning;
 use crate::part::Part;
@@ -14,6 +15,7 @@ use std::alloc::{AllocError, Allocator};
 /// than IPv4, or a datagram something other than OSPF, is not reported.
 const REASONS: &[FrameWarning] = &[
     FrameWarning::OtherLink,
+    FrameWarning::Encapsulated,
     FrameWarning::Truncated,
     FrameWarning::BadLength,
     FrameWarning::MissingFragment,
@@ -53,6 +55,7 @@ fn number_of(found: FrameWarning) -> u8
         FrameWarning::RefusedLsa(LsaFault::RouterId) => 15,
         FrameWarning::RefusedLsa(LsaFault::ZeroCost) => 16,
         FrameWarning::RefusedLsa(LsaFault::OutOfMemory) => 17,
+        FrameWarning::Encapsulated => 18,
     }
 }
 
@@ -112,6 +115,23 @@ fn is_unreadable<A: Allocator + Copy>(part: &Part<A>) -> bool
     matches!(part, Part::Unreadable)
 }
 
+/// Whether it is an LSA of a type that is not read, which this feature shows.
+fn is_not_read<A: Allocator + Copy>(feature: Feature, part: &Part<A>) -> bool
+    ensures { result ≡ is_not_read feature part.now }
+{
+    match part {
+        Part::NotRead(found) => is_same_feature(*found, feature),
+        _ => false,
+    }
+}
+
+/// Whether it is a row of a list.
+fn is_listed<A: Allocator + Copy>(part: &Part<A>) -> bool
+    ensures { result ≡ is_listed part.now }
+{
+    matches!(part, Part::Listed)
+}
+
 /// All warnings.
 fn warnings_of<A: Allocator + Copy>(
     alloc: A,
@@ -152,6 +172,53 @@ fn put_unread<A: Allocator + Copy>(
     Ok(())
 }
 
+/// Adds the number of LSAs that are not read, which this feature shows, unless it is 0.
+fn put_not_read<A: Allocator + Copy>(
+    findings: &mut Vec<Finding, A>,
+    feature: Feature,
+    parts: &[Part<A>],
+) -> Result<(), AllocError>
+    ensures { OnOk result (findings.new.items ≡ findings.old.items ++ not_read feature parts.now) }
+{
+    let count = parts
+        .iter()
+        .filter(|part| is_not_read(feature, *part))
+        .count();
+    if count != 0 {
+        findings.push(Finding::NotRead(feature, count))?;
+    }
+    Ok(())
+}
+
+/// Adds the number of rows of lists, unless it is 0.
+fn put_listed<A: Allocator + Copy>(
+    findings: &mut Vec<Finding, A>,
+    parts: &[Part<A>],
+) -> Result<(), AllocError>
+    ensures { OnOk result (findings.new.items ≡ findings.old.items ++ listed parts.now) }
+{
+    let count = parts.iter().filter(|part| is_listed(*part)).count();
+    if count != 0 {
+        findings.push(Finding::Listed(count))?;
+    }
+    Ok(())
+}
+
+/// Adds the numbers of what is not read: of LSAs and rows whose fields cannot be read, of LSAs of
+/// other types, and of rows of lists.
+#[tactic(auto, unfolding(crate::specs::Reporting::all_unread))]
+fn put_all_unread<A: Allocator + Copy>(
+    findings: &mut Vec<Finding, A>,
+    parts: &[Part<A>],
+) -> Result<(), AllocError>
+    ensures { OnOk result (findings.new.items ≡ findings.old.items ++ all_unread parts.now) }
+{
+    put_unread(findings, parts)?;
+    put_not_read(findings, Feature::Nssa, parts)?;
+    put_not_read(findings, Feature::Opaque, parts)?;
+    put_listed(findings, parts)
+}
+
 /// The findings of a file with these parts.
 #[tactic(auto, unfolding(crate::specs::Reporting::findings_of))]
 pub(crate) fn findings_of<A: Allocator + Copy>(
@@ -163,6 +230,6 @@ pub(crate) fn findings_of<A: Allocator + Copy>(
     let warnings = warnings_of(alloc, parts)?;
     let mut findings = frame_findings(alloc, &warnings)?;
     findings.append(&mut single_findings(alloc, parts)?)?;
-    put_unread(&mut findings, parts)?;
+    put_all_unread(&mut findings, parts)?;
     Ok(findings)
 }

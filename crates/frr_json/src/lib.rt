@@ -22,6 +22,7 @@ mod summary;
 mod fault;
 mod parsed_document;
 mod printed;
+mod table;
 
 pub use fault::JsonFault;
 pub use printed::{is_printed_json, read_printed_json};

@@ -1,34 +1,23 @@
 //! What the parts of a document contain.
 
-ghost use Rattle.std.specs.Prelude.{◌≡◌, ◌++◌, IfOk};
+ghost use Rattle.std.specs.Prelude.{◌≡◌, ◌++◌, IfOk, option_map};
+ghost use Rattle.json.specs.Find.{as_object};
 ghost use Rattle.json.specs.Value.{value_view, items_view, members_view};
 ghost use Rattle.frr_text.specs.ParsedParts.{rebuilt};
 ghost use Rattle.frr_json.specs.Bodies.{body_in};
-ghost use Rattle.frr_json.specs.ParsedDocuments.{database_name, area_named, parsed_lsa, lsas_in, parsed_array, areas_in, parsed_areas, parsed_database, parsed_of, parsed_in, has_database};
+ghost use Rattle.frr_json.specs.ParsedDocuments.{area_named, parsed_lsa, parsed_item, lsas_in, parsed_array, areas_in, parsed_areas, parsed_of, tables_in, parsed_in, has_table, has_tables, only_member, has_database};
 
 use crate::body::body_in;
 use crate::header::header_in;
-use crate::member::{items_of, members_at};
-use findings::Part;
+use crate::member::{items_of, members_at, members_of};
+use crate::table::{Table, is_as_wide, table_name};
+use findings::{Feature, Part};
 use frr_text::fields::{Header, LsType};
 use frr_text::rebuilt;
 use json::Value;
 use lsa_codec::AreaId;
 use std::alloc::{AllocError, Allocator};
 use text_words::address_of;
-
-/// The name of the database of the LSAs of this type.
-fn database_name(ls_type: LsType) -> &'static str
-    ensures { result.now ≡ database_name ls_type }
-{
-    match ls_type {
-        LsType::Router => "routerLinkStates",
-        LsType::Network => "networkLinkStates",
-        LsType::Summary => "summaryLinkStates",
-        LsType::AsbrSummary => "asbrSummaryLinkStates",
-        LsType::External => "asExternalLinkStates",
-    }
-}
 
 /// The area of this name.
 fn area_named(name: &str) -> Option<AreaId>
@@ -71,19 +60,37 @@ fn parsed_lsa<A: Allocator + Copy>(
     }
 }
 
+/// What an object in a database contains.
+fn parsed_item<A: Allocator + Copy>(
+    alloc: A,
+    table: Table,
+    area: Option<AreaId>,
+    json: &Value<'_, A>,
+) -> Result<Part<A>, AllocError>
+    ensures { IfOk result (λ parsed. parsed ≡ parsed_item table area (value_view json.now)) }
+{
+    match table {
+        Table::Read(ls_type) => parsed_lsa(alloc, ls_type, area, json),
+        Table::Nssa => Ok(Part::NotRead(Feature::Nssa)),
+        Table::LinkOpaque | Table::AreaOpaque | Table::AsOpaque => {
+            Ok(Part::NotRead(Feature::Opaque))
+        }
+    }
+}
+
 /// What was read before, and after it the LSAs of an area.
 fn with_lsas<'a, A: Allocator + Copy>(
     alloc: A,
     mut parsed: Vec<Part<A>, A>,
-    ls_type: LsType,
+    table: Table,
     area: Option<AreaId>,
     items: &[Value<'a, A>],
 ) -> Result<Vec<Part<A>, A>, AllocError>
     ensures { IfOk result (λ all. all.items
-        ≡ parsed.items ++ lsas_in ls_type area (items_view items.now)) }
+        ≡ parsed.items ++ lsas_in table area (items_view items.now)) }
 {
     'lsas: for item in items {
-        parsed.push(parsed_lsa(alloc, ls_type, area, item)?)?;
+        parsed.push(parsed_item(alloc, table, area, item)?)?;
     }
     Ok(parsed)
 }
@@ -92,15 +99,15 @@ fn with_lsas<'a, A: Allocator + Copy>(
 fn with_array<A: Allocator + Copy>(
     alloc: A,
     mut parsed: Vec<Part<A>, A>,
-    ls_type: LsType,
+    table: Table,
     area: Option<AreaId>,
     json: &Value<'_, A>,
 ) -> Result<Vec<Part<A>, A>, AllocError>
     ensures { IfOk result (λ all. all.items
-        ≡ parsed.items ++ parsed_array ls_type area (value_view json.now)) }
+        ≡ parsed.items ++ parsed_array table area (value_view json.now)) }
 {
     match items_of(json) {
-        Some(items) => with_lsas(alloc, parsed, ls_type, area, items),
+        Some(items) => with_lsas(alloc, parsed, table, area, items),
         None => {
             parsed.push(Part::Unreadable)?;
             Ok(parsed)
@@ -112,15 +119,15 @@ fn with_array<A: Allocator + Copy>(
 fn with_areas<'a, A: Allocator + Copy>(
     alloc: A,
     mut parsed: Vec<Part<A>, A>,
-    ls_type: LsType,
+    table: Table,
     members: &[(&'a str, Value<'a, A>)],
 ) -> Result<Vec<Part<A>, A>, AllocError>
     ensures { IfOk result (λ all. all.items
-        ≡ parsed.items ++ areas_in ls_type (members_view members.now)) }
+        ≡ parsed.items ++ areas_in table (members_view members.now)) }
 {
     'areas: for member in members {
         let area = area_named(member.0);
-        parsed = with_array(alloc, parsed, ls_type, area, &member.1)?;
+        parsed = with_array(alloc, parsed, table, area, &member.1)?;
     }
     Ok(parsed)
 }
@@ -129,14 +136,14 @@ fn with_areas<'a, A: Allocator + Copy>(
 fn with_all_areas<A: Allocator + Copy>(
     alloc: A,
     mut parsed: Vec<Part<A>, A>,
-    ls_type: LsType,
+    table: Table,
     json: &Value<'_, A>,
 ) -> Result<Vec<Part<A>, A>, AllocError>
     ensures { IfOk result (λ all. all.items
-        ≡ parsed.items ++ parsed_areas ls_type (value_view json.now)) }
+        ≡ parsed.items ++ parsed_areas table (value_view json.now)) }
 {
     match members_at("areas", json) {
-        Some(members) => with_areas(alloc, parsed, ls_type, members),
+        Some(members) => with_areas(alloc, parsed, table, members),
         None => {
             parsed.push(Part::Unreadable)?;
             Ok(parsed)
@@ -144,62 +151,108 @@ fn with_all_areas<A: Allocator + Copy>(
     }
 }
 
-/// What was read before, and after it the database of the LSAs of this type.
-fn with_database<A: Allocator + Copy>(
+/// What was read before, and after it the LSAs of this database of an object.
+fn with_table<A: Allocator + Copy>(
     alloc: A,
     parsed: Vec<Part<A>, A>,
-    ls_type: LsType,
+    table: Table,
     json: &Value<'_, A>,
 ) -> Result<Vec<Part<A>, A>, AllocError>
     ensures { IfOk result (λ all. all.items
-        ≡ parsed.items ++ parsed_database ls_type (value_view json.now)) }
+        ≡ parsed.items ++ parsed_of table (value_view json.now)) }
 {
-    match ls_type {
-        LsType::External => with_array(alloc, parsed, ls_type, None, json),
-        LsType::Router | LsType::Network | LsType::Summary | LsType::AsbrSummary => {
-            with_all_areas(alloc, parsed, ls_type, json)
+    match json.get(table_name(table)) {
+        None => Ok(parsed),
+        Some(database) => {
+            if is_as_wide(table) {
+                with_array(alloc, parsed, table, None, database)
+            } else {
+                with_all_areas(alloc, parsed, table, database)
+            }
         }
     }
 }
 
-/// What was read before, and after it the document's LSAs of this type.
-fn with_type<A: Allocator + Copy>(
+/// The LSAs of all databases of an object, in rising order of LS types.
+fn parse_tables<A: Allocator + Copy>(
     alloc: A,
-    parsed: Vec<Part<A>, A>,
-    ls_type: LsType,
     json: &Value<'_, A>,
 ) -> Result<Vec<Part<A>, A>, AllocError>
-    ensures { IfOk result (λ all. all.items
-        ≡ parsed.items ++ parsed_of ls_type (value_view json.now)) }
+    ensures { IfOk result (λ parsed. parsed.items ≡ tables_in (value_view json.now)) }
 {
-    match json.get(database_name(ls_type)) {
-        Some(database) => with_database(alloc, parsed, ls_type, database),
-        None => Ok(parsed),
-    }
+    let parsed = with_table(alloc, Vec::new(alloc), Table::Read(LsType::Router), json)?;
+    let parsed = with_table(alloc, parsed, Table::Read(LsType::Network), json)?;
+    let parsed = with_table(alloc, parsed, Table::Read(LsType::Summary), json)?;
+    let parsed = with_table(alloc, parsed, Table::Read(LsType::AsbrSummary), json)?;
+    let parsed = with_table(alloc, parsed, Table::Read(LsType::External), json)?;
+    let parsed = with_table(alloc, parsed, Table::Nssa, json)?;
+    let parsed = with_table(alloc, parsed, Table::LinkOpaque, json)?;
+    let parsed = with_table(alloc, parsed, Table::AreaOpaque, json)?;
+    let parsed = with_table(alloc, parsed, Table::AsOpaque, json)?;
+    Ok(parsed)
 }
 
-/// What a document contains: the LSAs of each type, in rising order.
+/// Whether the object has this database.
+fn has_table<A: Allocator>(table: Table, json: &Value<'_, A>) -> bool
+    ensures { result ≡ has_table table (value_view json.now) }
+{
+    json.get(table_name(table)).is_some()
+}
+
+/// Whether the object has a database.
+fn has_tables<A: Allocator>(json: &Value<'_, A>) -> bool
+    ensures { result ≡ has_tables (value_view json.now) }
+{
+    has_table(Table::Read(LsType::Router), json)
+        || has_table(Table::Read(LsType::Network), json)
+        || has_table(Table::Read(LsType::Summary), json)
+        || has_table(Table::Read(LsType::AsbrSummary), json)
+        || has_table(Table::Read(LsType::External), json)
+        || has_table(Table::Nssa, json)
+        || has_table(Table::LinkOpaque, json)
+        || has_table(Table::AreaOpaque, json)
+        || has_table(Table::AsOpaque, json)
+}
+
+/// The value of the only member of an object.
+#[tactic(auto, using(crate::proofs::OnlyMember::not_one), unfolding(crate::specs::ParsedDocuments::only_member))]
+fn only_member<'v, 'a, A: Allocator>(json: &'v Value<'a, A>) -> Option<&'v Value<'a, A>>
+    ensures { option_map (λ value. value_view value.now) result
+        ≡ only_member (as_object (value_view json.now)) }
+{
+    let members = members_of(json)?;
+    if members.len() != 1 {
+        return None;
+    }
+    Some(&members[0].1)
+}
+
+/// What a document contains: the LSAs of each type, in rising order of LS types. Where it has no
+/// database, its only member may have them: under its name FRR prints the databases of a VRF.
 pub(crate) fn parse_all<A: Allocator + Copy>(
     alloc: A,
     json: &Value<'_, A>,
 ) -> Result<Vec<Part<A>, A>, AllocError>
     ensures { IfOk result (λ parsed. parsed.items ≡ parsed_in (value_view json.now)) }
 {
-    let parsed = with_type(alloc, Vec::new(alloc), LsType::Router, json)?;
-    let parsed = with_type(alloc, parsed, LsType::Network, json)?;
-    let parsed = with_type(alloc, parsed, LsType::Summary, json)?;
-    let parsed = with_type(alloc, parsed, LsType::AsbrSummary, json)?;
-    let parsed = with_type(alloc, parsed, LsType::External, json)?;
-    Ok(parsed)
+    if has_tables(json) {
+        return parse_tables(alloc, json);
+    }
+    match only_member(json) {
+        Some(value) => parse_tables(alloc, value),
+        None => parse_tables(alloc, json),
+    }
 }
 
-/// Whether the document has a database that is read.
+/// Whether the document has a database.
 pub(crate) fn has_database<A: Allocator>(json: &Value<'_, A>) -> bool
     ensures { result ≡ has_database (value_view json.now) }
 {
-    json.get(database_name(LsType::Router)).is_some()
-        || json.get(database_name(LsType::Network)).is_some()
-        || json.get(database_name(LsType::Summary)).is_some()
-        || json.get(database_name(LsType::AsbrSummary)).is_some()
-        || json.get(database_name(LsType::External)).is_some()
+    if has_tables(json) {
+        return true;
+    }
+    match only_member(json) {
+        Some(value) => has_tables(value),
+        None => false,
+    }
 }

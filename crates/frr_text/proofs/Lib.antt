@@ -1,5 +1,6 @@
 pub mod Reading
 pub mod ParsedParts
+pub mod Rows
 pub mod PrintedNumbers
 pub mod PrintedLabels
 pub mod PrintedFields

@@ -17,7 +17,7 @@ use Rattle.text_words.specs.Addresses.{address_of}
 use Rattle.frr_text.specs.Numbers.{marked_up_to}
 use Rattle.text_words.specs.Words.{after_words}
 use Rattle.frr_text.specs.Labels.{text_of, after_label, word_after, value_after}
-use Rattle.frr_text.specs.Fields.{age_and_options_in, past, past_names, flags_or, flags_in, type_label, id_label, name_as, name_in, origination_in, checksum_and_length_in, header_in}
+use Rattle.frr_text.specs.Fields.{age_and_options_in, past, past_translated, past_names, flags_or, flags_in, type_label, id_label, name_as, name_in, origination_in, checksum_and_length_in, header_in}
 use Rattle.frr_text.specs.Printing.{printed_hex, printed_byte, label_words, said, Beside, age_and_options_words, names_of_bits, flags_words, name_words, origination_words, checksum_and_length_words, header_words, HeaderFits}
 use Rattle.text_words.proofs.NumberLemmas.{number_again}
 use Rattle.text_words.proofs.AddressLemmas.{address_again}
@@ -127,6 +127,19 @@ pub flags_again : (flags : Option ℕ) (ls_type : LsType) (rest : List Word) →
 flags_again flags ls_type rest h =
     let P : List Word → Type 0 = λ here. flags_in (flags_words flags ++ (here ++ rest)) ≡ (flags, here ++ rest) in
     subst P (sym (ls_first ls_type)) (before_type flags (after_ls ls_type ++ rest) h)
+
+not_translated : (flags : Option ℕ) (text : List Word)
+    → past_translated (flags_words flags ++ codes "LS" ∷ text) ≡ flags_words flags ++ codes "LS" ∷ text
+unfolding past after_label after_words words text_of
+not_translated None text = refl
+not_translated (Some flags) text = refl
+
+-- the router says of no LSA that it has translated it
+pub untranslated : (flags : Option ℕ) (ls_type : LsType) (rest : List Word)
+    → past_translated (flags_words flags ++ (label_words (type_label ls_type) ++ rest)) ≡ flags_words flags ++ (label_words (type_label ls_type) ++ rest)
+untranslated flags ls_type rest =
+    let P : List Word → Type 0 = λ here. past_translated (flags_words flags ++ (here ++ rest)) ≡ flags_words flags ++ (here ++ rest) in
+    subst P (sym (ls_first ls_type)) (not_translated flags (after_ls ls_type ++ rest))
 
 -- ---- LS type and Link State ID
 
@@ -249,9 +262,13 @@ header_again beside header rest h =
     let flags_read : flags_in (flags ++ (name ++ (origination ++ (last ++ rest)))) ≡ (header.flags, name ++ (origination ++ (last ++ rest))) =
     subst (λ (text : List Word). flags_in (flags ++ text) ≡ (header.flags, text)) (sym type_first)
     (flags_again header.flags header.name.ls_type after_flags h.flags) in
+    let as_they_are : past_translated (flags ++ (name ++ (origination ++ (last ++ rest)))) ≡ flags ++ (name ++ (origination ++ (last ++ rest))) =
+    subst (λ (text : List Word). past_translated (flags ++ text) ≡ flags ++ text) (sym type_first)
+    (untranslated header.flags header.name.ls_type after_flags) in
     simp (
       after_five first flags name origination last rest,
       age_and_options_again beside header.age_and_options (flags ++ (name ++ (origination ++ (last ++ rest)))) h.age h.options,
+      as_they_are,
       flags_read,
       name_again header.name (origination ++ (last ++ rest)) h.id,
       origination_again header.origination (last ++ rest) h.adv h.sequence,

@@ -48,7 +48,7 @@ module _ {A : Type 0} where
       let text = header_words beside header ++ rest in
       ap (λ (here : List Word). lsa_from area text (after_label label.Age here)) (begins beside header rest)
       ∙ ap (lsa_from area text) (label_again label.Age (after_age beside header rest))
-      ∙ ap (λ (found : Option (Header × List Word)). parsed_header area found ∷ []) (header_again beside header rest h)
+      ∙ ap (λ (found : Option (Header × List Word)). parsed_header area text found ∷ []) (header_again beside header rest h)
 
   pub lsa_again : (area : Option AreaId) (beside : Beside) (header : Header) (body : Body) (rest : List Word) → HeaderFits header
       → BodyFits header body → lsas_at {A = A} area (lsa_words beside header body ++ rest)

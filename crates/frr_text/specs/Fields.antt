@@ -1,5 +1,8 @@
 -- The fields of an LSA's header (RFC 2328, A.4.1) in the words that FRR prints of it.
-use Rattle.std.specs.Prelude.{ℕ, List, [], ◌∷◌, Option, Some, None}
+use Rattle.std.specs.Prelude.{ℕ, Bool, ◌||◌, if◌then◌else◌, List, [], ◌∷◌, Option, Some, None}
+use Rattle.std.specs.Option.{is_some}
+use Rattle.findings.specs.declared.feature.Feature.{Feature}
+use Rattle.findings.specs.declared.feature.Feature.TheVariants as features
 use Rattle.lsa_codec.specs.Accepted.{longest_lsa}
 use Rattle.frr_text.specs.declared.header.AgeAndOptions.{AgeAndOptions}
 use Rattle.frr_text.specs.declared.header.Header.{Header}
@@ -92,20 +95,44 @@ checksum_and_length_in text = do
   size ← value_after (number_up_to longest_lsa) label.Length checksum.1
   Some (record { checksum = checksum.0; size = size.0 }, size.1)
 
+-- the words after the LS flags: beside those of an LSA that the router translated (RFC 3101, 3.2) it says so
+abbrev pub past_translated : List Word → List Word
+past_translated text = past label.Translated text
+
 -- the header of the LSA whose words stand here
 unfoldable pub header_in : Rule Header
 header_in text = do
   first ← age_and_options_in text
-  name ← name_in (flags_in first.1).1
+  name ← name_in (flags_in (past_translated first.1)).1
   origination ← origination_in name.1
   last ← checksum_and_length_in origination.1
   Some (
     record {
       age_and_options = first.0;
-      flags = (flags_in first.1).0;
+      flags = (flags_in (past_translated first.1)).0;
       name = name.0;
       origination = origination.0;
       checksum_and_length = last.0;
     },
     last.1,
   )
+
+-- ---- LSAs that are not read
+
+abbrev pub is_opaque : List Word → Bool
+is_opaque text =
+    is_some (after_label label.LinkOpaqueLsa text) || is_some (after_label label.AreaOpaqueLsa text)
+    || is_some (after_label label.AsOpaqueLsa text)
+
+-- the types 7 and 9 to 11, by what is printed as the LS type
+abbrev pub feature_named : List Word → Option Feature
+feature_named text =
+    if is_some (after_label label.NssaLsa text) then Some features.Nssa
+    else if is_opaque text then Some features.Opaque
+    else None
+
+-- what the LSA shows whose words stand here, where the planner leaves it out by its LS type
+unfoldable pub feature_in : List Word → Option Feature
+feature_in text = do
+  first ← age_and_options_in text
+  feature_named (past_translated first.1)

@@ -10,4 +10,5 @@ pub mod PrintingTexts
 pub mod Making
 pub mod Headings
 pub mod ParsedParts
+pub mod Rows
 pub mod Contents

@@ -16,7 +16,8 @@ use Rattle.frr_text.specs.Words.{Word}
 use Rattle.frr_text.specs.Headings.{heading_at, area_at}
 use Rattle.frr_text.specs.declared.label.Label.TheVariants as label
 use Rattle.frr_text.specs.Labels.{after_label}
-use Rattle.frr_text.specs.Fields.{header_in}
+use Rattle.findings.specs.declared.feature.Feature.{Feature}
+use Rattle.frr_text.specs.Fields.{feature_in, header_in}
 use Rattle.frr_text.specs.Bodies.{body_in}
 use Rattle.frr_text.specs.Making.{type_code, header_bytes}
 
@@ -38,9 +39,14 @@ module _ {A : Type 0} where
   rebuilt area header None = contents.Unreadable
   rebuilt area header (Some body) = parsed_decoded area (key_of header) (decoded (header_bytes header ++ body))
 
-  abbrev pub parsed_header : Option AreaId → Option (Header × List Word) → Part A
-  parsed_header area None = contents.Unreadable
-  parsed_header area (Some found) = rebuilt area found.0 (body_in found.0 found.1)
+  -- an LSA without a header that is read: the planner leaves it out, or its fields cannot be read
+  abbrev pub left_unread : Option Feature → Part A
+  left_unread None = contents.Unreadable
+  left_unread (Some feature) = contents.NotRead feature
+
+  abbrev pub parsed_header : Option AreaId → List Word → Option (Header × List Word) → Part A
+  parsed_header area text None = left_unread (feature_in text)
+  parsed_header area text (Some found) = rebuilt area found.0 (body_in found.0 found.1)
 
   abbrev pub kind_from : Option AreaReport → List (Part A)
   kind_from None = []
@@ -52,7 +58,7 @@ module _ {A : Type 0} where
 
   abbrev pub lsa_from : Option AreaId → List Word → Option (List Word) → List (Part A)
   lsa_from area text None = []
-  lsa_from area text (Some rest) = parsed_header area (header_in text) ∷ []
+  lsa_from area text (Some rest) = parsed_header area text (header_in text) ∷ []
 
   -- the LSA that begins here, or why it cannot be used, if one does
   unfoldable pub lsas_at : Option AreaId → List Word → List (Part A)

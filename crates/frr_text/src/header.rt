@@ -2,13 +2,14 @@
 
 ghost use Rattle.std.specs.Prelude.{◌≡◌, option_map};
 ghost use Rattle.frr_text.specs.Words.{words};
-ghost use Rattle.frr_text.specs.Fields.{age_and_options_in, past_names, flags_in, ls_types, name_as, name_in, origination_in, checksum_and_length_in, header_in};
+ghost use Rattle.frr_text.specs.Fields.{age_and_options_in, past_names, flags_in, ls_types, name_as, name_in, origination_in, checksum_and_length_in, header_in, is_opaque, feature_named, feature_in};
 ghost use Rattle.frr_text.specs.Making.{header_bytes};
 
 use crate::label::{
     Label, address_after, after_label, hex_after, marked_after, number_after, past, word_after,
 };
 use crate::ls_type::LsType;
+use findings::Feature;
 use lsa_codec::{Addr, LONGEST_LSA, RouterId};
 
 /// The age of the LSA, and what its originator can do.
@@ -178,7 +179,7 @@ pub(crate) fn header_in(text: &[u8]) -> Option<(Header, &[u8])>
         ≡ header_in (words text.now) }
 {
     let (age_and_options, rest) = age_and_options_in(text)?;
-    let (flags, rest) = flags_in(rest);
+    let (flags, rest) = flags_in(past(Label::Translated, rest));
     let (name, rest) = name_in(rest)?;
     let (origination, rest) = origination_in(rest)?;
     let (checksum_and_length, rest) = checksum_and_length_in(rest)?;
@@ -190,6 +191,37 @@ pub(crate) fn header_in(text: &[u8]) -> Option<(Header, &[u8])>
         checksum_and_length,
     };
     Some((header, rest))
+}
+
+/// Whether an opaque LSA is printed here (RFC 5250), from its LS type on.
+fn is_opaque(text: &[u8]) -> bool
+    ensures { result ≡ is_opaque (words text.now) }
+{
+    after_label(Label::LinkOpaqueLsa, text).is_some()
+        || after_label(Label::AreaOpaqueLsa, text).is_some()
+        || after_label(Label::AsOpaqueLsa, text).is_some()
+}
+
+/// What the LSA shows that is printed here, from its LS type on, where the planner leaves it out.
+fn feature_named(text: &[u8]) -> Option<Feature>
+    ensures { result ≡ feature_named (words text.now) }
+{
+    if after_label(Label::NssaLsa, text).is_some() {
+        Some(Feature::Nssa)
+    } else if is_opaque(text) {
+        Some(Feature::Opaque)
+    } else {
+        None
+    }
+}
+
+/// What the LSA shows whose words stand here, where the planner leaves it out by its LS type.
+#[tactic(auto, unfolding(crate::specs::Fields::feature_in))]
+pub(crate) fn feature_in(text: &[u8]) -> Option<Feature>
+    ensures { result ≡ feature_in (words text.now) }
+{
+    let (_age_and_options, rest) = age_and_options_in(text)?;
+    feature_named(past(Label::Translated, rest))
 }
 
 /// The bytes of a header, with its checksum and its length as they were printed.

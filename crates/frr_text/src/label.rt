@@ -23,6 +23,8 @@ pub(crate) enum Label {
     Letters,
     /// Before flags that are no part of the LSA.
     LsFlags,
+    /// After those flags, where the router has translated an LSA of type 7.
+    Translated,
     /// Before the byte of the bits V, E and B.
     Flags,
     /// The bit B by its name.
@@ -41,6 +43,14 @@ pub(crate) enum Label {
     SummaryLsa,
     /// LS type 5.
     ExternalLsa,
+    /// LS type 7.
+    NssaLsa,
+    /// LS type 9.
+    LinkOpaqueLsa,
+    /// LS type 10.
+    AreaOpaqueLsa,
+    /// LS type 11.
+    AsOpaqueLsa,
     /// Before the Link State ID.
     Id,
     /// No word: after the Link State ID of type 1.
@@ -117,6 +127,7 @@ fn text_of(label: Label) -> &'static [u8]
         Label::Options => b"Options:",
         Label::Letters => b":",
         Label::LsFlags => b"LS Flags:",
+        Label::Translated => b"(Translated from Type-7)",
         Label::Flags => b"Flags:",
         Label::BoundaryBit => b"ABR",
         Label::ExternalBit => b"ASBR",
@@ -126,6 +137,10 @@ fn text_of(label: Label) -> &'static [u8]
         Label::NetworkLsa => b"LS Type: network-LSA",
         Label::SummaryLsa => b"LS Type: summary-LSA",
         Label::ExternalLsa => b"LS Type: AS-external-LSA",
+        Label::NssaLsa => b"LS Type: NSSA-LSA",
+        Label::LinkOpaqueLsa => b"LS Type: Link-Local Opaque-LSA",
+        Label::AreaOpaqueLsa => b"LS Type: Area-Local Opaque-LSA",
+        Label::AsOpaqueLsa => b"LS Type: AS-external Opaque-LSA",
         Label::Id => b"Link State ID:",
         Label::Nothing => b"",
         Label::DesignatedRouter => b"(address of Designated Router)",

@@ -25,6 +25,7 @@ mod summary;
 mod laws;
 mod parsed_part;
 mod printed;
+mod row;
 
 pub use heading::area_of;
 pub use laws::{

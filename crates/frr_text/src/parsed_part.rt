@@ -3,14 +3,14 @@
 ghost use Rattle.std.specs.Prelude.{◌≡◌, ◌++◌, IfOk, OnOk, None};
 ghost use Rattle.frr_text.specs.Words.{words};
 ghost use Rattle.frr_text.specs.Bodies.{body_in};
-ghost use Rattle.frr_text.specs.Fields.{header_in};
+ghost use Rattle.frr_text.specs.Fields.{feature_in, header_in};
 ghost use Rattle.frr_text.specs.Making.{header_bytes};
-ghost use Rattle.frr_text.specs.ParsedParts.{key_of, in_scope, parsed_decoded, rebuilt, parsed_header, kinds_at, lsas_at, parsed_in};
+ghost use Rattle.frr_text.specs.ParsedParts.{key_of, in_scope, parsed_decoded, rebuilt, left_unread, parsed_header, kinds_at, lsas_at, parsed_in};
 ghost use Rattle.lsa_codec.specs.Decoding.{decoded};
 ghost use Rattle.lsa_instances.specs.Order.{scope_of_report};
 
 use crate::body::body_in;
-use crate::header::{Header, header_bytes, header_in};
+use crate::header::{Header, feature_in, header_bytes, header_in};
 use crate::heading::{area_at, heading_at};
 use crate::label::{Label, after_label};
 use crate::text::next_word;
@@ -95,17 +95,28 @@ fn parsed_body<A: Allocator + Copy>(
     }
 }
 
+/// An LSA without a header that is read: the planner leaves it out, or its fields cannot be read.
+fn left_unread<A: Allocator + Copy>(text: &[u8]) -> Part<A>
+    ensures { result ≡ left_unread (feature_in (words text.now)) }
+{
+    match feature_in(text) {
+        Some(feature) => Part::NotRead(feature),
+        None => Part::Unreadable,
+    }
+}
+
 /// The LSA whose words stand here; or why it cannot be used.
 fn parsed_header<A: Allocator + Copy>(
     alloc: A,
     area: Option<AreaId>,
     text: &[u8],
 ) -> Result<Part<A>, AllocError>
-    ensures { IfOk result (λ parsed. parsed ≡ parsed_header area (header_in (words text.now))) }
+    ensures { IfOk result (λ parsed. parsed
+        ≡ parsed_header area (words text.now) (header_in (words text.now))) }
 {
     match header_in(text) {
         Some((header, rest)) => parsed_body(alloc, area, header, rest),
-        None => Ok(Part::Unreadable),
+        None => Ok(left_unread(text)),
     }
 }
 

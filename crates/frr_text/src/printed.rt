@@ -1,13 +1,14 @@
 //! What a router prints.
 
-ghost use Rattle.std.specs.Prelude.{◌≡◌, IfOk, None};
+ghost use Rattle.std.specs.Prelude.{◌≡◌, IfOk};
 ghost use Rattle.findings.specs.Contents.{content_of, lists_in};
 ghost use Rattle.frr_text.specs.Headings.{begins_here, is_printed};
-ghost use Rattle.frr_text.specs.ParsedParts.{parsed_in};
+ghost use Rattle.frr_text.specs.Contents.{contained_in};
 ghost use Rattle.frr_text.specs.Words.{words};
 
 use crate::label::{Label, after_label};
 use crate::parsed_part::parse_all;
+use crate::row::put_rows;
 use crate::text::next_word;
 use findings::{Content, sorted};
 use std::alloc::{AllocError, Allocator};
@@ -17,16 +18,18 @@ use std::alloc::{AllocError, Allocator};
 /// and line feeds only separate words.
 ///
 /// The LSAs are those that the printed fields make. Each has the very checksum and length that were
-/// printed, and none has a time stamp. Each heading of an area reports its kind.
+/// printed, and none has a time stamp. Each heading of an area reports its kind. Rows of lists,
+/// which have no bodies, are counted.
 ///
 /// # Errors
 ///
 /// Memory ran out.
 pub fn read_printed<A: Allocator + Copy>(alloc: A, text: &[u8]) -> Result<Content<A>, AllocError>
     ensures { IfOk result
-        (λ content. lists_in content ≡ content_of (parsed_in None (words text.now))) }
+        (λ content. lists_in content ≡ content_of (contained_in (words text.now))) }
 {
-    let parts = parse_all(alloc, text)?;
+    let mut parts = parse_all(alloc, text)?;
+    put_rows(&mut parts, text)?;
     sorted(alloc, parts)
 }
 

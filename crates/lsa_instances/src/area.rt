@@ -17,13 +17,14 @@ pub enum AreaKind {
 }
 
 impl AreaKind {
-    /// Whether the area is a stub area.
+    /// Whether AS-external-LSAs stay outside of the area: a stub area or a not-so-stubby one. A
+    /// dump has both as stub areas.
     pub fn is_stub(self) -> bool
         ensures { result ≡ is_stub_kind self }
     {
         match self {
-            AreaKind::Ordinary | AreaKind::Nssa => false,
-            AreaKind::Stub => true,
+            AreaKind::Ordinary => false,
+            AreaKind::Stub | AreaKind::Nssa => true,
         }
     }
 }

@@ -1,9 +1,10 @@
 -- What the lines of a list contain.
-use Rattle.std.specs.Prelude.{Bool, true, false, ◌==◌, List, [], ◌∷◌, ◌++◌, Option, Some, None, if◌then◌else◌}
+use Rattle.std.specs.Prelude.{Bool, true, false, List, [], ◌∷◌, ◌++◌, Option, Some, None, if◌then◌else◌}
 use Rattle.std.specs.Option.{option_to_list}
 use Rattle.findings.specs.declared.part.Part.{Part}
 use Rattle.findings.specs.declared.part.Part.TheVariants as contents
 use Rattle.findings.specs.declared.unused_reason.UnusedReason.TheVariants as reasons
+use Rattle.findings.specs.Notices.{is_opaque_type}
 use Rattle.findings.specs.Parts.{unused}
 use Rattle.lsa_codec.specs.declared.address.AreaId.{AreaId}
 use Rattle.lsa_instances.specs.declared.place.Scope.{Scope}
@@ -13,7 +14,6 @@ use Rattle.lsdb_listing.specs.declared.line_kind.LineKind.{LineKind}
 use Rattle.lsdb_listing.specs.declared.line_kind.LineKind.TheVariants as kinds
 use Rattle.lsdb_listing.specs.declared.row.Row.{Row}
 use Rattle.lsdb_listing.specs.Lines.{Line}
-use Rattle.lsa_instances.specs.LsTypes.{link_opaque_lsa}
 use Rattle.lsdb_listing.specs.Headings.{line_kind_of, heading_after}
 use Rattle.lsdb_listing.specs.Rows.{row_under, area_under}
 
@@ -22,14 +22,11 @@ in_scope row None = unused row.key reasons.NoArea
 in_scope row (Some scope) =
     contents.Header (record { place = record { scope = scope; key = row.key }; instance = row.instance; age = row.age })
 
--- of link scope (RFC 5250, 2): two links of an area may have LSAs of one key
-abbrev pub is_of_link : Row → Bool
-is_of_link row = row.key.kind == link_opaque_lsa
-
--- the LSA has the scope of its LS type in the area of the heading; one of link scope is ignored
+-- the LSA has the scope of its LS type in the area of the heading. An opaque one is ignored, since the planner leaves it
+-- out: two links of an area may even have LSAs of one key (RFC 5250, 2)
 abbrev pub parsed_row : {A : Type 0} → Option AreaId → Option Row → Option (Part A)
 parsed_row area None = Some contents.Unreadable
-parsed_row area (Some row) = if is_of_link row then None else Some (in_scope row (scope_of_report row.key.kind area))
+parsed_row area (Some row) = if is_opaque_type row.key.kind then None else Some (in_scope row (scope_of_report row.key.kind area))
 
 abbrev pub row_below : {A : Type 0} → Option Heading → Line → List (Part A)
 row_below None line = []

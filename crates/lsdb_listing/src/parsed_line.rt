@@ -9,9 +9,9 @@ ghost use Rattle.lsdb_listing.specs.ParsedLines.{in_scope, parsed_row, parsed_by
 use crate::heading::Heading;
 use crate::line_kind::{LineKind, line_kind_of};
 use crate::row::{Row, row_under};
-use findings::{Part, UnusedReason};
+use findings::{Part, UnusedReason, is_opaque_type};
 use lsa_codec::AreaId;
-use lsa_instances::{Header, LINK_OPAQUE_LSA, Place, Scope};
+use lsa_instances::{Header, Place, Scope};
 use std::alloc::{AllocError, Allocator};
 use text_words::cut_at;
 
@@ -32,15 +32,14 @@ fn in_scope<A: Allocator + Copy>(row: Row, scope: Option<Scope>) -> Part<A>
     }
 }
 
-/// What a row contains under the heading of an area, or of none. A row of an LSA of link scope is
-/// ignored.
+/// What a row contains under the heading of an area, or of none. A row of an opaque LSA is ignored.
 fn parsed_row<A: Allocator + Copy>(area: Option<AreaId>, row: Option<Row>) -> Option<Part<A>>
     ensures { result ≡ parsed_row area row }
 {
     let Some(row) = row else {
         return Some(Part::Unreadable);
     };
-    if row.key.kind == LINK_OPAQUE_LSA {
+    if is_opaque_type(row.key.kind) {
         return None;
     }
     Some(in_scope(row, Scope::of(row.key.kind, area)))

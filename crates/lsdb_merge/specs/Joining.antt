@@ -15,7 +15,7 @@ use Rattle.lsa_instances.specs.Newest.{AreNewest, lsas_of_scope}
 use Rattle.lsa_instances.specs.Order.{scope_cmp}
 use Rattle.lsdb.specs.Lists.{AreaHead, SectionLsas, Lists}
 
--- whether a file reports the area as a stub area
+-- whether a file reports the area as a stub area or a not-so-stubby one
 abbrev pub any_stub : List AreaReport → AreaId → Bool
 any_stub areas id = list_any (λ area. is_stub_kind area.kind && (area.id.0 == id.0)) areas
 

@@ -1,5 +1,5 @@
 -- What a file contains, and why it is refused.
-use Rattle.std.specs.Prelude.{◌≡◌, ◌≢◌, ℕ, false, List, Some, None, option_map}
+use Rattle.std.specs.Prelude.{◌≡◌, ◌≢◌, ℕ, false, true, List, Some, None, option_map}
 use Rattle.std.specs.List.{list_any}
 use Rattle.std.specs.Str.{IsUtf8}
 use Rattle.capture_files.specs.declared.fault.CaptureFault.TheVariants as capture_faults
@@ -14,7 +14,7 @@ use Rattle.network_files.specs.declared.fault.FileFault.TheVariants as faults
 use Rattle.network_files.specs.declared.kind.FileKind.{FileKind}
 use Rattle.network_files.specs.declared.kind.FileKind.TheVariants as kinds
 use Rattle.network_files.specs.declared.parsed_file.ParsedFile.{ParsedFile}
-use Rattle.network_files.specs.Kinds.{kind_of}
+use Rattle.network_files.specs.Kinds.{is_compressed, kind_of}
 use Rattle.ospf_packets.specs.Contents as captures
 use Rattle.frr_text.specs.Contents as texts
 use Rattle.frr_json.specs.Contents as documents
@@ -62,14 +62,18 @@ IsRefusalOfCapture bytes (faults.Capture fault) = IsCaptureFault bytes fault × 
 IsRefusalOfCapture bytes faults.NotJson = ⊥
 IsRefusalOfCapture bytes faults.NoDatabase = ⊥
 IsRefusalOfCapture bytes faults.UnknownKind = ⊥
+IsRefusalOfCapture bytes faults.Compressed = ⊥
 
--- it has no object of the OSPF-MIB
+-- it has no object of the OSPF-MIB, and is compressed or not
 abbrev pub IsRefusalOfWalk : (A : Type 0) → List ℕ → FileFault → Type 0
 IsRefusalOfWalk A bytes faults.OutOfMemory = Unit {0}
 IsRefusalOfWalk A bytes (faults.Capture fault) = ⊥
 IsRefusalOfWalk A bytes faults.NotJson = ⊥
 IsRefusalOfWalk A bytes faults.NoDatabase = ⊥
-IsRefusalOfWalk A bytes faults.UnknownKind = list_any (is_of_mib {A = A}) (parsed_in_walk bytes) ≡ false
+IsRefusalOfWalk A bytes faults.UnknownKind =
+    (list_any (is_of_mib {A = A}) (parsed_in_walk bytes) ≡ false) × (is_compressed bytes ≡ false)
+IsRefusalOfWalk A bytes faults.Compressed =
+    (list_any (is_of_mib {A = A}) (parsed_in_walk bytes) ≡ false) × (is_compressed bytes ≡ true)
 
 -- the file is not JSON in UTF-8, or it is and has no database
 abbrev pub IsRefusalOfJson : List ℕ → FileFault → Type 0
@@ -78,6 +82,7 @@ IsRefusalOfJson bytes (faults.Capture fault) = ⊥
 IsRefusalOfJson bytes faults.NotJson = IsUtf8 bytes → document bytes ≡ None
 IsRefusalOfJson bytes faults.NoDatabase = IsUtf8 bytes × (option_map has_database (document bytes) ≡ Some false)
 IsRefusalOfJson bytes faults.UnknownKind = ⊥
+IsRefusalOfJson bytes faults.Compressed = ⊥
 
 -- what a router prints as a text is refused only where memory ran out
 abbrev pub IsRefusalOfText : FileFault → Type 0

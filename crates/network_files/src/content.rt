@@ -10,7 +10,7 @@ ghost use Rattle.snmp_walk.specs.Contents.{HasContent as IsWalkOf};
 ghost use Rattle.network_files.specs.ParsedFiles.{HasContent, IsRefusalAs, IsRefusalOfCapture, IsRefusalOfJson, IsRefusalOfWalk};
 
 use crate::fault::FileFault;
-use crate::kind::FileKind;
+use crate::kind::{FileKind, is_compressed};
 use capture_files::{Capture, CaptureFault, read_capture};
 use findings::Content;
 use frr_json::{JsonFault, read_printed_json};
@@ -61,7 +61,13 @@ fn content_of_walk<A: Allocator + Copy>(alloc: A, bytes: &[u8]) -> Result<Conten
     match read_walk(alloc, bytes) {
         Ok(content) => Ok(content),
         Err(WalkFault::OutOfMemory) => Err(FileFault::OutOfMemory),
-        Err(WalkFault::NotAWalk) => Err(FileFault::UnknownKind),
+        Err(WalkFault::NotAWalk) => {
+            if is_compressed(bytes) {
+                Err(FileFault::Compressed)
+            } else {
+                Err(FileFault::UnknownKind)
+            }
+        }
     }
 }
 

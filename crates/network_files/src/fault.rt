@@ -25,6 +25,9 @@ pub enum FileFault {
     /// has an object of the OSPF-MIB.
     #[error("UnknownKind")]
     UnknownKind,
+    /// The same, and it begins as a file that gzip has compressed (RFC 1952, 2.3.1).
+    #[error("Compressed")]
+    Compressed,
     /// Memory ran out.
     #[error("OutOfMemory")]
     OutOfMemory,

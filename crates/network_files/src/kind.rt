@@ -3,7 +3,7 @@
 ghost use Rattle.std.specs.Prelude.{◌≡◌, ◌≤◌, length};
 ghost use Rattle.std.specs.Option.{is_some};
 ghost use Rattle.capture_files.specs.Pcap.{fraction_of};
-ghost use Rattle.network_files.specs.Kinds.{is_capture, kind_of};
+ghost use Rattle.network_files.specs.Kinds.{is_capture, is_compressed, kind_of};
 ghost use Rattle.frr_text.specs.Headings.{is_printed};
 ghost use Rattle.frr_text.specs.Words.{words};
 ghost use Rattle.frr_json.specs.ParsedDocuments.{is_printed_json};
@@ -46,6 +46,13 @@ fn is_capture(bytes: &[u8]) -> bool
     }
     let big = BigEndian::read_u32(bytes);
     big == SECTION_HEADER || is_magic(big) || is_magic(LittleEndian::read_u32(bytes))
+}
+
+/// Whether the file begins as one does that gzip has compressed (RFC 1952, 2.3.1).
+pub(crate) fn is_compressed(bytes: &[u8]) -> bool
+    ensures { result ≡ is_compressed bytes.now }
+{
+    matches!(bytes, [0x1f, 0x8b, ..])
 }
 
 impl FileKind {

@@ -1,5 +1,5 @@
 -- The command line of the program, as clap reads it.
-use Rattle.std.specs.Prelude.{◌≡◌, ℕ, List, Some, codes, map, nat_lt, true, option_map, if◌then◌else◌}
+use Rattle.std.specs.Prelude.{◌≡◌, ℕ, List, Some, bytes_eq, codes, map, nat_lt, true, option_map, if◌then◌else◌}
 use Rattle.clap.specs.Words.{App, Rule, Text, new_rule, with_rule}
 use Rattle.clap.specs.declared.builder.action.ArgAction.TheVariants.{Append, Set}
 use Rattle.host_arguments.specs.Commands.{flag_rule, named, times_given, value_of, value_rule, values_of}
@@ -29,3 +29,9 @@ pub record IsGiven (words : List Text) (o : Options) : Type 0 where
   pub flushed : o.flushed ≡ kept_where (times_given ospf_capture words (codes "keep-flushed"))
   pub against : map (λ name. name.now) o.against.items ≡ values_of ospf_capture words (codes "against")
   pub files : map (λ name. name.now) o.files.items ≡ values_of ospf_capture words (codes "files")
+
+-- ---- files
+
+-- a dash alone is standard input, by the file that Linux gives for it
+abbrev pub path_of : List ℕ → List ℕ
+path_of name = if bytes_eq name (codes "-") then codes "/dev/stdin" else name

@@ -70,6 +70,7 @@ refusal_status (files.Capture _) = 3
 refusal_status files.NotJson = 3
 refusal_status files.NoDatabase = 3
 refusal_status files.UnknownKind = 3
+refusal_status files.Compressed = 3
 refusal_status files.OutOfMemory = 5
 
 -- 3 where a file is refused, 4 where it cannot be opened, read or written
@@ -122,6 +123,7 @@ refusal_name (files.Capture fault) = capture_name fault
 refusal_name files.NotJson = codes "NotJson"
 refusal_name files.NoDatabase = codes "NoDatabase"
 refusal_name files.UnknownKind = codes "UnknownKind"
+refusal_name files.Compressed = codes "Compressed"
 refusal_name files.OutOfMemory = codes "OutOfMemory"
 
 -- the offset of what is malformed, where the fault has one
@@ -130,6 +132,7 @@ refusal_offset (files.Capture fault) = Some (capture_offset fault)
 refusal_offset files.NotJson = None
 refusal_offset files.NoDatabase = None
 refusal_offset files.UnknownKind = Some 0
+refusal_offset files.Compressed = None
 refusal_offset files.OutOfMemory = Some 0
 
 -- as ` at 28`
@@ -137,9 +140,19 @@ abbrev pub at_text : Option ℕ → List ℕ
 at_text None = []
 at_text (Some offset) = codes " at " ++ decimal offset
 
+-- the command that unpacks the file, as ` (zcat r1.pcap.gz | ospf-capture -)`
+abbrev pub unpacking_text : List ℕ → FileFault → List ℕ
+unpacking_text name files.Compressed = codes " (zcat " ++ name ++ codes " | ospf-capture -)"
+unpacking_text name (files.Capture fault) = []
+unpacking_text name files.NotJson = []
+unpacking_text name files.NoDatabase = []
+unpacking_text name files.UnknownKind = []
+unpacking_text name files.OutOfMemory = []
+
 -- as `r1.pcap: BlockLength at 28`, or `r1.json: NotJson`
 abbrev pub refused_text : List ℕ → FileFault → List ℕ
-refused_text name fault = name ++ codes ": " ++ refusal_name fault ++ at_text (refusal_offset fault) ++ codes "\n"
+refused_text name fault =
+    name ++ codes ": " ++ refusal_name fault ++ at_text (refusal_offset fault) ++ unpacking_text name fault ++ codes "\n"
 
 abbrev pub file_text : List ℕ → FileEnd → List ℕ
 file_text name Open = name ++ codes ": Open\n"

@@ -1,7 +1,7 @@
 //! How the program ends after a fault: its status, and the line on standard error.
 
 ghost use Rattle.std.specs.Prelude.{◌≡◌, IfOk, string_bytes};
-ghost use Rattle.ospf_capture.specs.Exit.{at_text, capture_name, capture_offset, exit_status, exit_text, file_status, file_text, join_status, join_text, refusal_name, refusal_offset, refusal_status, refused_text};
+ghost use Rattle.ospf_capture.specs.Exit.{at_text, capture_name, capture_offset, exit_status, exit_text, file_status, file_text, join_status, join_text, refusal_name, refusal_offset, refusal_status, refused_text, unpacking_text};
 
 use crate::fault::{ExitFault, FileEnd};
 use capture_files::CaptureFault;
@@ -17,7 +17,8 @@ fn refusal_status(fault: FileFault) -> u8
         FileFault::Capture(_)
         | FileFault::NotJson
         | FileFault::NoDatabase
-        | FileFault::UnknownKind => 3,
+        | FileFault::UnknownKind
+        | FileFault::Compressed => 3,
     }
 }
 
@@ -89,6 +90,7 @@ fn refusal_name(fault: FileFault) -> &'static str
         FileFault::NotJson => "NotJson",
         FileFault::NoDatabase => "NoDatabase",
         FileFault::UnknownKind => "UnknownKind",
+        FileFault::Compressed => "Compressed",
         FileFault::OutOfMemory => "OutOfMemory",
     }
 }
@@ -99,7 +101,7 @@ fn refusal_offset(fault: FileFault) -> Option<usize>
 {
     match fault {
         FileFault::Capture(fault) => Some(capture_offset(fault)),
-        FileFault::NotJson | FileFault::NoDatabase => None,
+        FileFault::NotJson | FileFault::NoDatabase | FileFault::Compressed => None,
         FileFault::UnknownKind | FileFault::OutOfMemory => Some(0),
     }
 }
@@ -114,6 +116,24 @@ fn at_words<A: Allocator + Copy>(alloc: A, offset: Option<usize>) -> Result<Stri
     }
 }
 
+/// The command that unpacks the file, if it is compressed.
+fn unpacking_words<A: Allocator + Copy>(
+    alloc: A,
+    name: &str,
+    fault: FileFault,
+) -> Result<String<A>, AllocError>
+    ensures { IfOk result (λ words. string_bytes words ≡ unpacking_text name.now fault) }
+{
+    match fault {
+        FileFault::Compressed => format!(in alloc; " (zcat {name} | ospf-capture -)"),
+        FileFault::Capture(_)
+        | FileFault::NotJson
+        | FileFault::NoDatabase
+        | FileFault::UnknownKind
+        | FileFault::OutOfMemory => Ok(String::new(alloc)),
+    }
+}
+
 /// The line of a file that is refused.
 fn refused_line<A: Allocator + Copy>(
     alloc: A,
@@ -124,7 +144,8 @@ fn refused_line<A: Allocator + Copy>(
 {
     let what = refusal_name(fault);
     let words = at_words(alloc, refusal_offset(fault))?;
-    let line = format!(in alloc; "{name}: {what}{words}\n")?;
+    let unpacking = unpacking_words(alloc, name, fault)?;
+    let line = format!(in alloc; "{name}: {what}{words}{unpacking}\n")?;
     Ok(line)
 }
 

@@ -28,11 +28,14 @@ Walks and captures contain the LSAs byte for byte. Printed LSAs are rebuilt from
 used only where they then have the printed length and checksum. JSON does not say which areas are
 stub areas: where there is an area besides the backbone, name a file of another kind too.
 
-Standard output has a line for each file: its kind and the number of its LSAs and areas. Standard
-error has a line for each thing that is missing in a file or cannot be used. Lines that begin with
-`database:` are about all files together. With --against, lines that begin with the name of the
-list are about LSAs that the dump lacks, or has in another instance. A list is what FRR prints for
-`show ip ospf database`, or BIRD for `show ospf lsadb`.
+The name - is standard input: what is compressed is read by zcat LINK.pcap.gz | ospf-capture -
+
+Standard output has a line for each file: its kind and the number of its LSAs and areas; and lines
+about opaque LSAs, which no table needs. Standard error has a line for each thing that is missing in
+a file or cannot be used. Lines that begin with `database:` are about all files together. With
+--against, lines that begin with the name of the list are about LSAs that the dump lacks, or has in
+another instance. A list is what FRR prints for `show ip ospf database`, or BIRD for
+`show ospf lsadb`.
 
 The newest instance of each LSA goes into the dump. An LSA that was flushed and not announced again
 is left out; with --keep-flushed it stays in the dump, at MaxAge, where no router uses it. The dump

@@ -16,6 +16,7 @@ mod exit;
 mod fault;
 mod files;
 mod help;
+mod report;
 
 use command_line::options;
 use exit::exit_line;
@@ -28,7 +29,7 @@ fn main(rt: HostRuntime) -> ExitCode {
     ended(&rt, capture(&rt))
 }
 
-/// Makes the dump: status 0 where nothing is missing, else 1.
+/// Makes the dump: status 0 where nothing is missing that the planner needs, else 1.
 fn capture(rt: &HostRuntime) -> Result<ExitCode, OptionsFault> {
     let words = words(rt)?;
     let given = options(rt.alloc(), words.as_slice())?;

@@ -1,12 +1,11 @@
 -- The LSAs of a packet, one after another.
 use Rattle.std.proofs.Common.{◌≡◌, ℕ, suc, ◌+◌, ◌-◌, ◌<◌, ◌≤◌, List, [], ◌∷◌, ◌++◌, take, drop, Ok, Err, sym, ap, ◌∙◌}
 use Rattle.std.proofs.Common.{append_assoc, arith}
-use Rattle.std.proofs.lemmas.List.{append-nil}
 use Rattle.findings.specs.declared.frame_warning.FrameWarning.{FrameWarning}
 use Rattle.findings.specs.declared.part.Part.{Part}
 use Rattle.findings.specs.declared.part.Part.TheVariants as contents
 use Rattle.ospf_packets.specs.declared.update.Flooded.{Flooded}
-use Rattle.ospf_packets.specs.Updates.{lsa_length, parsed_lsa, first_parsed, parsed_lsas}
+use Rattle.ospf_packets.specs.Updates.{lsa_length, parsed_lsa, first_parsed, uncounted, parsed_lsas}
 
 opened : {A : Type 0} (n i : ℕ) (by : Flooded) (bytes : List ℕ) → i < n
     → parsed_lsas {A = A} by (n - i) bytes ≡ first_parsed by bytes (λ rest. parsed_lsas by (n - (i + 1)) rest) (lsa_length by.whole bytes)
@@ -30,8 +29,8 @@ stopped {A} parsed n i by bytes warning all lt is h =
     ∙ ap (λ t. parsed ++ t) (sym (opened n i by bytes lt)) ∙ h
 
 pub all_parsed : {A : Type 0} (parsed : List (Part A)) (n i : ℕ) (by : Flooded) (bytes : List ℕ) (all : List (Part A)) → n ≤ i
-    → parsed ++ parsed_lsas by (n - i) bytes ≡ all → parsed ≡ all
+    → parsed ++ parsed_lsas by (n - i) bytes ≡ all → parsed ++ uncounted bytes ≡ all
 unfolding parsed_lsas
 all_parsed {A} parsed n i by bytes all le h =
     let k : n - i ≡ 0 = omega arith in
-    sym (append-nil parsed) ∙ ap (λ m. parsed ++ parsed_lsas {A = A} by m bytes) (sym k) ∙ h
+    ap (λ m. parsed ++ parsed_lsas {A = A} by m bytes) (sym k) ∙ h

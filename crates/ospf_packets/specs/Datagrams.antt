@@ -4,7 +4,7 @@ use Rattle.std.specs.Prelude.{length, take, drop, Result, Ok, Err}
 use Rattle.lsa_codec.specs.Fields.{number_at, byte_at}
 use Rattle.ospf_packets.specs.declared.datagram.Datagram.{Datagram}
 use Rattle.findings.specs.declared.frame_warning.FrameWarning.{FrameWarning}
-use Rattle.findings.specs.declared.frame_warning.FrameWarning.TheVariants.{NotIpv4, NotOspf, Truncated, BadLength}
+use Rattle.findings.specs.declared.frame_warning.FrameWarning.TheVariants.{NotIpv4, NotOspf, Encapsulated, Truncated, BadLength}
 
 -- a datagram, or a fragment of one, as values: what distinguishes the datagrams of one sender; the number of bytes of
 -- the payload before those of the fragment, and whether others follow them; the bytes of the payload that are at hand,
@@ -63,13 +63,18 @@ has_lengths is_cut bytes =
     nat_le 20 (header_length_of bytes) && nat_le (header_length_of bytes) (total_length_of bytes)
     && (is_cut || nat_le (total_length_of bytes) (length bytes))
 
+-- why a datagram of another protocol is not used: GRE (47) may carry IPv4 in its turn, or frames of a mirror port
+-- (RFC 2784)
+abbrev pub other_protocol : ℕ → FrameWarning
+other_protocol protocol = if protocol == 47 then Encapsulated else NotOspf
+
 -- the datagram in the bytes that a frame carries: one of version 4 and of protocol 89. What follows it, as the padding
 -- of a short frame, is no part of it
 abbrev pub ipv4_of : Bool → List ℕ → Result DatagramText FrameWarning
 ipv4_of is_cut bytes =
     if nat_lt (length bytes) 20 then Err Truncated
     else if not (version_of bytes == 4) then Err NotIpv4
-    else if not (byte_at 9 bytes == 89) then Err NotOspf
+    else if not (byte_at 9 bytes == 89) then Err (other_protocol (byte_at 9 bytes))
     else if not (has_lengths is_cut bytes) then Err BadLength
     else if nat_lt (length bytes) (header_length_of bytes) then Err Truncated
     else Ok (datagram_in bytes)

@@ -35,7 +35,13 @@ module _ {A : Type 0} where
   first_parsed by bytes after (Err warning) = contents.Warning warning ∷ []
   first_parsed by bytes after (Ok size) = parsed_lsa by (take size bytes) ∷ after (drop size bytes)
 
-  -- n LSAs at the front. Where the length of one of them is impossible, it is not known where the others begin
+  -- what follows the LSAs that the packet counts: nothing, or more than the packet says
+  abbrev pub uncounted : List ℕ → List (Part A)
+  uncounted [] = []
+  uncounted (byte ∷ bytes) = contents.Warning BadLength ∷ []
+
+  -- n LSAs at the front, and no more. Where the length of one of them is impossible, it is not known where the others
+  -- begin
   unfoldable pub parsed_lsas : Flooded → ℕ → List ℕ → List (Part A)
-  parsed_lsas by zero bytes = []
+  parsed_lsas by zero bytes = uncounted bytes
   parsed_lsas by (suc n) bytes = first_parsed by bytes (λ rest. parsed_lsas by n rest) (lsa_length by.whole bytes)

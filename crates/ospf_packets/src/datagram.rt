@@ -1,7 +1,7 @@
 //! IPv4 datagrams that carry OSPF (RFC 791, 3.1; RFC 2328, A.1).
 
 ghost use Rattle.std.specs.Prelude.{◌≡◌, ◌≤◌, length, Ok, Err, true, MatchResult};
-ghost use Rattle.ospf_packets.specs.Datagrams.{datagram_text, header_length_of, total_length_of, has_lengths, datagram_in, ipv4_of};
+ghost use Rattle.ospf_packets.specs.Datagrams.{datagram_text, header_length_of, total_length_of, has_lengths, datagram_in, other_protocol, ipv4_of};
 
 use crate::field::{u16_at, u32_at};
 use findings::FrameWarning;
@@ -11,6 +11,9 @@ const SHORTEST_HEADER: usize = 20;
 
 /// The protocol number of OSPF.
 const OSPF: u8 = 89;
+
+/// The protocol number of GRE, which may carry other datagrams (RFC 2784).
+const GRE: u8 = 47;
 
 /// A datagram, or a fragment of one.
 #[derive(Clone, Copy, Debug)]
@@ -78,6 +81,17 @@ fn datagram_in(bytes: &[u8]) -> Datagram<'_>
     }
 }
 
+/// Why a datagram of another protocol is not used.
+fn other_protocol(protocol: u8) -> FrameWarning
+    ensures { result ≡ other_protocol protocol }
+{
+    if protocol == GRE {
+        FrameWarning::Encapsulated
+    } else {
+        FrameWarning::NotOspf
+    }
+}
+
 /// The OSPF datagram in the bytes that a frame carries.
 pub(crate) fn ipv4_of(is_cut: bool, bytes: &[u8]) -> Result<Datagram<'_>, FrameWarning>
     ensures { MatchResult result
@@ -91,7 +105,7 @@ pub(crate) fn ipv4_of(is_cut: bool, bytes: &[u8]) -> Result<Datagram<'_>, FrameW
         return Err(FrameWarning::NotIpv4);
     }
     if bytes[9] != OSPF {
-        return Err(FrameWarning::NotOspf);
+        return Err(other_protocol(bytes[9]));
     }
     if !has_lengths(is_cut, bytes) {
         return Err(FrameWarning::BadLength);

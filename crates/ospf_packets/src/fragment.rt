@@ -70,7 +70,7 @@ fn add_fragment<A: Allocator + Copy>(
 
 /// The payload of the datagram that a fragment begins, where the others stand in these frames, in
 /// order.
-#[tactic(auto, using(crate::proofs::Joins::onward, crate::proofs::Joins::unended))]
+#[tactic(auto, using(crate::proofs::Joins::unended))]
 pub(crate) fn joined<A: Allocator + Copy>(
     alloc: A,
     first: Datagram<'_>,

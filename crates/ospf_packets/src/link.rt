@@ -1,9 +1,9 @@
 //! What frames carry, by the type of their link.
 
-ghost use Rattle.std.specs.Prelude.{◌≡◌, ◌+◌, ◌≤◌, length, Ok, Err, MatchResult};
-ghost use Rattle.ospf_packets.specs.Links.{is_tag, untagged, after_type, after_header, link_payload};
+ghost use Rattle.std.specs.Prelude.{◌≡◌, ◌+◌, ◌≤◌, length, true, Ok, Err, MatchResult};
+ghost use Rattle.ospf_packets.specs.Links.{is_tag, is_encapsulating, untagged, after_type, after_header, after_protocol, is_framed, ppp_payload, is_internet, loopback_payload, link_payload};
 
-use crate::field::u16_at;
+use crate::field::{u16_at, u32_at};
 use capture_files::LinkType;
 use findings::FrameWarning;
 
@@ -17,6 +17,13 @@ fn is_tag(kind: u16) -> bool
     kind == 0x8100 || kind == 0x88a8 || kind == 0x9100
 }
 
+/// Whether this is the EtherType of PPPoE sessions or of MPLS, which may carry IPv4 in their turn.
+fn is_encapsulating(kind: u16) -> bool
+    ensures { result ≡ is_encapsulating kind }
+{
+    kind == 0x8864 || kind == 0x8847 || kind == 0x8848
+}
+
 /// What follows an EtherType that is not one of a tag.
 fn untagged(kind: u16, bytes: &[u8]) -> Result<&[u8], FrameWarning>
     ensures { MatchResult result
@@ -25,6 +32,8 @@ fn untagged(kind: u16, bytes: &[u8]) -> Result<&[u8], FrameWarning>
 {
     if kind == IPV4 {
         Ok(bytes)
+    } else if is_encapsulating(kind) {
+        Err(FrameWarning::Encapsulated)
     } else {
         Err(FrameWarning::NotIpv4)
     }
@@ -62,6 +71,66 @@ fn after_header(size: usize, offset: usize, frame: &[u8]) -> Result<&[u8], Frame
     after_type(u16_at(frame, offset), &frame[size..])
 }
 
+/// What follows the protocol of PPP (RFC 1661, 2).
+fn after_protocol(bytes: &[u8]) -> Result<&[u8], FrameWarning>
+    ensures { MatchResult result
+        (λ payload. after_protocol bytes.now ≡ Ok payload.now)
+        (λ warning. after_protocol bytes.now ≡ Err warning) }
+{
+    if bytes.len() < 2 {
+        return Err(FrameWarning::Truncated);
+    }
+    if u16_at(bytes, 0) == 0x0021 {
+        Ok(&bytes[2..])
+    } else {
+        Err(FrameWarning::NotIpv4)
+    }
+}
+
+/// Whether the framing of HDLC stands before the protocol (RFC 1662, 3.1).
+fn is_framed(frame: &[u8]) -> bool
+    ensures same { result ≡ is_framed frame.now }
+    ensures long { result ≡ true → 2 ≤ length frame.now }
+{
+    2 <= frame.len() && u16_at(frame, 0) == 0xff03
+}
+
+/// What a frame of PPP carries, with the framing of HDLC or without.
+fn ppp_payload(frame: &[u8]) -> Result<&[u8], FrameWarning>
+    ensures { MatchResult result
+        (λ payload. ppp_payload frame.now ≡ Ok payload.now)
+        (λ warning. ppp_payload frame.now ≡ Err warning) }
+{
+    if is_framed(frame) {
+        after_protocol(&frame[2..])
+    } else {
+        after_protocol(frame)
+    }
+}
+
+/// Whether this is the address family of IPv4, in either byte order.
+fn is_internet(family: u32) -> bool
+    ensures { result ≡ is_internet family }
+{
+    family == 2 || family == 0x0200_0000
+}
+
+/// What a frame of a loopback interface carries, after its address family.
+fn loopback_payload(frame: &[u8]) -> Result<&[u8], FrameWarning>
+    ensures { MatchResult result
+        (λ payload. loopback_payload frame.now ≡ Ok payload.now)
+        (λ warning. loopback_payload frame.now ≡ Err warning) }
+{
+    if frame.len() < 4 {
+        return Err(FrameWarning::Truncated);
+    }
+    if is_internet(u32_at(frame, 0)) {
+        Ok(&frame[4..])
+    } else {
+        Err(FrameWarning::NotIpv4)
+    }
+}
+
 /// The IPv4 datagram that a frame carries.
 pub(crate) fn link_payload(link: LinkType, frame: &[u8]) -> Result<&[u8], FrameWarning>
     ensures { MatchResult result
@@ -72,6 +141,9 @@ pub(crate) fn link_payload(link: LinkType, frame: &[u8]) -> Result<&[u8], FrameW
         1 => after_header(14, 12, frame),
         113 => after_header(16, 14, frame),
         276 => after_header(20, 0, frame),
+        104 => after_header(4, 2, frame),
+        9 | 50 => ppp_payload(frame),
+        0 | 108 => loopback_payload(frame),
         101 | 228 => Ok(frame),
         _ => Err(FrameWarning::OtherLink),
     }

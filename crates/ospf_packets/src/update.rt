@@ -1,7 +1,7 @@
 //! The LSAs of Link State Update packets (RFC 2328, A.3.5).
 
 ghost use Rattle.std.specs.Prelude.{◌≡◌, ◌≤◌, ◌++◌, length, Ok, Err, MatchResult, IfOk, OnOk};
-ghost use Rattle.ospf_packets.specs.Updates.{lsa_length, parsed_lsa, parsed_lsas};
+ghost use Rattle.ospf_packets.specs.Updates.{lsa_length, parsed_lsa, uncounted, parsed_lsas};
 
 use crate::field::u16_at;
 use crate::packet::lack;
@@ -61,7 +61,24 @@ fn parsed_lsa<A: Allocator + Copy>(
     }
 }
 
-/// Adds the LSAs at the front of the bytes, as the count of the packet says.
+/// Adds a warning where bytes follow the LSAs that the packet counts.
+fn put_uncounted<A: Allocator + Copy>(
+    parsed: &mut Vec<Part<A>, A>,
+    rest: &[u8],
+) -> Result<(), AllocError>
+    ensures { OnOk result (parsed.new.items ≡ parsed.old.items ++ uncounted rest.now) }
+{
+    match rest {
+        [] => Ok(()),
+        [_, ..] => {
+            parsed.push(Part::Warning(FrameWarning::BadLength))?;
+            Ok(())
+        }
+    }
+}
+
+/// Adds the LSAs at the front of the bytes, as the count of the packet says, and a warning where
+/// the bytes hold more than that.
 #[tactic(auto, using(crate::proofs::Lsas::one_more, crate::proofs::Lsas::stopped, crate::proofs::Lsas::all_parsed))]
 pub(crate) fn parse_lsas<A: Allocator + Copy>(
     alloc: A,
@@ -85,5 +102,5 @@ pub(crate) fn parse_lsas<A: Allocator + Copy>(
             }
         }
     }
-    Ok(())
+    put_uncounted(parsed, rest)
 }

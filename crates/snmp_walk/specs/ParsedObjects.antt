@@ -19,7 +19,7 @@ use Rattle.snmp_walk.specs.declared.parsed_object.ParsedObject.TheVariants.{Lsa,
 use Rattle.snmp_walk.specs.declared.parsed_object.ParsedObject.TheVariants as contents
 use Rattle.snmp_walk.specs.Objects.{Object, objects}
 use Rattle.snmp_walk.specs.Subjects.{subject_of}
-use Rattle.snmp_walk.specs.Values.{is_end_of_view, kind_in, bytes_in}
+use Rattle.snmp_walk.specs.Values.{is_absent, is_end_of_view, kind_in, bytes_in}
 
 abbrev pub same_key : Key → Key → Bool
 same_key a b = (a.kind == b.kind) && ((a.id.0 == b.id.0) && (a.adv.0 == b.adv.0))
@@ -72,9 +72,15 @@ module _ {A : Type 0} where
   parsed_of subjects.Unreadable value = Finding findings.UnreadableName
   parsed_of subjects.Foreign value = Foreign
 
+  -- an object of the MIB that the agent does not have
+  abbrev pub parsed_absent : Subject → ParsedObject A
+  parsed_absent subjects.Foreign = Foreign
+  parsed_absent _ = Finding findings.NoSuchObject
+
   -- what an object contains, by its name and its value
   abbrev pub parsed_by : Object → ParsedObject A
-  parsed_by object = parsed_of (subject_of object.name) object.value
+  parsed_by object =
+      if is_absent object.value then parsed_absent (subject_of object.name) else parsed_of (subject_of object.name) object.value
 
   -- what each object of a walk contains
   unfoldable pub parsed_in : List ℕ → List (ParsedObject A)

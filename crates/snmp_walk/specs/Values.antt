@@ -1,5 +1,5 @@
 -- The values of objects, as net-snmp prints them.
-use Rattle.std.specs.Prelude.{ℕ, ◌==◌, not, Bool, true, false, List, [], ◌∷◌, ◌++◌, codes, bytes_eq, filter, Option, Some, None, is_some, if◌then◌else◌, Result, Ok, Err}
+use Rattle.std.specs.Prelude.{ℕ, ◌==◌, ◌||◌, not, Bool, true, false, List, [], ◌∷◌, ◌++◌, codes, bytes_eq, filter, Option, Some, None, is_some, if◌then◌else◌, Result, Ok, Err}
 use Rattle.std.specs.List.{list_all}
 use Rattle.hex.specs.Hex.{decode_of}
 use Rattle.lsa_instances.specs.declared.area.AreaKind.{AreaKind}
@@ -10,6 +10,12 @@ use Rattle.snmp_walk.specs.Names.{◌>>=◌}
 -- printed in place of a value where the agent has no more objects, after the last name once more
 abbrev pub is_end_of_view : List ℕ → Bool
 is_end_of_view value = is_some (after (codes "No more variables left in this MIB View") value)
+
+-- printed in place of a value where the agent does not have the object: noSuchObject and noSuchInstance (RFC 3416, 4.2.1)
+abbrev pub is_absent : List ℕ → Bool
+is_absent value =
+    is_some (after (codes "No Such Object available on this agent at this OID") value)
+    || is_some (after (codes "No Such Instance currently exists at this OID") value)
 
 abbrev pub ok : {A E : Type 0} → Result A E → Option A
 ok (Ok x) = Some x

@@ -1,12 +1,12 @@
 //! What one object of a walk contains.
 
 ghost use Rattle.std.specs.Prelude.{◌≡◌, IfOk, OnOk, ◌++◌, List, ℕ};
-ghost use Rattle.snmp_walk.specs.ParsedObjects.{same_key, parsed_kind, placed, parsed_lsa, parsed_bytes, parsed_column, parsed_by, parsed_in};
+ghost use Rattle.snmp_walk.specs.ParsedObjects.{same_key, parsed_kind, placed, parsed_lsa, parsed_bytes, parsed_column, parsed_absent, parsed_by, parsed_in};
 ghost use Rattle.snmp_walk.specs.steps.ParsedLines.{parsed_at, parsed_after};
 
 use crate::object::object_at;
 use crate::subject::{Subject, subject_of};
-use crate::value::{bytes_in, is_end_of_view, kind_in};
+use crate::value::{bytes_in, is_absent, is_end_of_view, kind_in};
 use findings::{Finding, ReportedLsa, UnusedReason};
 use lsa_codec::{AreaId, Key, Lsa, LsaFault};
 use lsa_instances::{AreaReport, Observation, Scope};
@@ -118,6 +118,16 @@ fn parsed_column<A: Allocator + Copy>(row: ReportedLsa, value: &[u8]) -> ParsedO
     }
 }
 
+/// What an object contains that the agent does not have.
+fn parsed_absent<A: Allocator + Copy>(subject: Subject) -> ParsedObject<A>
+    ensures { result ≡ parsed_absent subject }
+{
+    match subject {
+        Subject::Foreign => ParsedObject::Foreign,
+        _ => ParsedObject::Finding(Finding::NoSuchObject),
+    }
+}
+
 /// What an object contains.
 fn parsed_by<A: Allocator + Copy>(
     alloc: A,
@@ -127,7 +137,11 @@ fn parsed_by<A: Allocator + Copy>(
     ensures { IfOk result (λ parsed. parsed
         ≡ parsed_by (record { name = name.now; value = value.now })) }
 {
-    match subject_of(alloc, name)? {
+    let subject = subject_of(alloc, name)?;
+    if is_absent(value) {
+        return Ok(parsed_absent(subject));
+    }
+    match subject {
         Subject::Kind(area) => Ok(parsed_kind(area, value)),
         Subject::Bytes(row) => parsed_bytes(alloc, row, value),
         Subject::Column(row) => Ok(parsed_column(row, value)),

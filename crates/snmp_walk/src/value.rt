@@ -3,7 +3,7 @@
 ghost use Rattle.std.specs.Prelude.{◌≡◌, IfOk, option_map, not, filter, false, []};
 ghost use Rattle.std.specs.List.{list_all};
 ghost use Rattle.snmp_walk.specs.Text.{is_blank, first_word};
-ghost use Rattle.snmp_walk.specs.Values.{is_end_of_view, pairs_of, quoted_after, string_in, bytes_in, kind_named, kind_in};
+ghost use Rattle.snmp_walk.specs.Values.{is_absent, is_end_of_view, pairs_of, quoted_after, string_in, bytes_in, kind_named, kind_in};
 
 use crate::text::{is_blank, word_len};
 use hex::FromHexError;
@@ -17,6 +17,19 @@ pub(crate) fn is_end_of_view(value: &[u8]) -> bool
     value
         .strip_prefix(b"No more variables left in this MIB View".as_slice())
         .is_some()
+}
+
+/// Whether the agent printed this in place of a value, since it does not have the object (RFC 3416,
+/// 4.2.1).
+pub(crate) fn is_absent(value: &[u8]) -> bool
+    ensures { result ≡ is_absent value.now }
+{
+    value
+        .strip_prefix(b"No Such Object available on this agent at this OID".as_slice())
+        .is_some()
+        || value
+            .strip_prefix(b"No Such Instance currently exists at this OID".as_slice())
+            .is_some()
 }
 
 /// The bytes that are not blank.

@@ -5,5 +5,5 @@ use Rattle.frr_json.proofs.parsed_document.with_areas.Given as goal
 
 abbrev pub invariant-areas : goal.invariant-areas
 invariant-areas g l =
-    l.parsed.items ++ areas_in l.ls_type (members_view (drop l.member-index l.members))
-    ≡ l.initial.parsed.items ++ areas_in l.ls_type (members_view l.members)
+    l.parsed.items ++ areas_in l.table (members_view (drop l.member-index l.members))
+    ≡ l.initial.parsed.items ++ areas_in l.table (members_view l.members)

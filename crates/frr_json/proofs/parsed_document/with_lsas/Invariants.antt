@@ -5,5 +5,5 @@ use Rattle.frr_json.proofs.parsed_document.with_lsas.Given as goal
 
 abbrev pub invariant-lsas : goal.invariant-lsas
 invariant-lsas g l =
-    l.parsed.items ++ lsas_in l.ls_type l.area (items_view (drop l.item-index l.items))
-    ≡ l.initial.parsed.items ++ lsas_in l.ls_type l.area (items_view l.items)
+    l.parsed.items ++ lsas_in l.table l.area (items_view (drop l.item-index l.items))
+    ≡ l.initial.parsed.items ++ lsas_in l.table l.area (items_view l.items)

@@ -73,26 +73,15 @@ const LISTS: &[(&str, &[u8], &[Row], &[Finding])] = &[
     (
         "tables of opaque and external LSAs",
         TABLES,
-        &[
-            (
-                BACKBONE,
-                10,
-                0x0400_0000,
-                0x0aff_0003,
-                0x8000_0001,
-                0x31be,
-                165,
-            ),
-            (
-                Scope::AsWide,
-                5,
-                0x0a5b_0000,
-                0x0aff_0005,
-                0x8000_0001,
-                0x84c3,
-                34,
-            ),
-        ],
+        &[(
+            Scope::AsWide,
+            5,
+            0x0a5b_0000,
+            0x0aff_0005,
+            0x8000_0001,
+            0x84c3,
+            34,
+        )],
         &[],
     ),
     (

@@ -6,7 +6,7 @@ use super::pieces::{
     TYPE_2_BYTES,
 };
 use crate::tests::contents::{Format, Row, first_other};
-use findings::{Finding, ReportedLsa, UnusedReason};
+use findings::{Feature, Finding, ReportedLsa, UnusedReason};
 use frr_text::is_printed;
 use lsa_codec::{AreaId, LsaFault};
 use lsa_instances::{AreaKind, AreaReport, Scope};
@@ -94,7 +94,7 @@ const TEXTS: &[Row] = &[
         OPAQUE,
         &[],
         &[BACKBONE],
-        &[Finding::Unreadable(1)],
+        &[Finding::NotRead(Feature::Opaque, 1)],
     ),
     ("headings", HEADINGS, &[], &[STUB, NSSA, BACKBONE], &[]),
 ];
