@@ -1,0 +1,3 @@
+mod AreasStay
+mod Gathered
+mod Rebuilding

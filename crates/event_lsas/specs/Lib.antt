@@ -1,0 +1,5 @@
+pub mod Outcomes
+pub mod Interfaces
+pub mod Links
+pub mod Networks
+pub mod Events
