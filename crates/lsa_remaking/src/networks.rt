@@ -5,7 +5,7 @@ ghost use Rattle.lsa_codec.specs.Fields.{byte_at};
 ghost use Rattle.lsa_codec.specs.LsTypes.{network_lsa};
 ghost use Rattle.lsa_codec.specs.Originating.{new_header};
 ghost use Rattle.lsa_remaking.specs.Making.{IsRemakeFaultOf};
-ghost use Rattle.lsa_remaking.specs.Networks.{routers_text, with_routers, succeeding, with_routers_made, successor_made};
+ghost use Rattle.lsa_remaking.specs.Networks.{routers_text, with_routers, successor_body, succeeding, with_routers_made, successor_made};
 
 use crate::fault::RemakeFault;
 use crate::making::remake;
@@ -64,6 +64,22 @@ pub fn with_routers<A: Allocator + Copy>(
     remake(alloc, &body)
 }
 
+/// The bytes of the network-LSA that another Designated Router originates in place of one.
+fn successor_body<A: Allocator + Copy>(
+    alloc: A,
+    old: &[u8],
+    router: RouterId,
+    address: Addr,
+    routers: &[RouterId],
+) -> Result<Vec<u8, A>, AllocError>
+    requires header { 24 ≤ length old.now }
+    ensures { IfOk result (λ v. v.items ≡ successor_body router address routers.now old.now) }
+{
+    let mut front = new_header(alloc, old[2], address, router)?;
+    front.extend_from_slice(&old[20..24])?;
+    with_routers_text(alloc, &front, routers)
+}
+
 /// The network-LSA that another Designated Router originates in place of one, where it has this
 /// address on the network and is adjacent to these routers, itself among them (RFC 2328, 12.4.2).
 /// It has age 1, the first sequence number, 0x80000001, and Options and mask of the old one.
@@ -83,9 +99,6 @@ pub fn succeed<A: Allocator + Copy>(
     ensures fault { IfErr result
         (λ fault. IsRemakeFaultOf fault (successor_made router address routers.now lsa.now)) }
 {
-    let old = lsa.bytes();
-    let mut front = new_header(alloc, old[2], address, router)?;
-    front.extend_from_slice(&old[20..24])?;
-    let body = with_routers_text(alloc, &front, routers)?;
+    let body = successor_body(alloc, lsa.bytes(), router, address, routers)?;
     remake(alloc, &body)
 }

@@ -1,4 +1,4 @@
-use Rattle.std.proofs.Common.{◌≡◌, ◌∙◌, List, ℕ, ap, subst, arith, length}
+use Rattle.std.proofs.Common.{◌∙◌, List, ℕ, ap, subst, arith, length}
 use Rattle.std.proofs.lemmas.Result.{IfOk-weaker, IfErr-weaker}
 use Rattle.lsa_remaking.specs.Making.{made, remeasured, IsRemakeFaultOf}
 use Rattle.lsa_remaking.specs.Networks.{routers_body}
