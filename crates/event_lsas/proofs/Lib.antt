@@ -1,3 +1,0 @@
-mod AreasStay
-mod Gathered
-mod Rebuilding
