@@ -1,3 +1,2 @@
 mod Bodies
-mod Weights
 mod Whole

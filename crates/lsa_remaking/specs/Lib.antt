@@ -1,2 +1,3 @@
 pub mod Making
 pub mod Relinking
+pub mod Networks

@@ -1,16 +1,18 @@
-//! Router-LSAs made from others where the network changes (RFC 2328, 12.4.1, A.4.2).
+//! LSAs made from others where the network changes: router-LSAs with other links, and network-LSAs
+//! with other routers (RFC 2328, 12.4.1, 12.4.2, A.4.2, A.4.3).
 //!
-//! [`relink`] rebuilds a router-LSA by the fates of its links: each stays, is removed, gets a cost
-//! or another Link ID, or gives way to a stub link. It answers an accepted LSA with length and
-//! checksum set again, or says why there is none.
+//! [`relink`] rebuilds a router-LSA by what becomes of each of its links. [`with_routers`] rebuilds
+//! a network-LSA, and [`succeed`] makes that of another Designated Router. Each answers an accepted
+//! LSA with length and checksum set again, or says why there is none.
 #![tactic(auto)]
 
-mod checksum;
-mod fate;
 mod fault;
+mod link_change;
 mod making;
+mod networks;
 mod relinking;
 
-pub use fate::{FatedLink, LinkFate};
 pub use fault::RemakeFault;
+pub use link_change::{ChangedLink, LinkChange};
+pub use networks::{succeed, with_routers};
 pub use relinking::{count_left, relink};

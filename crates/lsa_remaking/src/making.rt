@@ -1,14 +1,12 @@
 //! Bytes with some fields set again, and the LSA that they make.
 
 ghost use Rattle.std.specs.Prelude.{◌≡◌, ◌+◌, ◌≤◌, ◌<◌, ◌^◌, length, IfOk, IfErr};
-ghost use Rattle.lsa_codec.specs.Checksum.{with_checksum};
 ghost use Rattle.lsa_codec.specs.Decoding.{decoded};
 ghost use Rattle.lsa_codec.specs.Fields.{length_of, put_at};
 ghost use Rattle.lsa_remaking.specs.Making.{accepted_or_rejected, made, remeasured, IsRemakeFaultOf};
 
-use crate::checksum::checksum_of;
 use crate::fault::RemakeFault;
-use lsa_codec::{LONGEST_LSA, Lsa, LsaFault};
+use lsa_codec::{LONGEST_LSA, Lsa, LsaFault, set_checksum};
 use std::alloc::{AllocError, Allocator};
 
 /// A copy of bytes with others in place of those from an offset on.
@@ -26,18 +24,6 @@ pub(crate) fn with_field<A: Allocator + Copy>(
     copy.extend_from_slice(field)?;
     copy.extend_from_slice(&bytes[offset + field.len()..])?;
     Ok(copy)
-}
-
-/// A copy of the bytes of an LSA with its checksum set again.
-fn with_checksum<A: Allocator + Copy>(alloc: A, bytes: &[u8]) -> Result<Vec<u8, A>, AllocError>
-    requires header { 20 ≤ length bytes.now }
-    requires short { length bytes.now < 2 ^ 16 }
-    ensures made { IfOk result (λ v. v.items ≡ with_checksum bytes.now) }
-    ensures size { IfOk result (λ v. length v.items ≡ length bytes.now) }
-{
-    let bare = with_field(alloc, bytes, 16, &[0, 0])?;
-    let checksum = checksum_of(&bare[2..]);
-    with_field(alloc, bytes, 16, &checksum.to_be_bytes())
 }
 
 /// The accepted LSA of these bytes, whose length field is their number.
@@ -64,8 +50,9 @@ fn remeasured<A: Allocator + Copy>(alloc: A, bytes: &[u8]) -> Result<Vec<u8, A>,
     ensures field { IfOk result (λ v. length_of v.items ≡ length bytes.now) }
 {
     let size = bytes.len() as u16;
-    let sized = with_field(alloc, bytes, 18, &size.to_be_bytes())?;
-    with_checksum(alloc, &sized)
+    let mut sized = with_field(alloc, bytes, 18, &size.to_be_bytes())?;
+    set_checksum(&mut sized);
+    Ok(sized)
 }
 
 /// The LSA that bytes make once length and checksum are set again.

@@ -1,4 +1,4 @@
-//! Router-LSAs by the fates of their links.
+//! Router-LSAs by what becomes of their links.
 
 ghost use Rattle.std.specs.Prelude.{◌≡◌, ◌+◌, ◌≤◌, ◌<◌, ◌^◌, ◌++◌, length, take, IfOk, IfErr, OnOk, Ok, true};
 ghost use Rattle.std.specs.List.{All, flat_map};
@@ -6,10 +6,10 @@ ghost use Rattle.lsa_codec.specs.declared.link.Link.{Link};
 ghost use Rattle.lsa_codec.specs.Links.{link_length};
 ghost use Rattle.lsa_codec.specs.Making.{link_text};
 ghost use Rattle.lsa_remaking.specs.Making.{IsRemakeFaultOf};
-ghost use Rattle.lsa_remaking.specs.Relinking.{is_left, stub_text, fated_text, count_left, fated_body, relinked, relinking, IsWithin};
+ghost use Rattle.lsa_remaking.specs.Relinking.{is_left, stub_text, changed_text, count_left, changed_body, relinked, relinking, IsWithin};
 
-use crate::fate::{FatedLink, LinkFate};
 use crate::fault::RemakeFault;
+use crate::link_change::{ChangedLink, LinkChange};
 use crate::making::{remake, with_field};
 use lsa_codec::{Addr, Link, Lsa};
 use std::alloc::{AllocError, Allocator};
@@ -41,59 +41,59 @@ fn stub_text<A: Allocator + Copy>(
 }
 
 /// The bytes in place of a link.
-fn fated_text<A: Allocator + Copy>(
+fn changed_text<A: Allocator + Copy>(
     alloc: A,
     lsa: &[u8],
-    fated: FatedLink,
+    changed: ChangedLink,
 ) -> Result<Vec<u8, A>, AllocError>
-    requires { IsWithin lsa.now fated }
-    ensures { IfOk result (λ v. v.items ≡ fated_text lsa.now fated) }
+    requires { IsWithin lsa.now changed }
+    ensures { IfOk result (λ v. v.items ≡ changed_text lsa.now changed) }
 {
-    let own = link_text(lsa, fated.link);
-    match fated.fate {
-        LinkFate::Stays => Vec::from_slice(alloc, own),
-        LinkFate::Removed => Ok(Vec::new(alloc)),
-        LinkFate::Costs(metric) => with_field(alloc, own, 10, &metric.to_be_bytes()),
-        LinkFate::LeadsTo(id) => with_field(alloc, own, 0, &id.0.to_be_bytes()),
-        LinkFate::StubOf(number, mask) => stub_text(alloc, number, mask, fated.link.metric),
+    let own = link_text(lsa, changed.link);
+    match changed.change {
+        LinkChange::Stays => Vec::from_slice(alloc, own),
+        LinkChange::Removed => Ok(Vec::new(alloc)),
+        LinkChange::Costs(metric) => with_field(alloc, own, 10, &metric.to_be_bytes()),
+        LinkChange::LeadsTo(id) => with_field(alloc, own, 0, &id.0.to_be_bytes()),
+        LinkChange::StubOf(number, mask) => stub_text(alloc, number, mask, changed.link.metric),
     }
 }
 
 /// The bytes before the links, and then those in place of the links.
-fn fated_body<A: Allocator + Copy>(
+fn changed_body<A: Allocator + Copy>(
     alloc: A,
     lsa: &[u8],
-    links: &[FatedLink],
+    links: &[ChangedLink],
 ) -> Result<Vec<u8, A>, AllocError>
     requires header { 24 ≤ length lsa.now }
     requires links { All (IsWithin lsa.now) links.now }
-    ensures { IfOk result (λ v. v.items ≡ fated_body links.now lsa.now) }
+    ensures { IfOk result (λ v. v.items ≡ changed_body links.now lsa.now) }
 {
     let mut body = Vec::from_slice(alloc, &lsa[..24])?;
-    for fated in links {
-        let text = fated_text(alloc, lsa, *fated)?;
+    for changed in links {
+        let text = changed_text(alloc, lsa, *changed)?;
         body.extend_from_slice(&text)?;
     }
     Ok(body)
 }
 
 /// Whether a link is there afterwards.
-fn is_left(fated: &FatedLink) -> bool
-    ensures { result ≡ is_left fated.now.fate }
+fn is_left(changed: &ChangedLink) -> bool
+    ensures { result ≡ is_left changed.now.change }
 {
-    !matches!(fated.fate, LinkFate::Removed)
+    !matches!(changed.change, LinkChange::Removed)
 }
 
 /// How many of the links are there afterwards.
-pub fn count_left(links: &[FatedLink]) -> usize
+pub fn count_left(links: &[ChangedLink]) -> usize
     ensures { result ≡ count_left links.now }
 {
-    links.iter().filter(|fated| is_left(fated)).count()
+    links.iter().filter(|changed| is_left(changed)).count()
 }
 
-/// The router-LSA with these of its links, each by its fate, and in this order. The links that are
-/// not among them are removed; the bytes before the links stay, but for the number of links, the
-/// length and the checksum. The links are those of the LSA.
+/// The router-LSA with these of its links, each as it is changed, and in this order. The links that
+/// are not among them are removed; the bytes before the links stay, but for the number of links,
+/// the length and the checksum. The links are those of the LSA.
 ///
 /// # Errors
 ///
@@ -102,7 +102,7 @@ pub fn count_left(links: &[FatedLink]) -> usize
 pub fn relink<A: Allocator + Copy>(
     alloc: A,
     lsa: &Lsa<A>,
-    links: &[FatedLink],
+    links: &[ChangedLink],
 ) -> Result<Lsa<A>, RemakeFault>
     requires header { 24 ≤ length lsa.now }
     requires links { All (IsWithin lsa.now) links.now }
@@ -110,7 +110,7 @@ pub fn relink<A: Allocator + Copy>(
     ensures made { IfOk result (λ new. new ≡ relinked links.now lsa.now) }
     ensures fault { IfErr result (λ fault. IsRemakeFaultOf fault (relinking links.now lsa.now)) }
 {
-    let body = fated_body(alloc, lsa.bytes(), links)?;
+    let body = changed_body(alloc, lsa.bytes(), links)?;
     let count = count_left(links) as u16;
     let counted = with_field(alloc, &body, 22, &count.to_be_bytes())?;
     remake(alloc, &counted)

@@ -3,14 +3,14 @@ use Rattle.std.proofs.lemmas.Result.{IfOk-weaker, IfErr-weaker}
 use Rattle.byteorder.specs.Endian.{big_bytes}
 use Rattle.lsa_codec.specs.Fields.{put_at, put_number}
 use Rattle.lsa_remaking.specs.Making.{made, remeasured, IsRemakeFaultOf}
-use Rattle.lsa_remaking.specs.Relinking.{count_left, counted_body, fated_body}
+use Rattle.lsa_remaking.specs.Relinking.{count_left, counted_body, changed_body}
 use Rattle.lsa_remaking.proofs.relinking.relink.Goals as goal
 
 pub returns-clause-made : goal.returns-clause-made
 returns-clause-made g c =
     let links = c.args.links.now in
-    let body : c.deref.result.now ≡ fated_body links c.args.lsa.now =
-    c.deref.ensures.value ∙ c.in_ok-body.ensures ∙ ap (fated_body links) c.bytes.ensures.bytes in
+    let body : c.deref.result.now ≡ changed_body links c.args.lsa.now =
+    c.deref.ensures.value ∙ c.in_ok-body.ensures ∙ ap (changed_body links) c.bytes.ensures.bytes in
     let field = c.to_be_bytes.ensures ∙ ap (big_bytes 2) c.count_left-count.ensures in
     let counted : c.deref-2.result.now ≡ counted_body links c.args.lsa.now =
     c.deref-2.ensures.value ∙ c.in_ok-counted.ensures.put ∙ ap (λ (f : List ℕ). put_at 22 f c.deref.result.now) field
@@ -20,8 +20,8 @@ returns-clause-made g c =
 pub returns-clause-fault : goal.returns-clause-fault
 returns-clause-fault g c =
     let links = c.args.links.now in
-    let body : c.deref.result.now ≡ fated_body links c.args.lsa.now =
-    c.deref.ensures.value ∙ c.in_ok-body.ensures ∙ ap (fated_body links) c.bytes.ensures.bytes in
+    let body : c.deref.result.now ≡ changed_body links c.args.lsa.now =
+    c.deref.ensures.value ∙ c.in_ok-body.ensures ∙ ap (changed_body links) c.bytes.ensures.bytes in
     let counted : c.deref-2.result.now ≡ counted_body links c.args.lsa.now =
     c.deref-2.ensures.value ∙ c.in_ok-counted.ensures.put ∙ ap (λ (f : List ℕ). put_at 22 f c.deref.result.now)
     (c.to_be_bytes.ensures ∙ ap (big_bytes 2) c.count_left-count.ensures)

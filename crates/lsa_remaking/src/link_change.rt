@@ -4,7 +4,7 @@ use lsa_codec::{Addr, Link};
 
 /// What becomes of a link where its router-LSA is rebuilt (RFC 2328, 12.4.1).
 #[derive(Clone, Copy, Debug, PartialEq, Eq)]
-pub enum LinkFate {
+pub enum LinkChange {
     /// It stays as it is.
     Stays,
     /// It is removed.
@@ -20,9 +20,9 @@ pub enum LinkFate {
 
 /// A link of a router-LSA, with what becomes of it.
 #[derive(Clone, Copy, Debug, PartialEq, Eq)]
-pub struct FatedLink {
+pub struct ChangedLink {
     /// The link.
     pub link: Link,
     /// What becomes of it.
-    pub fate: LinkFate,
+    pub change: LinkChange,
 }
