@@ -66,7 +66,7 @@ class Calculator {
 
 const state = {
   dump: null, dumpName: '', names: new Uint8Array(), shown: null, chosen: null, selected: null, tab: 'Changes', kind: null,
-  path: null, table: null, answers: null, graph: null, audit: null, sweep: null, asked: 0, wanted: null,
+  path: null, table: null, answers: null, graph: null, audit: null, sweep: null, asked: 0, done: 0,
 };
 const calculator = new Calculator();
 let timer = null;
@@ -91,7 +91,8 @@ async function open(dump, name, { names = null, study = null, studyName = null }
     isBusy(false);
     return;
   }
-  Object.assign(state, { dump, dumpName: name, names: given.names, chosen: null, selected: null, path: null, table: null, audit: null, sweep: null });
+  const { done } = JSON.parse(text(answer.replies).split('\n').find((line) => line.includes('"word":"info"')));
+  Object.assign(state, { dump, dumpName: name, names: given.names, done, chosen: null, selected: null, path: null, table: null, audit: null, sweep: null });
   if (study !== null) editor.text.value = study;
   if (studyName) $('study-name').value = studyName;
   $('empty').hidden = true;
@@ -143,7 +144,8 @@ async function calculate(isNew) {
   const asked = ++state.asked, begun = performance.now();
   isBusy(true);
   const lines = editor.lines(), shown = shownLine(lines);
-  const { text: study, all } = withQuestions(lines, shown, { path: state.path, table: state.table });
+  const settled = state.done > 0 || lines.slice(0, shown).some(isEdit) || !!state.path || !!state.table;
+  const { text: study, all } = withQuestions(lines, shown, { path: state.path, table: state.table, settled });
   const answer = await calculator.study({ dump: state.dump, names: state.names, study: bytes(study), json: true, keepGoing: true });
   if (asked !== state.asked) return;
   if (answer.status > 1) {
@@ -375,7 +377,7 @@ function addressIn(prefix) {
 
 function showChanges() {
   const { changes } = state.answers.now;
-  if (!changes) return 'The study has no state here.';
+  if (!changes?.changes.length) return 'No router uses anything else than in the loaded database.';
   const chips = KINDS.filter((kind) => changes.counts[kind]).map((kind) => button(`${SIGNS[kind]} ${kind} ${changes.counts[kind]}`, () => {
     state.kind = state.kind === kind ? null : kind;
     showTabs();
@@ -384,7 +386,6 @@ function showChanges() {
   const rows = kept.slice(0, MOST_ROWS).map(({ change, router, prefix, now, was }) => row([
     element('b', { class: change }, `${SIGNS[change]} ${change}`), nameOf(router), prefix ?? '', costText(was), costText(now), waysText(was, nameOf), waysText(now, nameOf),
   ], prefix ? () => showPath(router, addressIn(prefix)) : () => select(router)));
-  if (!changes.changes.length) return 'No router uses anything else than in the loaded database.';
   return [
     element('div', { class: 'chips' }, chips, button('Expect this', () => add(...expectations(changes)))),
     table(['Change', 'Router', 'Prefix', 'Cost was', 'Cost now', 'Next hop was', 'Next hop now'], rows),
@@ -471,7 +472,7 @@ async function sweep() {
     const first = documents[0].counts;
     some.forEach((line, k) => {
       const counts = documents[3 * k + 2].counts;
-      run.rows.push({ line, lost: counts.lost + counts.gone - first.lost - first.gone, dearer: counts.dearer - first.dearer });
+      run.rows.push({ line, lost: counts.lost + counts.gone - first.lost - first.gone, dearer: counts.dearer });
     });
     if (state.tab === 'Sweep') showTabs();
   }
@@ -485,12 +486,12 @@ function showSweep() {
   if (!run) return button('Fail each link and each router, one after another', () => { sweep(); showTabs(); }, { id: 'sweep' });
   const most = Math.max(1, ...run.rows.map(({ lost, dearer }) => Math.max(lost, dearer)));
   const rows = [...run.rows].sort((a, b) => b.lost - a.lost || b.dearer - a.dearer).map(({ line, lost, dearer }) => row([
-    line, element('span', { class: lost ? 'lost' : 'dim' }, String(lost)), bar(lost / most, ''), element('span', { class: 'dearer' }, String(dearer)), bar(Math.max(0, dearer) / most, 'less'),
+    line, element('span', { class: lost ? 'lost' : 'dim' }, String(lost)), bar(lost / most, ''), element('span', { class: 'dearer' }, String(dearer)), bar(dearer / most, 'less'),
   ], () => add(line)));
-  return [element('div', { class: 'chips' }, run.isDone ? `${run.rows.length} failures` : `${run.rows.length} of ${run.count}`, run.isDone ? null : button('Stop', () => { state.sweep = null; showTabs(); })), table(['One more failure', 'Lost', '', 'Dearer', ''], rows)];
+  return [element('div', { class: 'chips' }, run.isDone ? `${run.rows.length} failures` : `${run.rows.length} of ${run.count}`, run.isDone ? null : button('Stop', () => { state.sweep = null; showTabs(); })), table(['One more failure', 'Lost by it', '', 'Dearer in all', ''], rows)];
 }
 
-// A bar by its width; a style sheet alone may set one, so it is made of an element of that many columns.
+// A bar of a share of 120 pixels.
 function bar(share, kind) {
   const drawn = element('span', { class: `bar ${kind}` });
   drawn.style.width = `${Math.round(120 * Math.max(0, share))}px`;

@@ -55,7 +55,8 @@ class Editor {
     if (!document.execCommand(text ? 'insertText' : 'delete', false, text || undefined)) {
       this.text.setRangeText(text, start, end, 'end');
     }
-    activeElement?.focus?.({ preventScroll: true });
+    if (activeElement === document.body) this.text.blur();
+    else activeElement?.focus?.({ preventScroll: true });
     this.on.change(this.lines());
   }
 

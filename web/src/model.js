@@ -14,6 +14,7 @@ function questions(branch, path, table) {
   return asked.map((line) => `@${branch} ${line}`);
 }
 
+const isEdit = (line) => EDITS.has(line.replace(/^\s*@[0-7]\s/, '').trim().split(/\s+/)[0]) || /^\s*(@[0-7]\s+)?(undo|redo)\s/.test(line);
 const branchOf = (line) => /^\s*@([0-7])(\s|$)/.exec(line)?.[1] ?? '0';
 
 // A study with questions before its first line and after line `shown` (0: before all). Returns the text, and for each of its

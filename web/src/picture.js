@@ -2,6 +2,11 @@
 
 const RADIUS = 15;
 const AREA_COUNT = 8;
+// With more nodes, one drawing is moved while the view moves, and the next is made once it rests.
+const MOST_MOVING = 300;
+const REST = 140;
+// How much of the picture is drawn beyond each side of what is to be seen, as a share of it.
+const MARGIN = 0.3;
 
 class Picture {
   constructor(canvas, on) {
@@ -50,6 +55,24 @@ class Picture {
     const { view } = this;
     const scale = Math.min(6, Math.max(0.02, view.scale * by));
     this.view = { scale, x: x - (x - view.x) * scale / view.scale, y: y - (y - view.y) * scale / view.scale };
+    this.move();
+  }
+
+  pan(dx, dy) {
+    this.view = { ...this.view, x: this.view.x + dx, y: this.view.y + dy };
+    this.move();
+  }
+
+  // The view has moved: a large picture is drawn once it rests.
+  move() {
+    if (this.nodes.size > MOST_MOVING && this.still) {
+      this.isMoving = true;
+      clearTimeout(this.rest);
+      this.rest = setTimeout(() => {
+        this.isMoving = false;
+        this.draw();
+      }, REST);
+    }
     this.draw();
   }
 
@@ -91,9 +114,7 @@ class Picture {
       const [dx, dy] = [event.offsetX - drag.x, event.offsetY - drag.y];
       if (!drag.moved && Math.hypot(dx, dy) < 4) return;
       Object.assign(drag, { x: event.offsetX, y: event.offsetY, moved: true });
-      this.view.x += dx;
-      this.view.y += dy;
-      this.draw();
+      this.pan(dx, dy);
     });
     canvas.addEventListener('pointerup', (event) => {
       if (drag && !drag.moved) this.on.select(this.at(event.offsetX, event.offsetY));
@@ -166,13 +187,46 @@ class Picture {
 
   drawNow() {
     const context = this.canvas.getContext('2d');
-    const style = getComputedStyle(document.documentElement);
-    const color = (name) => style.getPropertyValue(`--${name}`).trim();
     context.setTransform(this.ratio, 0, 0, this.ratio, 0, 0);
     context.clearRect(0, 0, this.width, this.height);
-    this.colors = this.colors?.theme === document.documentElement.dataset.theme ? this.colors : colorsOf(color);
+    if (this.isMoving) {
+      const { view, canvas } = this.still, scale = this.view.scale / view.scale;
+      const [x, y] = [this.view.x - scale * view.x, this.view.y - scale * view.y];
+      context.drawImage(canvas, x, y, scale * canvas.width / this.ratio, scale * canvas.height / this.ratio);
+      return;
+    }
+    if (this.nodes.size > MOST_MOVING) {
+      this.still = this.drawStill();
+      const { view, canvas } = this.still;
+      context.drawImage(canvas, this.view.x - view.x, this.view.y - view.y, canvas.width / this.ratio, canvas.height / this.ratio);
+      return;
+    }
+    this.drawIn(context);
+  }
+
+  // A drawing of what is to be seen and of what is near it, and the view of it.
+  drawStill() {
+    const { view, width, height } = this;
+    const canvas = this.still?.canvas ?? document.createElement('canvas');
+    [this.width, this.height] = [width * (1 + 2 * MARGIN), height * (1 + 2 * MARGIN)];
+    [canvas.width, canvas.height] = [this.width * this.ratio, this.height * this.ratio];
+    this.view = { ...view, x: view.x + width * MARGIN, y: view.y + height * MARGIN };
+    const context = canvas.getContext('2d');
+    context.setTransform(this.ratio, 0, 0, this.ratio, 0, 0);
+    this.drawIn(context);
+    const still = { canvas, view: this.view };
+    Object.assign(this, { view, width, height });
+    return still;
+  }
+
+  // Everything, in an order in which what matters is on top.
+  drawIn(context) {
+    if (this.colors?.theme !== document.documentElement.dataset.theme) {
+      const style = getComputedStyle(document.documentElement);
+      this.colors = colorsOf((name) => style.getPropertyValue(`--${name}`).trim());
+    }
     const usual = this.view.scale * 90;
-    this.drawAreas(context);
+    if (this.nodes.size <= MOST_MOVING) this.drawAreas(context);
     this.drawEdges(context, usual);
     this.drawPaths(context);
     this.drawNodes(context, usual);
@@ -224,7 +278,15 @@ class Picture {
       context.lineWidth = 4;
       context.stroke();
     }
-    if (usual > 52) for (const edge of this.edges.values()) this.drawCosts(context, edge);
+    if (usual > 52) for (const edge of this.edges.values()) if (this.isSeen(edge)) this.drawCosts(context, edge);
+  }
+
+  // Whether the middle of an edge is to be seen.
+  isSeen(edge) {
+    const ends = this.endsOf(edge);
+    if (!ends) return false;
+    const [x, y] = [(ends[0][0] + ends[1][0]) / 2, (ends[0][1] + ends[1][1]) / 2];
+    return x > -60 && y > -60 && x < this.width + 60 && y < this.height + 60;
   }
 
   // The costs of an edge, each near its end; one cost where both are equal.
@@ -278,7 +340,8 @@ class Picture {
 
   drawNodes(context, usual) {
     const radius = usual < 17 ? 3.5 : Math.max(6, RADIUS * Math.min(1.15, this.view.scale));
-    for (const node of this.nodes.values()) {
+    const nodes = [...this.nodes.values()];
+    for (const node of [...nodes.filter((one) => !one.failed), ...nodes.filter((one) => one.failed)]) {
       const place = this.places.get(node.id);
       if (!place) continue;
       const [x, y] = this.onScreen(place);
@@ -286,7 +349,7 @@ class Picture {
       const area = this.colors.areas[this.areaColors.get(node.areas.find((one) => one !== '0.0.0.0') ?? '0.0.0.0') ?? 0];
       context.beginPath();
       outline(context, node, x, y, radius);
-      context.fillStyle = usual < 17 ? area : this.colors.node;
+      context.fillStyle = usual >= 17 ? this.colors.node : node.failed ? this.colors.down : area;
       context.fill();
       context.strokeStyle = node.failed ? this.colors.down : area;
       context.lineWidth = node.failed ? 2 : 1.8;
