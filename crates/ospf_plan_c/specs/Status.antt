@@ -1,5 +1,5 @@
--- How calls end, and what they report.
-use Rattle.std.specs.Prelude.{ℕ}
+-- How calls end, and what they leave in their rooms.
+use Rattle.std.specs.Prelude.{◌≡◌, ℕ, List, Bool, true, false, if◌then◌else◌, length, Option}
 use Rattle.whole_run.specs.declared.fault.RunFault.{RunFault}
 use Rattle.whole_run.specs.declared.fault.RunFault.TheVariants.{Dump, Read, Write, TooLarge, OutOfMemory}
 
@@ -7,7 +7,11 @@ use Rattle.whole_run.specs.declared.fault.RunFault.TheVariants.{Dump, Read, Writ
 abbrev pub done : ℕ
 done = 0
 
--- the dump is refused
+-- so are they, but a line of the study was refused or failed
+abbrev pub not_accepted : ℕ
+not_accepted = 1
+
+-- an input is refused
 abbrev pub refused : ℕ
 refused = 3
 

@@ -5,3 +5,5 @@
 #![tactic(auto)]
 
 mod planning;
+mod status;
+mod studying;

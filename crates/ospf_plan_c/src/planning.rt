@@ -6,25 +6,11 @@ ghost use Rattle.plan_slices.specs.Room.{IsCopied};
 ghost use Rattle.plan_slices.specs.Texts.{text_if};
 ghost use Rattle.ospf_plan_c.specs.Status.{done, status_of};
 
+use crate::status::{DONE, NO_MEMORY, NO_ROOM, REFUSED, TOO_LARGE};
 use host_heap::{HostHeap, HostMemory};
 use plan_slices::{PlanTexts, Wanted, copy_text, copy_texts, fault_text, plan};
 use std::alloc::Allocator;
 use whole_run::RunFault;
-
-/// The texts are in their rooms.
-const DONE: u32 = 0;
-
-/// The dump is refused.
-const REFUSED: u32 = 3;
-
-/// An input is too long.
-const TOO_LARGE: u32 = 4;
-
-/// Memory ran out.
-const NO_MEMORY: u32 = 5;
-
-/// A room is too small.
-const NO_ROOM: u32 = 6;
 
 /// Which texts of a run are wanted.
 #[repr(C)]

@@ -11,4 +11,4 @@ mod room;
 
 pub use fault::fault_text;
 pub use planning::{PlanTexts, Wanted, copy_texts, plan};
-pub use room::copy_text;
+pub use room::{copy_text, put};

@@ -18,7 +18,7 @@ pub fn copy_text(text: &[u8], room: &mut [u8]) -> bool
 }
 
 /// Copies a text to the front of the room that there is for it.
-pub(crate) fn put(text: &[u8], room: &mut [u8])
+pub fn put(text: &[u8], room: &mut [u8])
     requires { length text.now ≤ length room.old }
     ensures { IsCopied text.now room.old room.new }
 {
