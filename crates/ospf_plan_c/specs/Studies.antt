@@ -3,13 +3,13 @@ use Rattle.std.specs.Prelude.{◌≡◌, ℕ, Bool, true, false, if◌then◌els
 use Rattle.plan_slices.specs.Room.{IsCopied}
 use Rattle.study_session.specs.declared.format.Format.{Format}
 use Rattle.study_session.specs.declared.format.Format.TheVariants.{Text, Json}
-use Rattle.study_slices.specs.Studied.{AreTextsOf}
-use Rattle.study_slices.specs.declared.studying.StudyTexts.{StudyTexts}
+use Rattle.study_slices.specs.Studied.{AreStudied}
 use Rattle.whole_study.specs.Given.{Given}
 use Rattle.whole_study.specs.Run.{has_passed}
 use Rattle.whole_study.specs.declared.fault.RunFault.{RunFault}
 use Rattle.whole_study.specs.declared.fault.RunFault.TheVariants as ends
 use Rattle.whole_study.specs.declared.running.Manner.{Manner}
+use Rattle.whole_study.specs.declared.summary.Summary.{Summary}
 use Rattle.ospf_plan_c.specs.Status.{done, not_accepted, refused, too_large, no_memory}
 use Rattle.ospf_plan_c.specs.declared.studying.StudyManner.{StudyManner}
 use Rattle.ospf_plan_c.specs.declared.studying.StudyReport.{StudyReport}
@@ -34,17 +34,25 @@ given_if false bytes = None
 
 -- the texts of a study are in their rooms, and the report has their lengths and what was counted
 pub record AreInRooms (manner : Manner) (given : Given) (replies new_replies errors new_errors left new_left : List ℕ)
-    (report : StudyReport) (status : ℕ) : Type 1 where
-  pub A : Type 0
-  pub texts : StudyTexts A
-  pub studied : AreTextsOf manner given texts
-  pub in_replies : IsCopied texts.replies.items replies new_replies
-  pub in_errors : IsCopied texts.errors.items errors new_errors
-  pub in_left : IsCopied texts.dump.items left new_left
-  pub replies_length : report.replies ≡ length texts.replies.items
-  pub errors_length : report.errors ≡ length texts.errors.items
-  pub left_length : report.dump ≡ length texts.dump.items
-  pub verdict : status ≡ (if has_passed texts.summary then done else not_accepted)
+    (report : StudyReport) (status : ℕ) : Type 0 where
+  pub replies_text : List ℕ
+  pub errors_text : List ℕ
+  pub dump_text : List ℕ
+  pub summary : Summary
+  pub studied : AreStudied manner given replies_text errors_text dump_text summary
+  pub in_replies : IsCopied replies_text replies new_replies
+  pub in_errors : IsCopied errors_text errors new_errors
+  pub in_left : IsCopied dump_text left new_left
+  pub report_is : report ≡ record {
+    replies = length replies_text;
+    errors = length errors_text;
+    dump = length dump_text;
+    lines = summary.lines;
+    refused = summary.refused;
+    expectations = summary.expectations;
+    failed = summary.failed;
+  }
+  pub verdict : status ≡ (if has_passed summary then done else not_accepted)
 
 -- the status of a run that ended early, the one of the program for the same fault; a write to memory fails for want of it
 abbrev pub study_status : {A : Type 0} → RunFault A → ℕ

@@ -1,10 +1,10 @@
 //! A run of a script.
 
-ghost use Rattle.std.specs.Prelude.{◌≡◌, ◌≢◌, ◌×◌, length};
+ghost use Rattle.std.specs.Prelude.{◌≡◌, ◌≢◌, ◌⊎◌, length};
 ghost use Rattle.whole_run.specs.Run.{run_text, final_dump, final_session};
 ghost use Rattle.plan_slices.specs.Room.{IsCopied};
-ghost use Rattle.plan_slices.specs.Texts.{text_if};
-ghost use Rattle.ospf_plan_c.specs.Status.{done, status_of};
+ghost use Rattle.plan_slices.specs.Texts.{end_text, text_if};
+ghost use Rattle.ospf_plan_c.specs.Status.{EndsEarly, done, no_room, status_of};
 
 use crate::status::{DONE, NO_MEMORY, NO_ROOM, REFUSED, TOO_LARGE};
 use host_heap::{HostHeap, HostMemory};
@@ -73,6 +73,8 @@ pub extern "C" fn ospf_plan_run(
         ≡ length (text_if wanted.now.session (final_session dump.now script.now)))) }
     ensures kept { result ≢ done → (replies.new ≡ replies.old)
         × ((out.new ≡ out.old) × (session.new ≡ session.old)) }
+    ensures ended { (result ≡ done) ⊎ ((result ≡ no_room)
+        ⊎ EndsEarly dump.now script.now result fault.old fault.new) }
 {
     let heap = HostHeap::new(memory);
     let wanted = Wanted {
@@ -130,7 +132,9 @@ fn no_texts(fault: usize) -> PlanReport
 
 /// Copies the line of a run that ended early to the room for it, where there is enough. Returns the
 /// length of the line in bytes; 0 where there is no memory for it.
-fn copy_fault<A: Allocator + Copy>(alloc: A, end: RunFault, room: &mut [u8]) -> usize {
+fn copy_fault<A: Allocator + Copy>(alloc: A, end: RunFault, room: &mut [u8]) -> usize
+    ensures { (room.new ≡ room.old) ⊎ IsCopied (end_text end) room.old room.new }
+{
     let Ok(line) = fault_text(alloc, end) else {
         return 0;
     };

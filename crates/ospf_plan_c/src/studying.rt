@@ -2,8 +2,9 @@
 
 ghost use Rattle.std.specs.Prelude.{◌≡◌, ◌<◌, ◌⊎◌, length, if◌then◌else◌, option_map};
 ghost use Rattle.study_slices.specs.Studied.{given_of};
+ghost use Rattle.whole_study.specs.Begin.{AreAccepted};
 ghost use Rattle.whole_study.specs.Run.{has_passed};
-ghost use Rattle.ospf_plan_c.specs.Status.{done, not_accepted};
+ghost use Rattle.ospf_plan_c.specs.Status.{done, not_accepted, refused};
 ghost use Rattle.ospf_plan_c.specs.Studies.{AreInRooms, format_if, given_if, manner_of, study_status};
 
 use crate::status::{DONE, NO_MEMORY, NO_ROOM, NOT_ACCEPTED, REFUSED, TOO_LARGE};
@@ -73,6 +74,9 @@ pub extern "C" fn ospf_study_run(
         (given_of dump.now (given_if manner.now.has_baseline baseline.now) names.now lines.now)
         replies.old replies.new errors.old errors.new left.old left.new report.new result }
     ensures kept { 1 < result → (replies.new ≡ replies.old) × (left.new ≡ left.old) }
+    ensures refused { result ≡ refused → AreAccepted
+        (given_of dump.now (given_if manner.now.has_baseline baseline.now) names.now lines.now)
+        → ⊥ }
 {
     let heap = HostHeap::new(memory);
     let baseline = baseline_of(manner, baseline);
@@ -136,13 +140,15 @@ fn status_of(summary: &Summary) -> u32
 
 /// The report of a study with these texts.
 fn report_of<A: Allocator>(texts: &StudyTexts<A>) -> StudyReport
-    ensures replies { result.replies ≡ length texts.now.replies.items }
-    ensures errors { result.errors ≡ length texts.now.errors.items }
-    ensures dump { result.dump ≡ length texts.now.dump.items }
-    ensures lines { result.lines ≡ texts.now.summary.lines }
-    ensures refused { result.refused ≡ texts.now.summary.refused }
-    ensures expectations { result.expectations ≡ texts.now.summary.expectations }
-    ensures failed { result.failed ≡ texts.now.summary.failed }
+    ensures { result ≡ record {
+      replies = length texts.now.replies.items;
+      errors = length texts.now.errors.items;
+      dump = length texts.now.dump.items;
+      lines = texts.now.summary.lines;
+      refused = texts.now.summary.refused;
+      expectations = texts.now.summary.expectations;
+      failed = texts.now.summary.failed;
+    } }
 {
     StudyReport {
         replies: texts.replies.len(),

@@ -6,6 +6,7 @@ use Rattle.whole_study.specs.Lines.{all_lines}
 use Rattle.whole_study.specs.Run.{Answered, Gives, dump_left, errors_of, summary_of, whole_replies}
 use Rattle.study_session.specs.Studies.{Study}
 use Rattle.whole_study.specs.declared.running.Manner.{Manner}
+use Rattle.whole_study.specs.declared.summary.Summary.{Summary}
 use Rattle.study_slices.specs.declared.studying.StudyTexts.{StudyTexts}
 
 -- the inputs of a run: one study, which is named `-` as standard input is
@@ -19,12 +20,15 @@ given_of dump baseline names study = record {
 
 -- the texts of a study that is carried out on these inputs, and what it counts: the replies to the lines that it gives, with
 -- the summary, a line for each that is not accepted, and the dump that is left, where it is wanted and all are accepted
-pub record AreTextsOf {A : Type 0} (manner : Manner) (given : Given) (texts : StudyTexts A) : Type 0 where
+pub record AreStudied (manner : Manner) (given : Given) (replies errors dump : List ℕ) (summary : Summary) : Type 0 where
   pub study : Study
   pub begins : Begins manner given study
   pub answered : List Answered
   pub gives : Gives manner.keep_going study (all_lines given.studies) answered
-  pub replies : texts.replies.items ≡ whole_replies study.format answered
-  pub errors : texts.errors.items ≡ errors_of answered
-  pub summary : texts.summary ≡ summary_of answered
-  pub dump : texts.dump.items ≡ unwrap_or (dump_left manner.wants_dump study (all_lines given.studies) answered) []
+  pub replies : replies ≡ whole_replies study.format answered
+  pub errors : errors ≡ errors_of answered
+  pub summary : summary ≡ summary_of answered
+  pub dump : dump ≡ unwrap_or (dump_left manner.wants_dump study (all_lines given.studies) answered) []
+
+abbrev pub AreTextsOf : {A : Type 0} → Manner → Given → StudyTexts A → Type 0
+AreTextsOf manner given texts = AreStudied manner given texts.replies.items texts.errors.items texts.dump.items texts.summary
