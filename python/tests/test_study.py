@@ -66,7 +66,7 @@ def test_lost_gone_and_blackholes(two_areas):
         ("2.2.2.2", "0.0.0.0/0"), ("2.2.2.2", "10.0.1.0/24"), ("2.2.2.2", "10.0.13.0/30")
     }
     assert all(pair.announced for pair in study.lost()) and len(study.gone()) == 0
-    assert {hole.router for hole in study.loops().blackholes} == {"2.2.2.2"}
+    assert {found.router for found in study.loops().blackholes} == {"2.2.2.2"}
     assert study.changes().of("lost")[0].now is None
 
 

@@ -69,7 +69,8 @@ impl Stack {
 
     /// Puts a chunk on top.
     pub(crate) fn push(self, chunk: Chunk) -> Stack
-        requires { (16 ≤ chunk.size) × (chunk.size % 16 ≡ 0) × (0 < self.count → chunk.size ≡ self.size) }
+        requires { (16 ≤ chunk.size) × (chunk.size % 16 ≡ 0)
+            × (0 < self.count → chunk.size ≡ self.size) }
         ensures { (result.size ≡ chunk.size) × (result.count ≡ self.count + 1) }
     {
         let Stack { top } = self;
@@ -84,7 +85,8 @@ impl Stack {
     /// Takes the chunk on top.
     pub(crate) fn pop(self) -> (Chunk, Stack)
         requires { 0 < self.count }
-        ensures { (result.0.size ≡ self.size) × (result.1.size ≡ self.size) × (result.1.count + 1 ≡ self.count) }
+        ensures { (result.0.size ≡ self.size) × (result.1.size ≡ self.size)
+            × (result.1.count + 1 ≡ self.count) }
     {
         let Stack { top } = self;
         let next = unsafe { (top as *mut *mut u8).read() };

@@ -63,9 +63,9 @@ impl HostHeap {
         }
     }
 
-    /// Unused memory for a request. It is `None` where no block of its size is free and what is left
-    /// of the memory is too short, where the request is above 2^40 bytes, or where it has a greater
-    /// alignment than blocks have.
+    /// Unused memory for a request. It is `None` where no block of its size is free and what is
+    /// left of the memory is too short, where the request is above 2^40 bytes, or where it has a
+    /// greater alignment than blocks have.
     pub(crate) fn take(&self, size: usize, align: usize) -> Option<Chunk>
         ensures { IfSome result (λ c. IsBlockSize size c.size × (size ≤ 2 ^ 40) × (align ≤ 16)) }
     {

@@ -1,6 +1,6 @@
 //! A run over bytes in memory.
 
-ghost use Rattle.std.specs.Prelude.{◌≡◌, [], IfErr, IfOk, IfSome, Some, false, is_some, option_map, true, unwrap_or, length, ◌<◌, ◌⊎◌};
+ghost use Rattle.std.specs.Prelude.{◌≡◌, ◌<◌, ◌⊎◌, [], IfErr, IfOk, IfSome, Some, false, is_some, length, true};
 ghost use Rattle.host_io.specs.Watched.{inner_of};
 ghost use Rattle.whole_run.specs.Streams.{has_any_failed};
 ghost use Rattle.whole_run.specs.WholeRun.{MayEndRun};
@@ -95,8 +95,8 @@ fn text_if<A: Allocator + Copy>(alloc: A, wanted: bool, text: Vec<u8, A>) -> Vec
 
 /// What a writer to memory got; nothing, where there is none.
 fn text_in<A: Allocator + Copy>(alloc: A, writer: Option<Watched<Vec<u8, A>>>) -> Vec<u8, A>
-    ensures { result.items
-        ≡ unwrap_or (option_map (λ writer. (inner_of writer).items) writer) [] }
+    ensures given { IfSome writer (λ writer. result.items ≡ (inner_of writer).items) }
+    ensures none { is_some writer ≡ false → result.items ≡ [] }
 {
     match writer {
         Some(writer) => writer.into_inner(),

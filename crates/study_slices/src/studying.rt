@@ -1,6 +1,6 @@
 //! A run of a study over bytes in memory.
 
-ghost use Rattle.std.specs.Prelude.{◌≡◌, [], IfErr, IfOk, false, option_map, unwrap_or};
+ghost use Rattle.std.specs.Prelude.{◌≡◌, [], IfErr, IfOk, IfSome, Some, false, is_some, option_map};
 ghost use Rattle.host_io.specs.Watched.{inner_of};
 ghost use Rattle.whole_run.specs.Streams.{has_any_failed};
 ghost use Rattle.whole_study.specs.Calls.{MayEndRun};
@@ -70,8 +70,8 @@ pub fn study<A: Allocator + Copy>(
 /// A reader of bytes, where they are given.
 fn reader_of<'a>(bytes: Option<&'a [u8]>) -> Option<Watched<&'a [u8]>>
     ensures open { has_any_failed result ≡ false }
-    ensures bytes { option_map (λ reader. (inner_of reader).now) result
-        ≡ option_map (λ bytes. bytes.now) bytes.entry }
+    ensures given { is_some result ≡ is_some bytes.entry }
+    ensures bytes { IfSome result (λ reader. bytes.entry ≡ Some (inner_of reader)) }
 {
     match bytes {
         Some(bytes) => Some(Watched::new(bytes)),
@@ -81,7 +81,8 @@ fn reader_of<'a>(bytes: Option<&'a [u8]>) -> Option<Watched<&'a [u8]>>
 
 /// A text, or none as an empty one.
 fn given_text<A: Allocator + Copy>(alloc: A, text: Option<Vec<u8, A>>) -> Vec<u8, A>
-    ensures { result.items ≡ unwrap_or (option_map (λ text. text.items) text) [] }
+    ensures given { IfSome text (λ text. result.items ≡ text.items) }
+    ensures none { is_some text ≡ false → result.items ≡ [] }
 {
     match text {
         Some(text) => text,

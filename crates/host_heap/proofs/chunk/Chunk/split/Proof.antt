@@ -5,7 +5,7 @@ use Rattle.host_heap.proofs.Steps.{use0, use1, use2, split, regoal, fsplit, fjoi
 use Rattle.host_heap.proofs.Steps.{and_then, first, blocks, exec, returns, enter, alloc_all, pass_all, free_all, look_at, get, get_in, sets}
 use Rattle.host_heap.proofs.Steps.{sets_last, is, env, owns, Ptr, block_ptr, in_a_block, types_at, nothing, heard, Tuple, alive, Stays}
 use Rattle.host_heap.proofs.Steps.{stay_dropped, walk_of, Goes-dropped, Goes-blank, after, pair_of, pair_val, proved_at, leaves, slot_at}
-use Rattle.host_heap.proofs.Values.{wrap_val, wrap_own, wrap_told, wrap_made}
+use Rattle.host_heap.proofs.Values.{wrap_val, wrap_own, wrap_value, wrap_made}
 use Rattle.host_heap.proofs.Memory.{cuts}
 use Rattle.host_heap.specs.Ownership.{bytes_at}
 use Rattle.host_heap.specs.contracts.chunk.Chunk as chunk
@@ -27,14 +27,14 @@ split_spec 𝓤 𝓛 𝓜 𝓡 wired =
     (λ z are.
     let Post : Val → SProp 𝓤 = (walk_of 𝓛 En₀ stays c).post z in let a = z.0.3 in let vss = z.0.4 in
     let x = a.0 in let n = a.1.0 in let fits = are.1.0.1 in let left = x.size - n in
-    let Asked : Type 0 = (n % 16 ≡ 0) × (n ≤ x.size) in let Told : Type 0 = (n ≡ n) × (left ≡ left) in
+    let Asked : Type 0 = (n % 16 ≡ 0) × (n ≤ x.size) in let Holds : Type 0 = (n ≡ n) × (left ≡ left) in
     qed 𝓛 ((raw (alive 𝓛 En₀.signature z.0.0 z.0.1) ⊛ ‵ (owns (types_at En₀.signature.params z.0.0) a vss)) ∷ raw (fact 𝓤 Asked) ∷ []) ∵
     move ! (1 ∷ []) $ heard ! Asked (λ asked. split ! $ move ! (1 ∷ []) $
     fsplit ! $ fsplit ! $ drop ! $ move ! (1 ∷ []) $ drop ! $ in_a_block ! x.ptr (λ p. bytes_at p x.size) (id⊢ 𝓤 (never 𝓤)) (λ b o at.
     let start : Ptr = block_ptr b o in let back : Ptr = block_ptr b (o + n) in
     use1 𝓛 (‵ (bytes_at start n) ⊛ ‵ (bytes_at back left)) (cuts 𝓛 b o n x.size asked.0 asked.1) $ split ! $
     regoal ! (λ (us : List Val). prop (WpFn 𝓤 H C Λ fn us Post))
-    (λ i. (wrap_told x.ptr vss.0 are.0.0 ∙ ap (λ (p : Ptr). wrap_val p ∷ []) at) i ++ (are.1.0.0 i ++ [])) refl $
+    (λ i. (wrap_value x.ptr vss.0 are.0.0 ∙ ap (λ (p : Ptr). wrap_val p ∷ []) at) i ++ (are.1.0.0 i ++ [])) refl $
     enter ! C Λ fn (wrap_val start ∷ vint w64 n ∷ []) Post $
     alloc_all ! (λ l. pass_all ! refl ((tt, (tt, tt)), ((tt, record { fits = fits }), tt)) $ let En : Env 𝓤 𝓛.H = env fn.locals l in
     sets ! (of_opd ! (get_in ! (fld ! refl (stop !)) (sub ! 0 refl (whole !)))) refl (tt, tt) $
@@ -51,5 +51,5 @@ split_spec 𝓤 𝓛 𝓜 𝓡 wired =
     use0 𝓛 (‵ (wrap_own back (wrap_val back ∷ []))) (wrap_made 𝓛 back) $ fjoin ! $ move ! (1 ∷ 0 ∷ []) $
     use2 𝓛 (‵ ((Tuple (chunk.the_row ∷ chunk.the_row ∷ [])).own_val (y, w) (pair_val (wrap_val start) (wrap_val back) ∷ [])))
     (pair_of 𝓛 chunk.the_row chunk.the_row y w (wrap_val start) (wrap_val back)) $
-    use0 𝓛 (raw (fact 𝓤 Told)) (fact_i 𝓤 Told (emp 𝓤) (refl, refl)) $ nothing ! $ nothing ! $ fjoin ! $ nothing ! $ fjoin ! $ move ! (3 ∷ 0 ∷ 2 ∷ 1 ∷ []) $
+    use0 𝓛 (raw (fact 𝓤 Holds)) (fact_i 𝓤 Holds (emp 𝓤) (refl, refl)) $ nothing ! $ nothing ! $ fjoin ! $ nothing ! $ fjoin ! $ move ! (3 ∷ 0 ∷ 2 ∷ 1 ∷ []) $
     by ! (leaves 𝓛 En₀ stays c z (pair_val (wrap_val start) (wrap_val back)) (y, w) (tt, (tt, tt)) (tt, (tt, tt)))))))

@@ -10,7 +10,7 @@ use seplogic.Ra.Ura.{Ura}
 use base.Logic.{apply∗}
 use types.Logic.{Logic}
 use types.Kit.{Item, Goal, Seq}
-use Rattle.host_heap.proofs.Values.{ptr_typed, wrap_val, wrap_own, wrap_told, wrap_made}
+use Rattle.host_heap.proofs.Values.{ptr_typed, wrap_val, wrap_own, wrap_value, wrap_made}
 use Rattle.host_heap.specs.Ownership.{units_of, bytes_at, Link, stacked}
 use Rattle.host_heap.specs.contracts.chunk.Chunk as chunk
 use Rattle.host_heap.specs.contracts.chunk.Stack as stack
@@ -42,7 +42,7 @@ pop_spec 𝓤 𝓛 𝓜 𝓡 wired =
     move ! (1 ∷ []) $ heard ! Asked (λ asked. split ! $ move ! (1 ∷ []) $
     fsplit ! $ fsplit ! $ drop ! $ move ! (1 ∷ []) $ drop ! $ topmost n ! s.count s.top asked (λ m k more at.
     let b = k.block in let o = k.start in let start : Ptr = block_ptr b o in let next = k.next in
-    regoal ! (λ (us : List Val). prop (WpFn 𝓤 H C Λ fn us Post)) (λ i. (wrap_told s.top vss.0 are.0.0 ∙ ap (λ (p : Ptr). wrap_val p ∷ []) at) i ++ []) refl $
+    regoal ! (λ (us : List Val). prop (WpFn 𝓤 H C Λ fn us Post)) (λ i. (wrap_value s.top vss.0 are.0.0 ∙ ap (λ (p : Ptr). wrap_val p ∷ []) at) i ++ []) refl $
     enter ! C Λ fn (wrap_val start ∷ []) Post $
     alloc_all ! (λ l. pass_all ! refl ((tt, (tt, tt)), tt) $ let En : Env 𝓤 𝓛.H = env fn.locals l in
     sets ! (of_opd ! (get_in ! (fld ! refl (stop !)) (sub ! 0 refl (whole !)))) refl (tt, tt) $
@@ -59,10 +59,10 @@ pop_spec 𝓤 𝓛 𝓜 𝓡 wired =
     use1 𝓛 (‵ (froom ty_ptr b o)) (𝓛.laws.at_room ty_ptr b o (ptr_val next)) $
     use2 𝓛 (‵ (bytes_at start n)) (apply∗ 𝓤 (H.room ty_ptr b o) (H.room (units_of n) b o)) $
     let y : (chunk.the_row).Denot = record { ptr = start; size = n } in let w : (stack.the_row).Denot = record { top = next; size = n; count = m } in
-    let Told : Type 0 = (n ≡ n) × (n ≡ n) × (m + 1 ≡ s.count) in
+    let Holds : Type 0 = (n ≡ n) × (n ≡ n) × (m + 1 ≡ s.count) in
     use0 𝓛 (‵ (wrap_own start (wrap_val start ∷ []))) (wrap_made 𝓛 start) $ fjoin ! $ move ! (1 ∷ []) $
     use0 𝓛 (‵ (wrap_own next (wrap_val next ∷ []))) (wrap_made 𝓛 next) $ fjoin ! $ move ! (1 ∷ 0 ∷ []) $
     use2 𝓛 (‵ ((Tuple (chunk.the_row ∷ stack.the_row ∷ [])).own_val (y, w) (pair_val (wrap_val start) (wrap_val next) ∷ [])))
     (pair_of 𝓛 chunk.the_row stack.the_row y w (wrap_val start) (wrap_val next)) $
-    use0 𝓛 (raw (fact 𝓤 Told)) (fact_i 𝓤 Told (emp 𝓤) (refl, refl, omega (arith, more))) $ nothing ! $ nothing ! $ fjoin ! $ move ! (3 ∷ 0 ∷ 2 ∷ 1 ∷ []) $
+    use0 𝓛 (raw (fact 𝓤 Holds)) (fact_i 𝓤 Holds (emp 𝓤) (refl, refl, omega (arith, more))) $ nothing ! $ nothing ! $ fjoin ! $ move ! (3 ∷ 0 ∷ 2 ∷ 1 ∷ []) $
     by ! (leaves 𝓛 En₀ stays c z (pair_val (wrap_val start) (wrap_val next)) (y, w) (tt, tt) (tt, tt))))))

@@ -6,7 +6,7 @@ use Rattle.host_heap.proofs.Steps.{agg, stop, fld, init, of_opd, no_more, and_th
 use Rattle.host_heap.proofs.Steps.{alloc_all, pass_all, free_all, look_at, get, get_in, through, sets, env, owns, Ptr, block_ptr, ptr_val}
 use Rattle.host_heap.proofs.Steps.{in_a_block, types_at, nothing, heard, alive, Stays, stay_dropped, walk_of, Goes-blank, after, and_tt}
 use Rattle.host_heap.proofs.Steps.{proved_at, leaves, slot_at}
-use Rattle.host_heap.proofs.Values.{ptr_typed, wrap_val, wrap_own, wrap_told, wrap_made}
+use Rattle.host_heap.proofs.Values.{ptr_typed, wrap_val, wrap_own, wrap_value, wrap_made}
 use Rattle.host_heap.proofs.Memory.{retypes, restacked}
 use Rattle.host_heap.specs.Ownership.{units_of, bytes_at, Link, linked, stacked}
 use Rattle.host_heap.specs.contracts.chunk.Stack as stack
@@ -37,7 +37,7 @@ push_spec 𝓤 𝓛 𝓜 𝓡 wired =
     use1 𝓛 (‵ (froom ty_ptr b o) ⊛ ‵ (fwand (froom ty_ptr b o) (froom (units_of n) b o)))
     (retypes 𝓛 b ty_ptr o n asked.1 (omega (arith, asked.0)) tt) $ split ! $
     regoal ! (λ (us : List Val). prop (WpFn 𝓤 H C Λ fn us Post))
-    (λ i. wrap_told top vss.0 are.0.0 i ++ ((wrap_told x.ptr vss.1.0 are.1.0.0 ∙ ap (λ (p : Ptr). wrap_val p ∷ []) at) i ++ [])) refl $
+    (λ i. wrap_value top vss.0 are.0.0 i ++ ((wrap_value x.ptr vss.1.0 are.1.0.0 ∙ ap (λ (p : Ptr). wrap_val p ∷ []) at) i ++ [])) refl $
     enter ! C Λ fn (wrap_val top ∷ wrap_val start ∷ []) Post $
     alloc_all ! (λ l. pass_all ! refl ((and_tt _ ((ptr_typed top).0), ((ptr_typed top).1, tt)), ((tt, (tt, tt)), tt)) $ let En : Env 𝓤 𝓛.H = env fn.locals l in
     sets ! (of_opd ! (get_in ! (fld ! refl (stop !)) (sub ! 0 refl (whole !)))) refl (ptr_typed top) $
@@ -50,11 +50,11 @@ push_spec 𝓤 𝓛 𝓜 𝓡 wired =
     returns ! (look_at ! 0 refl) $ free_all ! refl $
     -- [the address in the chunk; the way back; the stack; the tokens]
     let k : Link = record { block = b; start = o; next = top } in
-    let y : (stack.the_row).Denot = record { top = start; size = n; count = suc s.count } in let Told : Type 0 = (n ≡ n) × (suc s.count ≡ s.count + 1) in
+    let y : (stack.the_row).Denot = record { top = start; size = n; count = suc s.count } in let Holds : Type 0 = (n ≡ n) × (suc s.count ≡ s.count + 1) in
     fjoin ! $ fpack ! (start ≡ block_ptr b o) (λ _. fsep (fat full_share ty_ptr b o (ptr_val top)) (fwand (froom ty_ptr b o) (froom (units_of n) b o))) refl $
     move ! (1 ∷ []) $ use1 𝓛 (‵ (stacked n s.count top)) (restacked 𝓛 s.count s.size n top asked.2) $ move ! (1 ∷ 0 ∷ []) $ fjoin ! $
     fpack ! Link (λ j. fsep (linked n start j) (stacked n s.count j.next)) k $
     use0 𝓛 (‵ (wrap_own start (wrap_val start ∷ []))) (wrap_made 𝓛 start) $ fjoin ! $
-    use0 𝓛 (raw (fact 𝓤 Told)) (fact_i 𝓤 Told (emp 𝓤) (refl, omega arith)) $ nothing ! $ nothing ! $ fjoin ! $ nothing ! $ fjoin ! $
+    use0 𝓛 (raw (fact 𝓤 Holds)) (fact_i 𝓤 Holds (emp 𝓤) (refl, omega arith)) $ nothing ! $ nothing ! $ fjoin ! $ nothing ! $ fjoin ! $
     move ! (3 ∷ 0 ∷ 2 ∷ 1 ∷ []) $
     by ! (leaves 𝓛 En₀ stays c z (wrap_val start) y (tt, (tt, tt)) (tt, (tt, tt)))))))

@@ -26,7 +26,7 @@ use Rattle.core.proofs.alloc.Calls.{Answer, answer_val, Answer-Ok, Answer-err}
 use Rattle.core.proofs.alloc.Shapes.{head, arm_body}
 use Rattle.core.proofs.atomic.Steps.{fm}
 use Rattle.core.specs.contracts.option.Option as option
-use Rattle.host_heap.proofs.Values.{wrap_val, wrap_own, wrap_told}
+use Rattle.host_heap.proofs.Values.{wrap_val, wrap_own, wrap_value}
 use Rattle.host_heap.proofs.Memory.{hands_out}
 use Rattle.host_heap.specs.Ownership.{bytes_at, IsBlockSize, block_token}
 use Rattle.host_heap.specs.contracts.chunk.Chunk as chunk
@@ -41,8 +41,8 @@ use Rattle.host_heap.proofs.heap.HostHeapAllocator.allocate.Code as compiled
 abbrev Taken : RattleType
 Taken = option.the_row chunk.the_row
 
-abbrev Told : ℕ → ℕ → Taken.Denot → Type 0
-Told n a x = IfSome x (λ c. IsBlockSize n c.size × (n ≤ 2 ^ 40) × (a ≤ 16))
+abbrev Holds : ℕ → ℕ → Taken.Denot → Type 0
+Holds n a x = IfSome x (λ c. IsBlockSize n c.size × (n ≤ 2 ^ 40) × (a ≤ 16))
 
 module _ {M : Type 1} {𝓤 : Ura M} (𝓛 : Logic 𝓤) where
   open 𝓛 use {H}
@@ -52,19 +52,19 @@ module _ {M : Type 1} {𝓤 : Ura M} (𝓛 : Logic 𝓤) where
 
 module _ {M : Type 1} {𝓤 : Ura M} {𝓛 : Logic 𝓤} {K : Type 0} {Γ : List (Item 𝓤)} {G : Goal 𝓤 𝓛.H} where
   -- the two cases of what `take` gave
-  taken : K → (n a : ℕ) (x : Taken.Denot) (v : Val) → Told n a x
+  taken : K → (n a : ℕ) (x : Taken.Denot) (v : Val) → Holds n a x
       → ((b o m : ℕ) → IsBlockSize n m → n ≤ 2 ^ 40 → v ≡ live 1 (vcons (wrap_val (block_ptr b o)) vnil) → Seq K 𝓛 (‵ (bytes_at (block_ptr b o) m) ∷ Γ) G)
       → (v ≡ live 0 vnil → Seq K 𝓛 Γ G) → Seq K 𝓛 (‵ (Taken.own_val x (v ∷ [])) ∷ Γ) G
-  taken t n a None v told one none =
+  taken t n a None v holds one none =
       fpick t (λ us. fsplit t $ feq_l t
       (λ is. fpick t (λ vss. fsplit t $ feq_l t (λ is'. drop t $ none (ap only is ∙ ap (λ (ws : List Val). live 0 (of_list ws)) is')))))
-  taken t n a (Some w) v told one none =
+  taken t n a (Some w) v holds one none =
       fpick t (λ us. fsplit t $ feq_l t
       (λ is. fpick t (λ vss. fsplit t $
       feq_l t (λ is'. fsplit t $ move t (1 ∷ []) $ drop t $ fsplit t $ pure_l t (wrap_own w.ptr vss.0) (λ s.
       in_a_block t w.ptr (λ p. bytes_at p w.size) (id⊢ 𝓤 (never 𝓤)) (λ b o at.
-      one b o w.size told.0 told.1
-      (ap only is ∙ ap (λ (xs : List Val). live 1 (of_list xs)) (is' ∙ ap (λ (xs : List Val). xs ++ []) (wrap_told w.ptr vss.0 s)) ∙
+      one b o w.size holds.0 holds.1
+      (ap only is ∙ ap (λ (xs : List Val). live 1 (of_list xs)) (is' ∙ ap (λ (xs : List Val). xs ++ []) (wrap_value w.ptr vss.0 s)) ∙
       (λ i. live 1 (vcons (wrap_val (at i)) vnil)))))))))
 
 pub allocate_spec : {M : Type 1} → statement M
@@ -88,22 +88,22 @@ allocate_spec 𝓤 𝓛 𝓜 𝓡 wired =
     let k = triple_of 𝓛 callee.signature (callee.spec 𝓛 𝓜.mem 𝓡.returns) in
     let vs : List Val = vptr a.0.ref_ptr.0 a.0.ref_ptr.1 ∷ vint w64 n ∷ vint w64 al ∷ [] in
     let y : k.Ghost = ((z.0.0, z.0.1, z.0.2, a, vss), tt) in
-    let told : k.args y ≡ vs = λ i. are.0.0 i ++ (are.1.0.0 i ++ (are.1.1.0.0 i ++ [])) in
+    let holds : k.args y ≡ vs = λ i. are.0.0 i ++ (are.1.0.0 i ++ (are.1.1.0.0 i ++ [])) in
     let Asked : Type 0 = (capped (size τ) ≡ n) × (capped (align τ) ≡ al) in
     qed 𝓛 ((raw (alive 𝓛 En₀.signature z.0.0 z.0.1) ⊛ ‵ (owns (types_at En₀.signature.params z.0.0) a vss)) ∷ raw (fact 𝓤 Asked) ∷ []) ∵
     move ! (1 ∷ []) $ heard ! Asked (λ asked. split ! $ move ! (1 ∷ []) $
     move ! (1 ∷ 0 ∷ []) $ join ! $ nothing ! $ move ! (1 ∷ 0 ∷ []) $ join ! $ use1 𝓛 (raw (k.pre y)) (id⊢ 𝓤 _) $
-    regoal ! (λ (us : List Val). prop (WpFn 𝓤 H C Λ fn us Post)) told refl $
+    regoal ! (λ (us : List Val). prop (WpFn 𝓤 H C Λ fn us Post)) holds refl $
     enter ! C Λ fn vs Post $
     alloc_all ! (λ l. pass_all ! refl ((tt, tt), ((tt, record { fits = are.1.0.1 }), ((tt, record { fits = are.1.1.0.1 }), tt))) $
     let En : Env 𝓤 𝓛.H = env fn.locals l in
     calls_from ! (fm 𝓛 𝓜 𝓡) (raw (k.pre y)) vs (k.post y)
-    (subst (λ (us : List Val). ent 𝓤 (k.pre y) (C take_key.name us (k.post y))) told
+    (subst (λ (us : List Val). ent 𝓤 (k.pre y) (C take_key.name us (k.post y))) holds
     (takes 𝓤 𝓛 𝓜 𝓡 (compiled.calls-host_heap::heap::HostHeap::take 𝓡.env wired) y))
     (and_then ! (get ! refl) (and_then ! (get ! refl) (and_then ! (get ! refl) (no_more !)))) (λ v.
     use1 𝓛 (later (some (λ (x : Taken.Denot). (raw (alive 𝓛 En₀.signature z.0.0 z.0.1) ⊛ ‵ (Taken.own_val x (v ∷ []))) ⊛
-    some (λ (ls : Lasts callee.ended z.0.0 a). ‵ (lasts callee.ended z.0.0 a ls) ⊛ raw (fact 𝓤 (Told n al x)))))) (id⊢ 𝓤 (k.post y v)) $
-    await ! tt $ pick ! (λ x. split ! $ move ! (1 ∷ []) $ pick ! (λ _. split ! $ drop ! $ heard ! (Told n al x) (λ said. split ! $ move ! (1 ∷ []) $
+    some (λ (ls : Lasts callee.ended z.0.0 a). ‵ (lasts callee.ended z.0.0 a ls) ⊛ raw (fact 𝓤 (Holds n al x)))))) (id⊢ 𝓤 (k.post y v)) $
+    await ! tt $ pick ! (λ x. split ! $ move ! (1 ∷ []) $ pick ! (λ _. split ! $ drop ! $ heard ! (Holds n al x) (λ said. split ! $ move ! (1 ∷ []) $
     taken ! n al x v said
     (λ b o m block small e. let p : Ptr = block_ptr b o in
     use1 𝓛 (‵ (froom τ b o) ⊛ ‵ (block_token τ p)) (hands_out 𝓛 b τ o n m asked.0 block small) $
