@@ -25,10 +25,10 @@ pub record AreStudied (manner : Manner) (given : Given) (replies errors dump : L
   pub begins : Begins manner given study
   pub answered : List Answered
   pub gives : Gives manner.keep_going study (all_lines given.studies) answered
-  pub replies : replies ≡ whole_replies study.format answered
-  pub errors : errors ≡ errors_of answered
-  pub summary : summary ≡ summary_of answered
-  pub dump : dump ≡ unwrap_or (dump_left manner.wants_dump study (all_lines given.studies) answered) []
+  pub replies_are : replies ≡ whole_replies study.format answered
+  pub errors_are : errors ≡ errors_of answered
+  pub summary_is : summary ≡ summary_of answered
+  pub dump_is : dump ≡ unwrap_or (dump_left manner.wants_dump study (all_lines given.studies) answered) []
 
 abbrev pub AreTextsOf : {A : Type 0} → Manner → Given → StudyTexts A → Type 0
 AreTextsOf manner given texts = AreStudied manner given texts.replies.items texts.errors.items texts.dump.items texts.summary
