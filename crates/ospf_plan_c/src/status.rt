@@ -1,0 +1,16 @@
+//! How calls end: 0 to 5 are the statuses of the programs.
+
+/// The texts are in their rooms.
+pub(crate) const DONE: u32 = 0;
+
+/// The dump is refused.
+pub(crate) const REFUSED: u32 = 3;
+
+/// An input is too long.
+pub(crate) const TOO_LARGE: u32 = 4;
+
+/// Memory ran out.
+pub(crate) const NO_MEMORY: u32 = 5;
+
+/// A room is too small.
+pub(crate) const NO_ROOM: u32 = 6;
