@@ -14,9 +14,9 @@ text_if false text = []
 
 -- the texts that are wanted of what a script writes on a dump
 pub record AreTextsOf {A : Type 0} (dump script : List ℕ) (wanted : Wanted) (texts : PlanTexts A) : Type 0 where
-  pub replies : texts.replies.items ≡ text_if wanted.replies (run_text dump script)
-  pub dump : texts.dump.items ≡ text_if wanted.dump (final_dump dump script)
-  pub session : texts.session.items ≡ text_if wanted.session (final_session dump script)
+  pub replies_are : texts.replies.items ≡ text_if wanted.replies (run_text dump script)
+  pub dump_is : texts.dump.items ≡ text_if wanted.dump (final_dump dump script)
+  pub session_is : texts.session.items ≡ text_if wanted.session (final_session dump script)
 
 -- ---- faults
 
