@@ -151,13 +151,12 @@ def at_end(router: bytes, neighbor: bytes, host: bytes):
     """Chooses the links of the neighbor at the other end of the interface with an address."""
     def choose(_place: int, lsas):
         links = links_in(lsas, router)
-        for at in places_to(lsas, router, neighbor):
-            if links[at][4:8] == host:
-                ends = far_ends(lsas, router, at)
-                if len(ends) > 1 or any(len(far_ends(lsas, neighbor, end)) > 1 for end in ends):
-                    raise Refused("UnclearEnd")
-                for end in ends:
-                    yield from places_of(lsas, neighbor, end)
+        owns = [at for at in places_to(lsas, router, neighbor) if links[at][4:8] == host]
+        ends = [end for at in owns for end in far_ends(lsas, router, at)]
+        if len(owns) > 1 or len(ends) > 1 or any(len(far_ends(lsas, neighbor, end)) > 1 for end in ends):
+            raise Refused("UnclearEnd")
+        for end in ends:
+            yield from places_of(lsas, neighbor, end)
     return choose
 
 

@@ -1,3 +1,6 @@
 mod AreasStay
 mod Gathered
-mod Rebuilding
+mod RouterLinks
+mod Turns
+mod Walked
+mod Leads

@@ -1,6 +1,6 @@
 -- The links that describe an interface in its router's LSA, and those of the interfaces between two routers (RFC 2328, 12.4.1.1).
-use Rattle.std.specs.Prelude.{ℕ, ◌==◌, ◌&&◌, ◌||◌, not, Bool, nat_le, List, [], ◌∷◌, length, filter, map, option_to_list}
-use Rattle.std.specs.List.{flat_map, list_all, list_any}
+use Rattle.std.specs.Prelude.{ℕ, ◌==◌, ◌&&◌, not, Bool, true, false, nat_le, List, [], ◌∷◌, length, filter, map, option_to_list}
+use Rattle.std.specs.List.{flat_map}
 use Rattle.lsa_codec.specs.declared.address.Addr.{Addr}
 use Rattle.lsa_codec.specs.declared.address.AreaId.{AreaId}
 use Rattle.lsa_codec.specs.declared.address.RouterId.{RouterId}
@@ -8,10 +8,10 @@ use Rattle.lsa_codec.specs.declared.link.Link.{Link}
 use Rattle.lsa_codec.specs.Links.{has_cost}
 use Rattle.lsdb.specs.Lists.{Lists}
 use Rattle.interfaces.specs.declared.interface.Interface.{Interface}
-use Rattle.interfaces.specs.FarEnds.{far_ends, far_ends_in, links_back, stub_between}
+use Rattle.interfaces.specs.FarEnds.{far_ends_in, links_back, stub_between}
 use Rattle.interfaces.specs.Interfaces.{has_addr}
 use Rattle.interfaces.specs.Routers.{interfaces_in}
-use Rattle.event_lsas.specs.Outcomes.{Choice, is_among}
+use Rattle.event_lsas.specs.Outcomes.{is_among}
 
 -- the links of an interface with these far ends: its own, and right after it the stub link of its network, where that has the
 -- address of the interface or of a far end
@@ -22,6 +22,10 @@ links_of_interface ends own = own.link ∷ option_to_list (stub_between own ends
 abbrev pub links_of_interfaces : Lists → AreaId → RouterId → List Interface → List Link
 links_of_interfaces db area router chosen = flat_map (λ own. links_of_interface (far_ends_in db area router own) own) chosen
 
+-- the stub links of the point-to-point interfaces among these
+abbrev pub stubs_between : Lists → AreaId → RouterId → List Interface → List Link
+stubs_between db area router owns = flat_map (λ own. option_to_list (stub_between own (far_ends_in db area router own))) owns
+
 -- ---- between two routers
 
 -- the interfaces of a router with a point-to-point link to a neighbor
@@ -29,8 +33,8 @@ abbrev pub interfaces_to : Lists → AreaId → RouterId → RouterId → List I
 interfaces_to db area router neighbor = links_back neighbor (interfaces_in db area router)
 
 -- the links of all interfaces of a router to a neighbor
-abbrev pub links_to : Lists → RouterId → RouterId → Choice
-links_to db router neighbor area = links_of_interfaces db area router (interfaces_to db area router neighbor)
+abbrev pub links_to : Lists → AreaId → RouterId → RouterId → List Link
+links_to db area router neighbor = links_of_interfaces db area router (interfaces_to db area router neighbor)
 
 -- the link of an interface is one to a router or to a transit network, and has this address, or this index where it is
 -- unnumbered (A.4.2)
@@ -45,33 +49,36 @@ interfaces_to_at db area router neighbor address = filter (has_own_addr address)
 abbrev pub ends_of : Lists → AreaId → RouterId → List Interface → List Interface
 ends_of db area router owns = flat_map (far_ends_in db area router) owns
 
--- an interface has at most one far end, and that at most one: parallel links without addresses may look the same
-abbrev pub is_clear : Lists → AreaId → RouterId → RouterId → Interface → Bool
-is_clear db area router neighbor own =
-    let ends = far_ends_in db area router own in
-    nat_le (length ends) 1 && list_all (λ end. nat_le (length (far_ends_in db area neighbor end)) 1) ends
+-- an interface of the neighbor has at most one far end itself: parallel links without addresses may look the same
+abbrev pub is_only_end : Lists → AreaId → RouterId → List Interface → Bool
+is_only_end db area neighbor [] = true
+is_only_end db area neighbor (end ∷ []) = nat_le (length (far_ends_in db area neighbor end)) 1
+is_only_end db area neighbor (end ∷ other ∷ ends) = false
 
--- the links of the interface of a router to a neighbor with this address, and those at its other end
-abbrev pub links_to_at : Lists → RouterId → RouterId → Addr → Choice
-links_to_at db router neighbor address area = links_of_interfaces db area router (interfaces_to_at db area router neighbor address)
-
-abbrev pub links_from_end : Lists → RouterId → RouterId → Addr → Choice
-links_from_end db router neighbor address area =
-    links_of_interfaces db area neighbor (ends_of db area router (interfaces_to_at db area router neighbor address))
+-- at most one of these interfaces of a router, and at most one at its other end
+abbrev pub is_clear : Lists → AreaId → RouterId → RouterId → List Interface → Bool
+is_clear db area router neighbor [] = true
+is_clear db area router neighbor (own ∷ []) = is_only_end db area neighbor (far_ends_in db area router own)
+is_clear db area router neighbor (own ∷ other ∷ owns) = false
 
 -- ---- by an address alone
 
 -- the links of the interfaces of a router with this address, to a router or to a transit network
-abbrev pub links_at : Lists → RouterId → Addr → Choice
-links_at db router address area = links_of_interfaces db area router (filter (has_own_addr address) (interfaces_in db area router))
+abbrev pub links_at : Lists → AreaId → RouterId → Addr → List Link
+links_at db area router address = links_of_interfaces db area router (filter (has_own_addr address) (interfaces_in db area router))
 
--- the links to stub networks that have an address, but for those of point-to-point interfaces (12.4.1.1)
-abbrev pub stubs_at : Lists → RouterId → Addr → Choice
-stubs_at db router address area =
-    let owns = interfaces_in db area router in
-    let paired = flat_map (λ own. option_to_list (stub_between own (far_ends_in db area router own))) owns in
-    filter (λ link. has_addr link address && not (is_among paired link)) (map (λ own. own.link) owns)
+-- a link to a stub network that has an address, but for those of point-to-point interfaces (12.4.1.1)
+abbrev pub is_stub_at : List Link → Addr → Link → Bool
+is_stub_at paired address link = has_addr link address && not (is_among paired link)
 
--- of these links those of the longest mask, where no other area has a longer one
-abbrev pub longest_of : List Link → List Link → List Link
-longest_of everywhere links = filter (λ link. list_all (λ other. nat_le other.link_data.0 link.link_data.0) everywhere) links
+-- the links of a router
+abbrev pub links_in : Lists → AreaId → RouterId → List Link
+links_in db area router = map (λ own. own.link) (interfaces_in db area router)
+
+abbrev pub stubs_at : Lists → AreaId → RouterId → Addr → List Link
+stubs_at db area router address =
+    filter (is_stub_at (stubs_between db area router (interfaces_in db area router)) address) (links_in db area router)
+
+-- the links to routers and transit networks
+abbrev pub transit_links : Lists → AreaId → RouterId → List Link
+transit_links db area router = filter (λ link. has_cost link.kind) (links_in db area router)

@@ -1,5 +1,6 @@
+pub mod Faults
 pub mod Outcomes
 pub mod Interfaces
-pub mod Links
-pub mod Networks
-pub mod Events
+pub mod Selections
+pub mod LinkEvents
+pub mod steps

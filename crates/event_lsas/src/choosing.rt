@@ -1,11 +1,10 @@
 //! The links of a router's interfaces, chosen by neighbor or by address.
 
-ghost use Rattle.std.specs.Prelude.{◌≡◌, ◌++◌, IfOk, OnOk, filter};
+ghost use Rattle.std.specs.Prelude.{◌≡◌, ◌++◌, IfOk, OnOk, filter, option_to_list};
 ghost use Rattle.lsa_codec.specs.Making.{leads_to};
 ghost use Rattle.lsdb.specs.Slots.{lists_of};
-ghost use Rattle.interfaces.specs.Routers.{interfaces_in};
-ghost use Rattle.event_lsas.specs.Interfaces.{links_of_interface, links_of_interfaces, interfaces_to, has_own_addr, ends_of};
-ghost use Rattle.event_lsas.specs.Links.{transit_links};
+ghost use Rattle.interfaces.specs.FarEnds.{stub_between};
+ghost use Rattle.event_lsas.specs.Interfaces.{links_of_interface, links_of_interfaces, stubs_between, interfaces_to, has_own_addr, ends_of};
 
 use interfaces::{Interface, far_ends_in, interfaces_in, stub_between};
 use lsa_codec::{Addr, AreaId, Link, LinkKind, RouterId};
@@ -31,11 +30,7 @@ fn add_links_of<A: Allocator + Copy>(
 
 /// The links of some interfaces of a router in an area: of each its own link, and the stub link of
 /// its network.
-///
-/// # Errors
-///
-/// Memory ran out.
-pub fn links_of_interfaces<A: Allocator + Copy>(
+pub(crate) fn links_of_interfaces<A: Allocator + Copy>(
     alloc: A,
     database: &Database<A>,
     area: AreaId,
@@ -69,11 +64,7 @@ fn has_own_addr(own: Interface, address: Addr) -> bool
 }
 
 /// The interfaces of a router to a neighbor, in an area: those with a point-to-point link to it.
-///
-/// # Errors
-///
-/// Memory ran out.
-pub fn interfaces_to<A: Allocator + Copy>(
+pub(crate) fn interfaces_to<A: Allocator + Copy>(
     alloc: A,
     database: &Database<A>,
     area: AreaId,
@@ -92,11 +83,7 @@ pub fn interfaces_to<A: Allocator + Copy>(
 
 /// Those of some interfaces that lead to a router or to a transit network and have this address, or
 /// this index where they are unnumbered.
-///
-/// # Errors
-///
-/// Memory ran out.
-pub fn with_own_addr<A: Allocator + Copy>(
+pub(crate) fn with_own_addr<A: Allocator + Copy>(
     alloc: A,
     owns: &[Interface],
     address: Addr,
@@ -110,16 +97,12 @@ pub fn with_own_addr<A: Allocator + Copy>(
 }
 
 /// The interfaces at the other ends of some interfaces of a router in an area.
-///
-/// # Errors
-///
-/// Memory ran out.
-pub fn ends_of<A: Allocator + Copy>(
+pub(crate) fn ends_of<A: Allocator + Copy>(
     alloc: A,
     database: &Database<A>,
-    owns: &[Interface],
     area: AreaId,
     router: RouterId,
+    owns: &[Interface],
 ) -> Result<Vec<Interface, A>, AllocError>
     ensures { IfOk result (λ v. v.items
         ≡ ends_of (lists_of database.now) area router owns.now) }
@@ -132,23 +115,37 @@ pub fn ends_of<A: Allocator + Copy>(
     Ok(found)
 }
 
-/// The links of a router to routers and transit networks, in an area.
-///
-/// # Errors
-///
-/// Memory ran out.
-pub fn transit_links<A: Allocator + Copy>(
+/// Adds the stub link of an interface with these far ends, where it has the address of one of them
+/// or of the interface.
+fn add_stub_of<A: Allocator + Copy>(
+    stubs: &mut Vec<Link, A>,
+    own: Interface,
+    ends: &[Interface],
+) -> Result<(), AllocError>
+    ensures { OnOk result
+        (stubs.new.items ≡ stubs.old.items ++ option_to_list (stub_between own ends.now)) }
+{
+    if let Some(stub) = stub_between(own, ends) {
+        stubs.push(stub)?;
+    }
+    Ok(())
+}
+
+/// The stub links of the point-to-point interfaces among those of a router in an area.
+pub(crate) fn stubs_between<A: Allocator + Copy>(
     alloc: A,
     database: &Database<A>,
     area: AreaId,
     router: RouterId,
+    owns: &[Interface],
 ) -> Result<Vec<Link, A>, AllocError>
     ensures { IfOk result (λ v. v.items
-        ≡ transit_links (lists_of database.now) router area) }
+        ≡ stubs_between (lists_of database.now) area router owns.now) }
 {
-    let owns = interfaces_in(alloc, database, area, router)?;
-    owns.iter()
-        .map(|own| own.link)
-        .filter(|link| link.kind.has_cost())
-        .collect(alloc)
+    let mut stubs = Vec::new(alloc);
+    for own in owns {
+        let ends = far_ends_in(alloc, database, area, router, *own)?;
+        add_stub_of(&mut stubs, *own, &ends)?;
+    }
+    Ok(stubs)
 }

@@ -1,11 +1,11 @@
-//! Events: what happens to links, interfaces and routers.
+//! Events: what happens to links and interfaces.
 
-use lsa_codec::{Addr, Prefix, RouterId};
+use lsa_codec::{Addr, RouterId};
 
-/// What happens to a network: each event changes all LSAs that its routers would originate again,
-/// but for the summaries of border routers (RFC 2328, 12.4).
+/// What happens to the links of routers and to the costs of their interfaces. Each event changes
+/// the router-LSAs that its routers would originate again (RFC 2328, 12.4.1), and no other LSAs.
 #[derive(Clone, Copy, Debug, PartialEq, Eq)]
-pub enum Event {
+pub enum LinkEvent {
     /// All point-to-point links between two routers go, at both ends.
     CutLinks {
         /// One router.
@@ -22,15 +22,8 @@ pub enum Event {
         /// The address of the interface of either router, or its index where it is unnumbered.
         address: Addr,
     },
-    /// The interface of a router to a transit network goes.
-    CutNetwork {
-        /// The router.
-        router: RouterId,
-        /// The prefix of the network.
-        network: Prefix,
-    },
     /// The interfaces of a router to a neighbor get a cost.
-    CostTo {
+    SetCost {
         /// The router.
         router: RouterId,
         /// The neighbor.
@@ -41,7 +34,7 @@ pub enum Event {
         both: bool,
     },
     /// The interface of a router with an address gets a cost.
-    CostAt {
+    SetCostAt {
         /// The router.
         router: RouterId,
         /// The address of the interface, or its index where it is unnumbered.
@@ -51,11 +44,6 @@ pub enum Event {
     },
     /// The links of a router to routers and transit networks get the greatest cost (RFC 6987).
     Drain {
-        /// The router.
-        router: RouterId,
-    },
-    /// A router fails.
-    Fail {
         /// The router.
         router: RouterId,
     },

@@ -1,6 +1,12 @@
 //! Why events are refused.
 
-use lsa_codec::{Addr, Prefix, RouterId};
+ghost use Rattle.std.specs.Prelude.{◌≡◌, true};
+ghost use Rattle.event_lsas.specs.declared.fault.EventFault.TheVariants as faults;
+ghost use Rattle.event_lsas.specs.Faults.{is_late};
+
+use lsa_codec::{Addr, RouterId};
+use lsa_remaking::RemakeFault;
+use std::alloc::AllocError;
 use thiserror::Error;
 
 /// Why an event is refused. The database is unchanged.
@@ -18,14 +24,35 @@ pub enum EventFault {
     /// The router has no such interface with this address.
     #[error("NoInterface")]
     NoInterface(RouterId, Addr),
-    /// The router has an interface with this address, and which one of its neighbor's is at the
-    /// other end is not known: parallel links without addresses look the same.
+    /// Which link the router's interface with this address has is not known: several have the
+    /// address, or parallel links without addresses look the same.
     #[error("UnclearEnd")]
     UnclearEnd(RouterId, Addr),
-    /// The router has no link to a transit network of this prefix.
-    #[error("NotOnNetwork")]
-    NotOnNetwork(RouterId, Prefix),
     /// A link to a router or to a transit network would have cost 0 (RFC 2328, C.3).
     #[error("ZeroCost")]
     ZeroCost,
+    /// An LSA that the event changes could not be rebuilt.
+    #[error("{0}")]
+    NotMade(RemakeFault),
+    /// Memory ran out before another fault was found.
+    #[error("OutOfMemory")]
+    OutOfMemory,
+}
+
+impl From<AllocError> for EventFault {
+    ghost from_gives = { λ _ e. e ≡ faults.OutOfMemory };
+
+    fn from(_e: AllocError) -> EventFault {
+        EventFault::OutOfMemory
+    }
+}
+
+/// The fault where an LSA could not be rebuilt.
+pub(crate) fn of_remaking(fault: RemakeFault) -> EventFault
+    ensures { is_late result ≡ true }
+{
+    match fault {
+        RemakeFault::OutOfMemory => EventFault::OutOfMemory,
+        other => EventFault::NotMade(other),
+    }
 }

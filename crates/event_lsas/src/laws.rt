@@ -1,38 +1,28 @@
-//! What holds of all events.
+//! What holds of all events of links.
 
-ghost use Rattle.std.specs.Prelude.{◌≡◌, ℕ, List, Bool, false, Option, Some, Ok};
-ghost use Rattle.lsa_codec.specs.declared.address.Addr.{Addr};
-ghost use Rattle.lsa_codec.specs.declared.address.RouterId.{RouterId};
+ghost use Rattle.std.specs.Prelude.{◌≡◌, ℕ, List, false, Option, Ok, None, Some};
 ghost use Rattle.lsa_codec.specs.Key.{router_key};
 ghost use Rattle.lsdb.specs.Lists.{AreaHead, Lists, has_key, heads_of};
-ghost use Rattle.event_lsas.specs.declared.event.Event.{Event};
-ghost use Rattle.event_lsas.specs.Events.{event};
-ghost use Rattle.event_lsas.specs.Links.{cut_links, cut_link, cost_to, cost_at, drained};
+ghost use Rattle.event_lsas.specs.declared.event.LinkEvent.{LinkEvent as AnyEvent};
+ghost use Rattle.event_lsas.specs.declared.selection.LinkEdit.{LinkEdit as AnyEdit};
+ghost use Rattle.event_lsas.specs.Outcomes.{kept, id_of};
+ghost use Rattle.event_lsas.specs.Selections.{chosen_in};
+ghost use Rattle.event_lsas.specs.LinkEvents.{outcome_of, link_event};
 
 /// The areas of a database stay, in their order, whatever happens.
 pub fn areas_stay()
-    ensures { (db : Lists) (e : Event) (new : Lists) → event db e ≡ Ok new
+    ensures { (db : Lists) (event : AnyEvent) (new : Lists) → link_event db event ≡ Ok new
         → heads_of new ≡ heads_of db }
 {}
 
-/// Where links between two routers are cut or get a cost, all LSAs but their router-LSAs stay as
-/// they are; where a router's interface gets a cost or a router is drained, all but its own.
+/// All LSAs but the router-LSAs of the routers of an event are kept as they are; those of AS scope
+/// are.
 pub fn others_stay()
-    ensures cut { (db : Lists) (router neighbor : RouterId) (head : Option AreaHead)
-        (lsa : List ℕ) → has_key (router_key router) lsa ≡ false
-        → has_key (router_key neighbor) lsa ≡ false
-        → cut_links db router neighbor head lsa ≡ Some lsa }
-    ensures cut_one { (db : Lists) (router neighbor : RouterId) (address : Addr)
-        (head : Option AreaHead) (lsa : List ℕ) → has_key (router_key router) lsa ≡ false
-        → has_key (router_key neighbor) lsa ≡ false
-        → cut_link db router neighbor address head lsa ≡ Some lsa }
-    ensures cost { (db : Lists) (router neighbor : RouterId) (metric : ℕ) (both : Bool)
-        (head : Option AreaHead) (lsa : List ℕ) → has_key (router_key router) lsa ≡ false
-        → has_key (router_key neighbor) lsa ≡ false
-        → cost_to db router neighbor metric both head lsa ≡ Some lsa }
-    ensures cost_at { (db : Lists) (router : RouterId) (address : Addr) (metric : ℕ)
-        (head : Option AreaHead) (lsa : List ℕ) → has_key (router_key router) lsa ≡ false
-        → cost_at db router address metric head lsa ≡ Some lsa }
-    ensures drained { (db : Lists) (router : RouterId) (head : Option AreaHead) (lsa : List ℕ)
-        → has_key (router_key router) lsa ≡ false → drained db router head lsa ≡ Some lsa }
+    ensures areas { (db : Lists) (edit : AnyEdit) (head : AreaHead) (lsa : List ℕ)
+        → let chosen = chosen_in db (id_of head) edit.selection in
+        has_key (router_key chosen.router) lsa ≡ false
+        → has_key (router_key chosen.neighbor) lsa ≡ false
+        → outcome_of db edit (Some head) lsa ≡ kept }
+    ensures as_wide { (db : Lists) (edit : AnyEdit) (lsa : List ℕ)
+        → outcome_of db edit None lsa ≡ kept }
 {}

@@ -1,23 +1,35 @@
-//! Events as they really happen, as changes of the LSAs that routers originate (RFC 2328, 12.4.1 to
-//! 12.4.4): a link or the interface to a network is cut, an interface gets another cost, a router
-//! is drained (RFC 6987), or a router fails.
+//! Events as they really happen, as changes of the LSAs that routers originate (RFC 2328, 12.4.1):
+//! links are cut, interfaces get another cost, or a router is drained (RFC 6987).
 //!
-//! `specs/Events.antt` says what each [`Event`] makes of a database, or by which [`EventFault`] it
-//! is refused. Here are the parts of carrying them out: [`links_of_interfaces`] and others choose the
-//! links of interfaces, [`with_chosen`] rebuilds the router-LSA that has them, and [`staying`],
-//! [`successor`] and [`link_fate_on`] say what becomes of a transit network that a router leaves.
+//! [`link_changes`] answers which slots of a database an event changes, and which LSA each gets;
+//! or by which [`EventFault`] it is refused. `specs/LinkEvents.antt` says what each event makes of
+//! a database.
 #![tactic(auto)]
 
-mod changing;
-mod choosing;
+// Events, and what they change.
 mod event;
 mod fault;
-mod laws;
-mod leaving;
+mod selection;
+mod slot_change;
 
-pub use changing::with_chosen;
-pub use choosing::{ends_of, interfaces_to, links_of_interfaces, transit_links, with_own_addr};
-pub use event::Event;
+// The links that change.
+mod choosing;
+mod chosen;
+mod links;
+mod routers;
+mod selecting;
+
+// How they change.
+mod carrying;
+mod rebuilding;
+mod resolving;
+
+// What holds of the definitions.
+mod laws;
+
+pub use carrying::link_changes;
+pub use event::LinkEvent;
 pub use fault::EventFault;
 pub use laws::{areas_stay, others_stay};
-pub use leaving::{Designated, address_on, link_fate_on, staying, successor};
+pub use selection::{LinkEdit, Selection};
+pub use slot_change::SlotChange;
