@@ -1,5 +1,5 @@
 -- How long the bytes of rebuilt LSAs are, and how many links they have.
-use Rattle.std.proofs.Common.{◌≤◌, ℕ, ◌++◌, List, length, take, drop, arith}
+use Rattle.std.proofs.Common.{◌≤◌, ℕ, Bool, ◌++◌, List, length, take, drop, arith}
 use Rattle.std.specs.List.{flat_map}
 use Rattle.std.proofs.lemmas.List.{length-append, length-take}
 use Rattle.std.proofs.lemmas.List.Sums.{length-filter, count_by-le-length}
@@ -16,7 +16,8 @@ long_body links lsa long = omega (arith, length-append (take 24 lsa) (flat_map (
 
 pub few_left : (links : List ChangedLink) → count_left links ≤ length links
 few_left links =
-    omega (arith, length-filter (λ (changed : ChangedLink). is_left changed.change) links, count_by-le-length (λ (changed : ChangedLink). is_left changed.change) links)
+    let left : ChangedLink → Bool = λ (changed : ChangedLink). is_left changed.change in
+    omega (arith, length-filter left links, count_by-le-length left links)
 
 pub long_network : (routers : List RouterId) (lsa : List ℕ) → 24 ≤ length lsa → 24 ≤ length (routers_body routers lsa)
 long_network routers lsa long = omega (arith, length-append (take 24 lsa) (routers_text routers), length-take 24 lsa)

@@ -42,7 +42,8 @@ written offset j field bytes fits lt =
 put_length : (offset : ℕ) (field bytes : List ℕ) → offset + length field ≤ length bytes → length (put_at offset field bytes) ≡ length bytes
 put_length offset field bytes fits =
     let n : ℕ = offset + length field in
-    omega (arith, length-append (take offset bytes ++ field) (drop n bytes), length-append (take offset bytes) field, length-take offset bytes, length-drop n bytes)
+    let front : List ℕ = take offset bytes in
+    omega (arith, length-append (front ++ field) (drop n bytes), length-append front field, length-take offset bytes, length-drop n bytes)
 
 pub remeasured_length : (bytes : List ℕ) → 20 ≤ length bytes → length (remeasured bytes) ≡ length bytes
 remeasured_length bytes long =
@@ -57,8 +58,7 @@ sized : (n : ℕ) (bytes : List ℕ) → 20 ≤ length bytes → n < 65536
 sized n bytes long small =
     let put : List ℕ = put_number 2 18 n bytes in
     let sum : List ℕ = big_bytes 2 (checksum_for (checked_bytes (without_checksum put))) in
-    let size : length put ≡ length bytes =
-    omega (arith, length-append (take 18 bytes ++ big_bytes 2 n) (drop 20 bytes), length-append (take 18 bytes) (big_bytes 2 n), length-take 18 bytes, length-drop 20 bytes) in
+    let size : length put ≡ length bytes = put_length 18 (big_bytes 2 n) bytes (omega arith) in
     let high = past 16 18 sum put (omega arith) (omega arith) ∙ written 18 0 (big_bytes 2 n) bytes (omega arith) (omega arith) in
     let low = past 16 19 sum put (omega arith) (omega arith) ∙ written 18 1 (big_bytes 2 n) bytes (omega arith) (omega arith) in
     omega (arith, high, low)

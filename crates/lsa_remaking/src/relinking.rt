@@ -91,9 +91,9 @@ pub fn count_left(links: &[ChangedLink]) -> usize
     links.iter().filter(|changed| is_left(changed)).count()
 }
 
-/// The router-LSA with these of its links, each as it is changed, and in this order. The links that are
-/// not among them are removed; the bytes before the links stay, but for the number of links, the
-/// length and the checksum. The links are those of the LSA.
+/// The router-LSA with these of its links, each as it is changed, and in this order. The links that
+/// are not among them are removed; the bytes before the links stay, but for the number of links,
+/// the length and the checksum. The links are those of the LSA.
 ///
 /// # Errors
 ///
