@@ -4,3 +4,4 @@ mod RouterLinks
 mod Turns
 mod Walked
 mod Leads
+mod Removals

@@ -11,6 +11,22 @@ use lsa_codec::{Addr, AreaId, Link, LinkKind, RouterId};
 use lsdb::Database;
 use std::alloc::{AllocError, Allocator};
 
+/// Adds the stub link of an interface with these far ends, where it has the address of one of them
+/// or of the interface.
+fn add_stub_of<A: Allocator + Copy>(
+    stubs: &mut Vec<Link, A>,
+    own: Interface,
+    ends: &[Interface],
+) -> Result<(), AllocError>
+    ensures { OnOk result
+        (stubs.new.items ≡ stubs.old.items ++ option_to_list (stub_between own ends.now)) }
+{
+    if let Some(stub) = stub_between(own, ends) {
+        stubs.push(stub)?;
+    }
+    Ok(())
+}
+
 /// Adds the links of an interface that has these far ends: its own, and the stub link of its
 /// network, where that has the address of the interface or of a far end.
 fn add_links_of<A: Allocator + Copy>(
@@ -22,9 +38,7 @@ fn add_links_of<A: Allocator + Copy>(
         (links.new.items ≡ links.old.items ++ links_of_interface ends.now own) }
 {
     links.push(own.link)?;
-    if let Some(stub) = stub_between(own, ends) {
-        links.push(stub)?;
-    }
+    add_stub_of(links, own, ends)?;
     Ok(())
 }
 
@@ -113,22 +127,6 @@ pub(crate) fn ends_of<A: Allocator + Copy>(
         found.extend_from_slice(&ends)?;
     }
     Ok(found)
-}
-
-/// Adds the stub link of an interface with these far ends, where it has the address of one of them
-/// or of the interface.
-fn add_stub_of<A: Allocator + Copy>(
-    stubs: &mut Vec<Link, A>,
-    own: Interface,
-    ends: &[Interface],
-) -> Result<(), AllocError>
-    ensures { OnOk result
-        (stubs.new.items ≡ stubs.old.items ++ option_to_list (stub_between own ends.now)) }
-{
-    if let Some(stub) = stub_between(own, ends) {
-        stubs.push(stub)?;
-    }
-    Ok(())
 }
 
 /// The stub links of the point-to-point interfaces among those of a router in an area.

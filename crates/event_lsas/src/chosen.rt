@@ -23,9 +23,9 @@ impl<A: Allocator> Model for ChosenLinks<A> {
     ghost Value = { ChosenData };
 
     ghost view = { λ c. record {
-        router = c.router;
-        own = c.own.items;
-        neighbor = c.neighbor;
-        others = c.others.items
+      router = c.router;
+      own = c.own.items;
+      neighbor = c.neighbor;
+      others = c.others.items;
     } };
 }

@@ -4,7 +4,7 @@ use lsa_codec::{Addr, RouterId};
 
 /// What happens to the links of routers and to the costs of their interfaces. Each event changes
 /// the router-LSAs that its routers would originate again (RFC 2328, 12.4.1), and no other LSAs.
-#[derive(Clone, Copy, Debug, PartialEq, Eq)]
+#[derive(Clone, Copy)]
 pub enum LinkEvent {
     /// All point-to-point links between two routers go, at both ends.
     CutLinks {

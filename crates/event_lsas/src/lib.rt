@@ -30,6 +30,5 @@ mod laws;
 pub use carrying::link_changes;
 pub use event::LinkEvent;
 pub use fault::EventFault;
-pub use laws::{areas_stay, others_stay};
-pub use selection::{LinkEdit, Selection};
+pub use laws::{areas_stay, others_stay, removed_links_are_gone};
 pub use slot_change::SlotChange;

@@ -25,7 +25,8 @@ fn cut_links<A: Allocator + Copy>(
     neighbor: RouterId,
 ) -> Result<LinkEdit, EventFault>
     requires { areas.now ≡ area_ids (lists_of database.now) }
-    ensures edit { IfOk result (λ edit. cut_links (lists_of database.now) router neighbor ≡ Ok edit) }
+    ensures edit { IfOk result (λ edit.
+        cut_links (lists_of database.now) router neighbor ≡ Ok edit) }
     ensures fault { IfErr result (λ fault.
         IsEditFault fault (cut_links (lists_of database.now) router neighbor)) }
 {
@@ -87,7 +88,8 @@ fn clear_link<A: Allocator + Copy>(
     address: Addr,
 ) -> Result<LinkEdit, EventFault>
     requires { areas.now ≡ area_ids (lists_of database.now) }
-    ensures edit { IfOk result (λ edit. clear_link (lists_of database.now) router neighbor address ≡ Ok edit) }
+    ensures edit { IfOk result (λ edit.
+        clear_link (lists_of database.now) router neighbor address ≡ Ok edit) }
     ensures fault { IfErr result (λ fault.
         IsEditFault fault (clear_link (lists_of database.now) router neighbor address)) }
 {
@@ -110,7 +112,8 @@ fn cut_link<A: Allocator + Copy>(
     address: Addr,
 ) -> Result<LinkEdit, EventFault>
     requires { areas.now ≡ area_ids (lists_of database.now) }
-    ensures edit { IfOk result (λ edit. cut_link (lists_of database.now) router neighbor address ≡ Ok edit) }
+    ensures edit { IfOk result (λ edit.
+        cut_link (lists_of database.now) router neighbor address ≡ Ok edit) }
     ensures fault { IfErr result (λ fault.
         IsEditFault fault (cut_link (lists_of database.now) router neighbor address)) }
 {
@@ -147,7 +150,8 @@ fn set_cost<A: Allocator + Copy>(
     both: bool,
 ) -> Result<LinkEdit, EventFault>
     requires { areas.now ≡ area_ids (lists_of database.now) }
-    ensures edit { IfOk result (λ edit. set_cost (lists_of database.now) router neighbor metric both ≡ Ok edit) }
+    ensures edit { IfOk result (λ edit.
+        set_cost (lists_of database.now) router neighbor metric both ≡ Ok edit) }
     ensures fault { IfErr result (λ fault.
         IsEditFault fault (set_cost (lists_of database.now) router neighbor metric both)) }
 {
@@ -192,7 +196,8 @@ fn set_cost_at<A: Allocator + Copy>(
     metric: u16,
 ) -> Result<LinkEdit, EventFault>
     requires { areas.now ≡ area_ids (lists_of database.now) }
-    ensures edit { IfOk result (λ edit. set_cost_at (lists_of database.now) router address metric ≡ Ok edit) }
+    ensures edit { IfOk result (λ edit.
+        set_cost_at (lists_of database.now) router address metric ≡ Ok edit) }
     ensures fault { IfErr result (λ fault.
         IsEditFault fault (set_cost_at (lists_of database.now) router address metric)) }
 {
@@ -234,10 +239,16 @@ fn fault_of<A: Allocator + Copy>(
 {
     match event {
         LinkEvent::CutLinks { router, neighbor }
-        | LinkEvent::CutLink { router, neighbor, .. }
-        | LinkEvent::SetCost { router, neighbor, .. } => {
-            fault_of_two(database, areas, router, neighbor)
+        | LinkEvent::CutLink {
+            router,
+            neighbor,
+            ..
         }
+        | LinkEvent::SetCost {
+            router,
+            neighbor,
+            ..
+        } => { fault_of_two(database, areas, router, neighbor) }
         LinkEvent::SetCostAt { router, .. } | LinkEvent::Drain { router } => {
             fault_of_one(database, areas, router)
         }

@@ -30,11 +30,7 @@ pub(crate) fn area_ids<A: Allocator + Copy>(
 }
 
 /// Links of one router alone.
-fn of_one<A: Allocator + Copy>(
-    alloc: A,
-    router: RouterId,
-    own: Vec<Link, A>,
-) -> ChosenLinks<A>
+fn of_one<A: Allocator + Copy>(alloc: A, router: RouterId, own: Vec<Link, A>) -> ChosenLinks<A>
     ensures { result ≡ of_one router own.items }
 {
     ChosenLinks {
@@ -228,10 +224,7 @@ fn is_longest(links: &[Link], link: Link) -> bool
 fn longest_mask(links: &[Link]) -> Option<u32>
     ensures { result ≡ longest_mask links.now }
 {
-    let link = links
-        .iter()
-        .copied()
-        .find(|link| is_longest(links, *link))?;
+    let link = links.iter().copied().find(|link| is_longest(links, *link))?;
     Some(link.link_data.0)
 }
 

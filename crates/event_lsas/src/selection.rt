@@ -5,8 +5,8 @@ use lsa_remaking::LinkChange;
 
 /// Links of routers, in all areas. With each point-to-point link goes the stub link of its
 /// interface.
-#[derive(Clone, Copy, Debug, PartialEq, Eq)]
-pub enum Selection {
+#[derive(Clone, Copy)]
+pub(crate) enum Selection {
     /// The point-to-point links between two routers, at both ends.
     Between(RouterId, RouterId),
     /// The point-to-point link of the first router to the second whose interface has this address,
@@ -24,10 +24,10 @@ pub enum Selection {
 }
 
 /// The links that an event changes, and how.
-#[derive(Clone, Copy, Debug, PartialEq, Eq)]
-pub struct LinkEdit {
+#[derive(Clone, Copy)]
+pub(crate) struct LinkEdit {
     /// The links.
-    pub selection: Selection,
+    pub(crate) selection: Selection,
     /// How each of them changes.
-    pub change: LinkChange,
+    pub(crate) change: LinkChange,
 }
