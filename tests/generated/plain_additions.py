@@ -2,19 +2,15 @@
 
 It was written from RFC 2328 (12.4.1, 12.4.2, 12.4.4 and appendix E) alone, so that it can be compared with the program.
 """
-from plain_planner import State, address, links_of, mask, originated, prefix, router_key, with_links
+from plain_planner import Refused, State, address, links_of, mask, originated, prefix, router_key, with_links
 from plain_reader import number, with_checksum
 from plain_routes import BACKBONE, is_attached, is_live, net_of
 
 POINT_TO_POINT, TRANSIT, STUB = 1, 2, 3
-BIT_B, BIT_E = 1, 2
+BIT_E = 2
 STUB_AREA = 1
 EXTERNAL = 5
 Net = tuple[int, int]
-
-
-class Refused(Exception):
-    """An event is refused for this reason."""
 
 
 def link(kind: int, ident: bytes, data: bytes, metric: int) -> bytes:

@@ -18,18 +18,13 @@ import pathlib
 import sys
 
 import plain_additions
-from plain_planner import State, address, links_of, originated, prefix, router_key, state_of, with_links, with_metric
+from plain_planner import Refused, State, address, links_of, originated, prefix, router_key, state_of, with_links, with_metric
 from plain_reader import number, with_checksum
 from plain_routes import is_live, net_of
+from plain_settling import RAISED
 
 POINT_TO_POINT, TRANSIT, STUB = 1, 2, 3
 MAX_LINK_METRIC = 65535
-# The metric of a drained border router's summaries in FRR.
-RAISED = 16711680
-
-
-class Refused(Exception):
-    """An event is refused for this reason."""
 
 
 # ---- links and interfaces (12.4.1, A.4.2)

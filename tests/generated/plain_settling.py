@@ -23,7 +23,7 @@ from plain_reader import number, with_checksum
 from plain_routes import BACKBONE, INFINITY, inside, is_attached, is_live, net_of, preferred
 
 NETWORK, BOUNDARY_ROUTER = 3, 4
-BIT_B, BIT_E = 1, 2
+BIT_B = 1
 STUB_AREA = 1
 DEFAULT = 0, 0
 # The metric of a drained border router's summaries in FRR.
