@@ -1,0 +1,108 @@
+// Chromium without a window, over --remote-debugging-pipe: no package, and no port.
+'use strict';
+const { spawn } = require('node:child_process');
+const fs = require('node:fs');
+const os = require('node:os');
+const path = require('node:path');
+
+const ARGUMENTS = [
+  '--headless=new', '--no-sandbox', '--disable-gpu', '--disable-background-networking', '--no-first-run', '--remote-debugging-pipe',
+  '--force-device-scale-factor=1',
+];
+
+// A browser, with `send` for its commands. Its folder is gone once it is closed.
+function begin() {
+  const folder = fs.mkdtempSync(path.join(os.tmpdir(), 'page-'));
+  const browser = spawn('chromium', [...ARGUMENTS, `--user-data-dir=${folder}`, 'about:blank'], { stdio: ['ignore', 'ignore', 'ignore', 'pipe', 'pipe'] });
+  const waiting = new Map(), listeners = [];
+  let count = 0, rest = '';
+  browser.stdio[4].on('data', (data) => {
+    const messages = (rest + data).split('\0');
+    rest = messages.pop();
+    for (const message of messages.map((text) => JSON.parse(text))) {
+      if (!message.id) {
+        listeners.forEach((listener) => listener(message));
+        continue;
+      }
+      const { done, failed } = waiting.get(message.id);
+      waiting.delete(message.id);
+      if (message.error) failed(new Error(JSON.stringify(message.error)));
+      else done(message.result);
+    }
+  });
+  const send = (method, params = {}, sessionId = undefined) => new Promise((done, failed) => {
+    waiting.set(++count, { done, failed });
+    browser.stdio[3].write(`${JSON.stringify({ id: count, method, params, sessionId })}\0`);
+  });
+  const close = async () => {
+    const ended = new Promise((done) => browser.once('exit', done));
+    await send('Browser.close').catch(() => {});
+    await ended;
+    fs.rmSync(folder, { recursive: true, force: true, maxRetries: 5, retryDelay: 200 });
+  };
+  return { send, listeners, close };
+}
+
+// A page of a browser: what it asks for, what it prints, and what it is asked.
+async function open(browser, url, width = 1280, height = 800) {
+  const { targetId } = await browser.send('Target.createTarget', { url: 'about:blank' });
+  const { sessionId } = await browser.send('Target.attachToTarget', { targetId, flatten: true });
+  const send = (method, params) => browser.send(method, params, sessionId);
+  const requests = [], printed = [];
+  browser.listeners.push((message) => {
+    if (message.sessionId !== sessionId) return;
+    if (message.method === 'Network.requestWillBeSent') requests.push(message.params.request.url);
+    if (message.method === 'Runtime.exceptionThrown') printed.push(message.params.exceptionDetails.exception?.description ?? message.params.exceptionDetails.text);
+    if (message.method === 'Runtime.consoleAPICalled') printed.push(message.params.args.map((value) => value.value ?? value.description).join(' '));
+    if (message.method === 'Log.entryAdded') printed.push(message.params.entry.text);
+  });
+  for (const domain of ['Page', 'Runtime', 'Log', 'Network', 'DOM']) await send(`${domain}.enable`);
+  await send('Emulation.setDeviceMetricsOverride', { width, height, deviceScaleFactor: 1, mobile: false });
+  await send('Page.navigate', { url });
+  const evaluate = async (expression) => {
+    const { result, exceptionDetails } = await send('Runtime.evaluate', { expression, awaitPromise: true, returnByValue: true });
+    if (exceptionDetails) throw new Error(exceptionDetails.exception?.description ?? exceptionDetails.text);
+    return result.value;
+  };
+  const until = async (expression, seconds = 60) => {
+    for (const end = Date.now() + 1000 * seconds; Date.now() < end; await new Promise((done) => setTimeout(done, 40))) {
+      if (await evaluate(expression).catch(() => false)) return;
+    }
+    throw new Error(`never: ${expression}; ${printed.join('; ')}`);
+  };
+  // Waits for the answers to what was done before.
+  const settle = async (seconds = 60) => {
+    await new Promise((done) => setTimeout(done, 250));
+    await until('document.body?.dataset.state === "ready"', seconds);
+  };
+  const click = async (selector) => {
+    const at = await evaluate(`(() => {
+      const found = document.querySelector(${JSON.stringify(selector)});
+      if (!found) return null;
+      found.scrollIntoView({ block: 'nearest' });
+      const { left, top, width, height } = found.getBoundingClientRect();
+      return [left + width / 2, top + height / 2];
+    })()`);
+    if (!at) throw new Error(`no ${selector}`);
+    await clickAt(...at);
+  };
+  const clickAt = async (x, y) => {
+    await send('Input.dispatchMouseEvent', { type: 'mouseMoved', x, y });
+    for (const type of ['mousePressed', 'mouseReleased']) await send('Input.dispatchMouseEvent', { type, x, y, button: 'left', clickCount: 1 });
+  };
+  const key = async (name, code = 0) => {
+    const what = { key: name, text: name.length === 1 ? name : name === 'Enter' ? '\r' : undefined, windowsVirtualKeyCode: code || name.toUpperCase().charCodeAt(0) };
+    await send('Input.dispatchKeyEvent', { type: 'keyDown', ...what });
+    await send('Input.dispatchKeyEvent', { type: 'keyUp', ...what });
+  };
+  // Gives files to the page's picker, as a person does.
+  const pick = async (...files) => {
+    const { root } = await send('DOM.getDocument');
+    const { nodeId } = await send('DOM.querySelector', { nodeId: root.nodeId, selector: '#files' });
+    await send('DOM.setFileInputFiles', { nodeId, files });
+  };
+  const picture = async (file) => fs.writeFileSync(file, Buffer.from((await send('Page.captureScreenshot', { format: 'png' })).data, 'base64'));
+  return { send, evaluate, until, settle, click, clickAt, key, pick, picture, requests, printed };
+}
+
+module.exports = { begin, open };

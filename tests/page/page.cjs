@@ -1,0 +1,247 @@
+// Opens the page in Chromium, and does what a person does: node page.cjs PAGE STUDY FOLDER
+//
+// STUDY is ospf-study, whose answers are those that the page must show. Pictures of the page go to FOLDER. The last line is
+// `N passed, M failed`.
+'use strict';
+const { execFileSync, spawnSync } = require('node:child_process');
+const fs = require('node:fs');
+const path = require('node:path');
+const { begin, open } = require('./browser.cjs');
+
+const [page, program, folder] = process.argv.slice(2).map((word) => path.resolve(word));
+const examples = path.join(__dirname, '..', '..', 'examples');
+const [dump, hosts, study] = ['two-areas.oswp', 'hosts', 'maintenance.study'].map((name) => path.join(examples, name));
+let passed = 0, failed = 0;
+
+function check(name, holds, about = '') {
+  if (holds) passed++;
+  else {
+    failed++;
+    console.log(`${name}: not so ${about}`);
+  }
+}
+
+// What ospf-study answers to lines, as documents.
+function answers(lines, ...words) {
+  const ended = spawnSync(program, ['--dump', dump, '--names', hosts, '--keep-going', '--format', 'json', ...words], { input: lines.join('\n'), encoding: 'utf8' });
+  return ended.stdout.trim().split('\n').map((line) => JSON.parse(line));
+}
+
+const textOf = (tab, selector) => tab.evaluate(`document.querySelector(${JSON.stringify(selector)}).textContent`);
+const valueOf = (tab, id) => tab.evaluate(`document.getElementById(${JSON.stringify(id)}).value`);
+const countsOf = (tab) => tab.evaluate('Object.fromEntries([...document.querySelectorAll("[data-count]")].map((one) => [one.dataset.count, Number(one.querySelector("b").textContent)]))');
+const rowsOf = (tab) => tab.evaluate('[...document.querySelectorAll("#pane tbody tr")].map((row) => [...row.cells].map((cell) => cell.textContent))');
+
+// The same as a person reads it off the page, from a document of `changes`.
+function changeRows({ changes }) {
+  const cost = (route) => !route ? 'none' : route.kind === 'own' ? `own ${route.metric}` : route.kind === 'ext2' ? `${route.metric} + ${route.cost}` : String(route.cost);
+  return changes.map(({ change, router, prefix, was, now }) => [change, `r${router[0]}`, prefix ?? '', cost(was), cost(now)]);
+}
+
+async function compareChanges(tab, name, lines) {
+  const [changes, loops] = answers([...lines, 'changes', 'loops']).slice(lines.length);
+  const counts = await countsOf(tab);
+  const wanted = { lost: changes.counts.lost, gone: changes.counts.gone, dearer: changes.counts.dearer, moved: changes.counts.moved + changes.counts.type, loops: loops.loops.length, blackholes: loops.blackholes.length };
+  check(`${name}: counts`, JSON.stringify(counts) === JSON.stringify(wanted), JSON.stringify([counts, wanted]));
+  await tab.click('#tab-Changes');
+  const rows = (await rowsOf(tab)).map(([change, ...rest]) => [change.split(' ')[1], ...rest.slice(0, 4)]);
+  check(`${name}: rows`, JSON.stringify(rows) === JSON.stringify(changeRows(changes)), JSON.stringify(rows));
+}
+
+// The place of the middle of an edge on the screen.
+const middleOf = (tab, key) => tab.evaluate(`(() => {
+  const { left, top } = picture.canvas.getBoundingClientRect();
+  const [[x, y], [u, v]] = picture.endsOf(picture.edges.get(${JSON.stringify(key)}));
+  return [left + (x + u) / 2, top + (y + v) / 2];
+})()`);
+
+async function openFiles(tab) {
+  check('nothing is open', !(await tab.evaluate('document.getElementById("empty").hidden')));
+  await tab.picture(path.join(folder, 'empty.png'));
+  await tab.pick(dump, hosts);
+  await tab.settle();
+  check('the dump is open', (await textOf(tab, '#about')).startsWith('two-areas.oswp: 5 routers, 9 links, 1 LANs, 2 areas, 22 LSAs'));
+  check('its names', JSON.stringify(await tab.evaluate('[...state.graph.nodes.values()].map((node) => node.label)')) === JSON.stringify(['r1', 'r2', 'r3', 'r4', 'r5', '10.1.0.0/24']));
+}
+
+async function cutByMouse(tab) {
+  const key = await tab.evaluate('[...state.graph.edges.values()].find((edge) => edge.a === "1.1.1.1" && edge.b === "2.2.2.2").key');
+  await tab.clickAt(...await middleOf(tab, key));
+  check('a link is selected by a click', (await textOf(tab, '#card h2')) === 'r1 – r2', await textOf(tab, '#card h2'));
+  await tab.click('#card [data-key="c"]');
+  await tab.settle();
+  check('a cut is a line', (await valueOf(tab, 'text')) === 'fail-link 0.0.0.0 r1 r2\n', await valueOf(tab, 'text'));
+  await compareChanges(tab, 'a cut', ['fail-link 0.0.0.0 r1 r2']);
+  check('a cut is drawn', await tab.evaluate(`edgeFailed(state.graph.edges.get(${JSON.stringify(key)}))`));
+  await tab.picture(path.join(folder, 'cut.png'));
+}
+
+async function useKeys(tab) {
+  await tab.evaluate('document.activeElement.blur()');
+  await tab.evaluate('select("4.4.4.4")');
+  await tab.key('f');
+  await tab.settle();
+  check('a router fails by a key', (await valueOf(tab, 'text')) === 'fail-link 0.0.0.0 r1 r2\nfail-router r4\n', await valueOf(tab, 'text'));
+  await compareChanges(tab, 'two failures', ['fail-link 0.0.0.0 r1 r2', 'fail-router r4']);
+  await tab.key('[');
+  await tab.settle();
+  await compareChanges(tab, 'an earlier line', ['fail-link 0.0.0.0 r1 r2']);
+  await tab.key(']');
+  await tab.settle();
+  await tab.evaluate('select("5.5.5.5")');
+  await tab.key('d');
+  await tab.settle();
+  check('a drain is a line for each link', (await valueOf(tab, 'text')).endsWith('fail-router r4\ncost 0.0.0.1 r5 10.1.0.5 65535\n'), await valueOf(tab, 'text'));
+}
+
+async function setText(tab, lines) {
+  await tab.evaluate(`{ const text = document.getElementById('text'); text.value = ${JSON.stringify(lines.join('\n'))}; text.dispatchEvent(new Event('input')); state.chosen = null; }`);
+  await tab.settle();
+}
+
+async function editStudy(tab) {
+  const lines = ['fail-link 0.0.0.0 r1 r2', 'expect lost none', 'nonsense', 'cost 0.0.0.9 r1 1 1', 'expect gone none'];
+  await setText(tab, lines);
+  const wanted = answers(lines);
+  check('a failed expectation is shown', (await textOf(tab, '#faults .failed')).includes(wanted[1].found), await textOf(tab, '#faults .failed'));
+  check('a fault is shown', (await textOf(tab, '#faults .fault')).includes(`S2 UnknownWord nonsense (${wanted[2].hint})`));
+  check('a refusal is shown', (await textOf(tab, '#faults .refused')).includes('E1 NoArea 0.0.0.9'));
+  check('the verdict', (await textOf(tab, '#verdict')) === '✕ Study fails: 1 of 2 hold, 2 refused', await textOf(tab, '#verdict'));
+  check('the marks', (await tab.evaluate('[...document.querySelectorAll("#gutter .mark")].map((mark) => mark.className.split(" ")[1]).join(" ")')) === 'edit failed fault refused ok');
+  await tab.picture(path.join(folder, 'faults.png'));
+  const maintenance = fs.readFileSync(study, 'utf8').split('\n');
+  await setText(tab, maintenance);
+  check('the study of the examples holds', (await textOf(tab, '#verdict')) === '✓ Study holds: 14 of 14 hold', await textOf(tab, '#verdict'));
+  const shown = maintenance.findIndex((line) => line.startsWith('undo'));
+  await compareChanges(tab, 'the line before the edits are undone', maintenance.slice(0, shown).filter((line) => line && !line.startsWith('#')));
+}
+
+async function showPaths(tab) {
+  await tab.click('#tab-Path');
+  await tab.evaluate('{ const form = document.querySelector("#pane form"); form.elements.from.value = "r1"; form.elements.to.value = "10.1.5.1"; form.requestSubmit(); }');
+  await tab.settle();
+  const [before, ...others] = answers(['path r1 10.1.5.1', 'cost 0.0.0.1 r3 10.1.0.3 65535', 'refresh', 'drop-link 0.0.0.1 r3 10.1.0.3', 'refresh', 'path r1 10.1.5.1']);
+  const now = others[4];
+  const cells = (document_) => document_.steps.map((step) => [`r${step.router[0]}`, step.to ? `r${step.to[0]}` : step.end, String(step.cost ?? '')]);
+  const rows = (await rowsOf(tab)).map((row) => row.slice(0, 3));
+  check('paths before and now', JSON.stringify(rows) === JSON.stringify([...cells(before), ...cells(now)]), JSON.stringify(rows));
+  check('they are drawn', await tab.evaluate('picture.paths.before.length > 0 && picture.paths.now.length > 0'));
+  await tab.picture(path.join(folder, 'path.png'));
+}
+
+async function sweepAll(tab) {
+  await setText(tab, ['']);
+  await tab.click('#tab-Sweep');
+  await tab.click('#sweep');
+  await tab.until('state.sweep?.isDone');
+  const rows = await tab.evaluate('state.sweep.rows');
+  const asked = rows.flatMap(({ line }) => [line, 'changes', 'undo 1']);
+  const documents = answers(asked);
+  const wanted = rows.map(({ line }, k) => ({ line, lost: documents[3 * k + 1].counts.lost + documents[3 * k + 1].counts.gone, dearer: documents[3 * k + 1].counts.dearer }));
+  check('a sweep', rows.length === 8 && JSON.stringify(rows) === JSON.stringify(wanted), JSON.stringify(rows));
+}
+
+async function saveAll(browser, tab) {
+  await setText(tab, ['fail-link 0.0.0.0 r1 r2', 'expect lost none']);
+  const html = path.join(folder, 'saved.html');
+  fs.writeFileSync(html, await tab.evaluate('pageWith()'));
+  const again = await open(browser, `file://${html}`);
+  await again.settle();
+  check('a saved page opens', (await textOf(again, '#verdict')) === (await textOf(tab, '#verdict')) && (await valueOf(again, 'text')) === 'fail-link 0.0.0.0 r1 r2\nexpect lost none');
+  check('a saved page says nothing', again.printed.length === 0, again.printed.join('; '));
+  check('a saved page asks for nothing', again.requests.every((url) => /^(file|blob):/.test(url)), again.requests.join(' '));
+  const left = path.join(folder, 'left.oswp');
+  const saved = await tab.evaluate(`(async () => toBase64((await calculator.study({ dump: state.dump, names: state.names, study: bytes('fail-link 0.0.0.0 r1 r2'), wantsDump: true, json: false })).dump))()`);
+  spawnSync(program, ['--dump', dump, '--names', hosts, '--out', left], { input: 'fail-link 0.0.0.0 r1 r2\n' });
+  check('the dump that is left', fs.readFileSync(left).toString('base64') === saved);
+}
+
+async function refuse(tab) {
+  const bad = path.join(folder, 'bad.oswp');
+  fs.writeFileSync(bad, fs.readFileSync(dump).subarray(0, 100));
+  const about = await textOf(tab, '#about');
+  await tab.pick(bad);
+  await tab.settle();
+  const ended = spawnSync(program, ['--dump', bad], { input: '', encoding: 'utf8' });
+  check('a refused dump', (await textOf(tab, '#status')) === `bad.oswp: ${ended.stderr.trim()}`, await textOf(tab, '#status'));
+  check('what was open stays', (await textOf(tab, '#about')) === about);
+}
+
+// Each button and field has a name, and what is drawn is listed too.
+async function readOut(tab) {
+  const unnamed = await tab.evaluate(`[...document.querySelectorAll('button, input:not([hidden]), textarea')]
+    .filter((one) => one.offsetParent && !one.textContent.trim() && !one.ariaLabel && !one.labels?.length && !one.getAttribute('aria-label')).map((one) => one.outerHTML)`);
+  check('each control has a name', unnamed.length === 0, unnamed.join(' '));
+  await tab.click('#tab-Elements');
+  const listed = (await rowsOf(tab)).length;
+  check('the elements are listed', listed === (await tab.evaluate('state.graph.nodes.size + state.graph.edges.size')), String(listed));
+  await tab.key('ArrowLeft', 37);
+  check('tabs by keys', (await tab.evaluate('document.activeElement.id')) === 'tab-Routes', await tab.evaluate('document.activeElement.id'));
+  await tab.evaluate('document.getElementById("theme").click()');
+  check('dark and light', (await tab.evaluate('document.documentElement.dataset.theme')) === 'dark');
+  await tab.picture(path.join(folder, 'dark.png'));
+}
+
+// Requests that the page's policy forbids, and which part of it does.
+async function beForbidden(tab) {
+  await tab.evaluate("window.violated = []; document.addEventListener('securitypolicyviolation', (event) => violated.push(event.effectiveDirective)); 0");
+  const said = await tab.evaluate('fetch("https://example.com/").then(() => "asked", (error) => String(error))');
+  const image = await tab.evaluate('new Promise((done) => { const one = new Image(); one.onload = () => done("asked"); one.onerror = () => done("no"); one.src = "https://example.com/a.png"; })');
+  await tab.evaluate('{ const script = document.createElement("script"); script.textContent = "window.ran = true"; document.head.append(script); }');
+  await tab.evaluate('{ const form = document.createElement("form"); form.action = "https://example.com/"; document.body.append(form); form.requestSubmit(); }');
+  const violated = (await tab.evaluate('violated')).sort().join(' ');
+  check('requests are forbidden', said.startsWith('TypeError') && image === 'no' && !(await tab.evaluate('window.ran === true')), said);
+  check('by the policy', violated === 'connect-src form-action img-src script-src-elem', violated);
+}
+
+// A thousand routers in a grid, as a dump of router-LSAs that grid.py writes.
+async function moveThousand(browser) {
+  const grid = path.join(folder, 'grid.oswp');
+  execFileSync('/usr/bin/python3', [path.join(__dirname, 'grid.py'), '25', '40', grid]);
+  const tab = await open(browser, `file://${page}`);
+  await tab.settle();
+  await tab.pick(grid);
+  await tab.settle(300);
+  check('a thousand routers', (await textOf(tab, '#about')).includes('1000 routers'), await textOf(tab, '#about'));
+  const frames = await tab.evaluate(`(async () => {
+    const begun = performance.now();
+    let count = 0;
+    for (; performance.now() - begun < 2000; count++) {
+      picture.pan(2, 1);
+      await new Promise(requestAnimationFrame);
+    }
+    return count / 2;
+  })()`);
+  check('thirty frames a second', frames >= 30, String(frames));
+  await tab.picture(path.join(folder, 'thousand.png'));
+}
+
+async function main() {
+  fs.mkdirSync(folder, { recursive: true });
+  const browser = begin();
+  try {
+    const tab = await open(browser, `file://${page}`);
+    await tab.settle();
+    await openFiles(tab);
+    await cutByMouse(tab);
+    await useKeys(tab);
+    await editStudy(tab);
+    await showPaths(tab);
+    await sweepAll(tab);
+    await saveAll(browser, tab);
+    await refuse(tab);
+    await readOut(tab);
+    check('the page says nothing', tab.printed.length === 0, tab.printed.join('; '));
+    check('the page asks for nothing', tab.requests.every((url) => /^(file|blob):/.test(url)), tab.requests.join(' '));
+    await beForbidden(tab);
+    await moveThousand(browser);
+  } catch (error) {
+    failed++;
+    console.log(error);
+  }
+  await browser.close();
+  console.log(`the page: ${passed} passed, ${failed} failed`);
+  process.exit(failed || !passed ? 1 : 0);
+}
+
+main();

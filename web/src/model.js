@@ -1,0 +1,124 @@
+// What the answers of a study mean: documents by their lines, and the topology that `routers`, `links` and `networks` show.
+
+const EDITS = new Set([
+  'cost', 'drop-link', 'fail-link', 'fail-net', 'fail-router', 'add-stub', 'summary', 'add-summary', 'add-external',
+  'drop-external', 'refresh',
+]);
+const KINDS = ['lost', 'gone', 'dearer', 'type', 'moved', 'gained', 'cheaper', 'router-gone', 'router-new'];
+
+// The state of a session that is asked for, as lines in a branch.
+function questions(branch, path, table) {
+  const asked = ['routers', 'links', 'networks', 'changes', 'loops'];
+  if (path) asked.push(`path ${path.from} ${path.to}`);
+  if (table) asked.push(`routes ${table}`);
+  return asked.map((line) => `@${branch} ${line}`);
+}
+
+const isEdit = (line) => EDITS.has(line.replace(/^\s*@[0-7]\s/, '').trim().split(/\s+/)[0]) || /^\s*(@[0-7]\s+)?(undo|redo)\s/.test(line);
+const branchOf = (line) => /^\s*@([0-7])(\s|$)/.exec(line)?.[1] ?? '0';
+
+// A study with questions before its first line and after line `shown` (0: before all). Returns the text, and for each of its
+// lines what it is: of the study by its number, or a question by its place.
+function withQuestions(lines, shown, { path, table, settled = true }) {
+  const before = ['routers', 'links', 'networks', 'info', ...(path ? [`path ${path.from} ${path.to}`] : [])];
+  const asked = settled ? questions(shown ? branchOf(lines[shown - 1]) : '0', path, table) : [];
+  const all = [
+    ...before.map((line) => ({ line, part: 'before' })),
+    ...lines.slice(0, shown).map((line, k) => ({ line, part: 'study', number: k + 1 })),
+    ...asked.map((line) => ({ line, part: 'now' })),
+    ...lines.slice(shown).map((line, k) => ({ line, part: 'study', number: shown + k + 1 })),
+  ];
+  return { text: all.map(({ line }) => line).join('\n'), all };
+}
+
+// The documents of a study with questions, by what their lines are.
+function readAnswers(replies, all) {
+  const read = { before: {}, now: {}, study: new Map(), summary: null };
+  for (const line of replies.split('\n')) {
+    if (!line) continue;
+    const document = JSON.parse(line);
+    if (document.summary) {
+      read.summary = document.summary;
+      continue;
+    }
+    const { part, number } = all[document.line - 1];
+    if (part === 'study') read.study.set(number, document);
+    else if (document.word) read[part][document.word] = document;
+  }
+  return read;
+}
+
+// The line after which the study is shown, where nobody has chosen one: the last, or the last before the edits are undone.
+function shownByDefault(lines) {
+  const undone = lines.findLastIndex((line) => /^\s*(@0\s+)?undo\s/.test(line));
+  const edited = lines.findLastIndex((line) => EDITS.has(line.trim().split(/\s+/)[0]));
+  if (undone > edited && edited >= 0) return undone;
+  let last = lines.length;
+  while (last > 0 && !lines[last - 1].trim()) last--;
+  return last;
+}
+
+const linkKey = (link) => `${link.area} ${link.router} ${link.type} ${link.to ?? link.prefix} ${link.data ?? ''}`;
+const networkId = (area, address) => `net ${area} ${address}`;
+
+// One end of an edge: the link of a router, as it was and as it is.
+function endOf(link, now) {
+  const found = now.get(linkKey(link));
+  return { router: link.router, number: link.number, data: link.data, was: link.cost, now: found ? found.cost : null };
+}
+
+// The nodes and edges of a picture: of the loaded database and of now, joined.
+function topology(before, now) {
+  const nodes = new Map(), edges = new Map();
+  const present = new Map((now.links?.links ?? before.links.links).map((link) => [linkKey(link), link]));
+  const attached = new Set((now.routers?.routers ?? before.routers.routers).map(({ router }) => router));
+  const inUse = new Set((now.networks?.networks ?? before.networks.networks).map((net) => networkId(net.area, net.address)));
+  const add = (id, node) => nodes.has(id) || nodes.set(id, { id, edges: [], ...node });
+  for (const { router, name, areas, roles } of [...before.routers.routers, ...(now.routers?.routers ?? [])]) {
+    add(router, { kind: 'router', router, label: name ?? router, areas, roles, failed: !attached.has(router) });
+  }
+  for (const { area, prefix, address, members } of [...before.networks.networks, ...(now.networks?.networks ?? [])]) {
+    const id = networkId(area, address);
+    add(id, { kind: 'network', area, areas: [area], label: prefix, address, members, failed: !inUse.has(id) });
+  }
+  const known = new Map(before.links.links.map((link) => [linkKey(link), link]));
+  for (const link of now.links?.links ?? []) if (!known.has(linkKey(link))) known.set(linkKey(link), { ...link, isNew: true });
+  for (const link of known.values()) addEdge(nodes, edges, link, present);
+  return { nodes, edges };
+}
+
+// Adds the edge of a link, or its end to an edge that is there.
+function addEdge(nodes, edges, link, present) {
+  if (link.type !== 'point-to-point' && link.type !== 'transit') return;
+  const isLan = link.type === 'transit';
+  const other = isLan ? networkId(link.area, link.to) : link.to;
+  if (!nodes.has(link.router) || !nodes.has(other)) return;
+  const mine = `${link.router}/${link.data}`, theirs = isLan ? other : `${link.to}/${link.peers?.[0] ?? '?'}`;
+  const key = `${link.area} ${[mine, theirs].sort().join(' ')}`;
+  if (!edges.has(key)) {
+    const edge = { key, kind: isLan ? 'transit' : 'link', a: link.router, b: other, area: link.area, ends: [], isNew: !!link.isNew };
+    edges.set(key, edge);
+    nodes.get(edge.a).edges.push(edge);
+    nodes.get(edge.b).edges.push(edge);
+  }
+  edges.get(key).ends.push(endOf(link, present));
+}
+
+const edgeFailed = (edge) => edge.ends.every((end) => end.now === null);
+const edgeChanged = (edge) => edge.ends.some((end) => end.now !== null && end.now !== end.was);
+const edgeTitle = (edge, nodes) => `${nodes.get(edge.a).label} – ${nodes.get(edge.b).label}`;
+
+// The changes of each router, counted by kind.
+function changesByRouter(changes) {
+  const by = new Map();
+  for (const { router, change } of changes?.changes ?? []) {
+    if (!by.has(router)) by.set(router, Object.fromEntries(KINDS.map((kind) => [kind, 0])));
+    by.get(router)[change]++;
+  }
+  return by;
+}
+
+const wayText = (way, name) => way.kind === 'via' ? `via ${name(way.router)}` : way.kind === 'exit' ? 'exit' : 'direct';
+const costText = (route) => !route ? 'none' : route.kind === 'own' ? `own ${route.metric}` : route.kind === 'ext2'
+  ? `${route.metric} + ${route.cost}` : String(route.cost);
+const waysText = (route, name) => !route ? 'none' : route.kind === 'own' ? 'its own' : route.ways.map((way) => wayText(way, name)).join(', ');
