@@ -27,7 +27,7 @@ function element(name, attributes = {}, ...children) {
     if (key.startsWith('on')) made.addEventListener(key.slice(2), value);
     else if (value !== false && value !== null && value !== undefined) made.setAttribute(key, value === true ? '' : value);
   }
-  made.append(...children.flat().filter((child) => child !== null && child !== undefined));
+  made.append(...children.flat(Infinity).filter((child) => child !== null && child !== undefined));
   return made;
 }
 
@@ -189,11 +189,15 @@ async function place() {
   $('without').hidden = isDrawn;
   $('picture').hidden = $('modes').hidden = $('zoom').hidden = $('legend').hidden = !isDrawn;
   if (!isDrawn) return;
-  const at = new Map(nodes.map((node, k) => [node.id, k]));
-  const links = [...state.graph.edges.values()].map((edge) => [at.get(edge.a), at.get(edge.b), edge.kind === 'transit' ? 62 : 100]);
-  const { places } = await calculator.ask('place', { nodes: nodes.map(({ areas }) => ({ areas })), links });
+  const { places } = await calculator.ask('place', placing(state.graph));
   picture.nodes = state.graph.nodes;
   picture.put(nodes.map((node) => node.id), places);
+}
+
+// What places are asked for: the number of nodes, and links with their lengths.
+function placing({ nodes, edges }) {
+  const at = new Map([...nodes.keys()].map((id, k) => [id, k]));
+  return { nodes: [...nodes.keys()].map(() => ({})), links: [...edges.values()].map((edge) => [at.get(edge.a), at.get(edge.b), edge.kind === 'transit' ? 62 : 100]) };
 }
 
 // ---- what is shown
@@ -504,11 +508,26 @@ function listen() {
   splitter('higher', '--results', false);
 }
 
+// The small picture of a network: its links and its nodes.
+async function drawSample(canvas, { dump, names }) {
+  const given = { dump: fromBase64(dump), names: bytes(names), study: bytes('routers\nlinks\nnetworks\n'), json: true, keepGoing: true };
+  const [routers, links, networks] = documentsOf(await calculator.study(given));
+  const { nodes, edges } = topology({ routers, links, networks }, {});
+  const { places } = await calculator.ask('place', placing({ nodes, edges }));
+  const small = new Picture(canvas, { select: () => {} });
+  small.layers = { costs: false, areas: true };
+  small.margins = [26, 22];
+  small.put([...nodes.keys()], places);
+  small.show({ nodes, edges });
+  small.fit();
+}
+
 // The networks that come with the page, each with a small picture.
 function showSamples() {
   $('samples').replaceChildren(...parts.samples.map(({ title, about, dump, names, study, name }) => element('button', {
     type: 'button', onclick: () => open(fromBase64(dump), name, { names: bytes(names), study, studyName: name.replace(/\.oswp$/, '.study') }),
-  }, element('canvas', { 'aria-hidden': 'true', 'data-sample': name }), element('span', {}, element('b', {}, title), element('span', {}, about)))));
+  }, element('canvas', { 'aria-hidden': 'true' }), element('span', {}, element('b', {}, title), element('span', {}, about)))));
+  parts.samples.forEach((sample, k) => drawSample($('samples').querySelectorAll('canvas')[k], sample).catch(() => {}));
 }
 
 function begin() {

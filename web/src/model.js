@@ -143,7 +143,7 @@ function changesByRouter(changes) {
 // Counts of changes in words, as `3 lost · 1 dearer`.
 function countsText(counts) {
   const said = [
-    [counts.lost, 'lost'], [counts.gone, 'gone'], [counts.dearer + counts.type, 'dearer'], [counts.moved, 'moved'],
+    [counts.lost, 'lost'], [counts.gone, 'gone'], [counts.dearer, 'dearer'], [counts.moved + counts.type, 'moved'],
     [counts.cheaper + counts.gained, 'better'],
   ];
   return said.filter(([count]) => count).map(([count, word]) => `${count} ${word}`).join(' · ');

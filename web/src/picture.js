@@ -24,6 +24,7 @@ class Picture {
     this.mode = 'impact';
     this.layers = { costs: true, areas: true };
     this.heat = new Map();
+    this.margins = [150, 140];
     this.drawn = { count: 0, time: 0 };
     this.listen();
     new ResizeObserver(() => this.resize()).observe(canvas);
@@ -50,7 +51,7 @@ class Picture {
     if (!points.length) return;
     const [left, right] = [Math.min(...points.map(([x]) => x)), Math.max(...points.map(([x]) => x))];
     const [top, bottom] = [Math.min(...points.map(([, y]) => y)), Math.max(...points.map(([, y]) => y))];
-    const scale = Math.min(2, (this.width - 150) / Math.max(1, right - left), (this.height - 140) / Math.max(1, bottom - top));
+    const scale = Math.min(2, (this.width - this.margins[0]) / Math.max(1, right - left), (this.height - this.margins[1]) / Math.max(1, bottom - top));
     this.view = { scale, x: this.width / 2 - scale * (left + right) / 2, y: this.height / 2 - scale * (top + bottom) / 2 + 4 };
     this.draw();
   }
@@ -285,16 +286,20 @@ class Picture {
     }
   }
 
-  // The name of an area, at the top of its hull.
+  // The name of an area, at the top, the left, the right or below of its hull: where there is room.
   drawAreaName(context, area, hull) {
-    const top = hull.reduce((best, point) => point[1] < best[1] ? point : best);
+    if (this.width < 200) return;
     const label = area === BACKBONE ? 'backbone 0.0.0.0' : `area ${area}`;
     context.font = this.colors.areaFont;
     context.textAlign = 'center';
-    context.textBaseline = 'bottom';
-    const half = context.measureText(label).width / 2 + 4;
-    const x = Math.max(half, Math.min(this.width - half, top[0])), y = Math.max(50, top[1] - 3);
-    this.takes(x, y - 7, 2 * half, 14);
+    context.textBaseline = 'middle';
+    const half = context.measureText(label).width / 2 + 5, extreme = (of) => hull.reduce((best, point) => of(point) < of(best) ? point : best);
+    const [top, right, left, low] = [([, y]) => y, ([x]) => -x, ([x]) => x, ([, y]) => -y].map(extreme);
+    const offered = [[top[0], top[1] - 9], [right[0] + half, right[1]], [left[0] - half, left[1]], [low[0], low[1] + 9]];
+    const inside = ([x, y]) => x > half && x < this.width - half && y > 44 && y < this.height - 34;
+    const found = offered.find((place) => inside(place) && this.takes(...place, 2 * half, 14));
+    if (!found) return;
+    const [x, y] = found;
     context.lineWidth = 3;
     context.strokeStyle = this.colors.map;
     context.strokeText(label, x, y);
@@ -501,7 +506,7 @@ class Picture {
   }
 
   worst(counts) {
-    return counts.lost + counts.gone ? this.colors.lost : counts.dearer + counts.type ? this.colors.dearer : this.colors.moved;
+    return counts.lost + counts.gone ? this.colors.lost : counts.dearer ? this.colors.dearer : this.colors.moved;
   }
 
   // Stripes over a router that is drained.
@@ -524,7 +529,7 @@ class Picture {
     if (!this.routeCount) return;
     let angle = -Math.PI / 2;
     const parts = [
-      [counts.lost + counts.gone, this.colors.lost], [counts.dearer + counts.type, this.colors.dearer], [counts.moved, this.colors.moved],
+      [counts.lost + counts.gone, this.colors.lost], [counts.dearer, this.colors.dearer], [counts.moved + counts.type, this.colors.moved],
       [counts.gained + counts.cheaper, this.colors.better],
     ];
     context.lineWidth = 3;
@@ -550,7 +555,7 @@ class Picture {
     context.textAlign = 'center';
     for (const node of [...this.nodes.values()].sort((one, other) => weight(other) - weight(one))) {
       const place = this.places.get(node.id), isRouter = node.kind === 'router';
-      if (!place || (!isRouter && usual < 70)) continue;
+      if (!place || (!isRouter && usual < 46)) continue;
       const [x, y] = this.onScreen(place);
       if (x < -40 || y < -40 || x > this.width + 40 || y > this.height + 40) continue;
       const isIn = isRouter && fits, below = isIn ? 0 : (isRouter ? radius * 1.3 : radius * 0.5) + 11;

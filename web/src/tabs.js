@@ -118,7 +118,7 @@ function changeTable(kept) {
     const key = state.group === 'router' ? change.router : change.prefix ?? 'routers';
     groups.set(key, [...(groups.get(key) ?? []), change]);
   }
-  const weight = (list) => list.reduce((sum, { change }) => sum + ({ lost: 1000, gone: 300, dearer: 3, type: 3, moved: 1 }[change] ?? 0), 0);
+  const weight = (list) => list.reduce((sum, { change }) => sum + ({ lost: 1000, gone: 300, dearer: 3, type: 1, moved: 1 }[change] ?? 0), 0);
   const sorted = [...groups].sort(([, one], [, other]) => weight(other) - weight(one));
   let left = MOST_ROWS;
   const rows = sorted.slice(0, MOST_ROWS).flatMap(([key, list]) => {
@@ -157,7 +157,7 @@ function matrix(changes) {
   context.font = `500 ${Math.min(11, height)}px ${color('sans')}`;
   context.textAlign = 'right';
   context.textBaseline = 'middle';
-  const fills = { lost: 'lost-fill', gone: 'lost-fill', dearer: 'dearer-fill', type: 'dearer-fill', moved: 'moved-fill', cheaper: 'better-fill', gained: 'better-fill' };
+  const fills = { lost: 'lost-fill', gone: 'lost-fill', dearer: 'dearer-fill', type: 'moved-fill', moved: 'moved-fill', cheaper: 'better-fill', gained: 'better-fill' };
   routers.forEach((node, y) => {
     context.fillStyle = color(node.failed ? 'down' : 'dim');
     if (height >= 8) context.fillText(node.label, names - 6, (y + 0.5) * height);
