@@ -350,7 +350,7 @@ function showAfter(number) {
 function add(...lines) {
   const at = state.shown ?? editor.lines().length;
   editor.insert(at, lines);
-  if (state.chosen || at < editor.lines().length - lines.length - 1) state.chosen = { number: at + lines.length };
+  if (state.chosen) state.chosen = { number: at + lines.length };
   toast(`Added: ${lines[0]}${lines.length > 1 ? ` and ${lines.length - 1} more` : ''}`, ['Undo', () => {
     if (state.chosen) state.chosen.number -= lines.length;
     editor.remove(at + 1, lines.length);

@@ -237,7 +237,7 @@ class Picture {
       this.colors = colorsOf((name) => style.getPropertyValue(`--${name}`).trim());
     }
     const usual = this.view.scale * 90;
-    this.taken = [];
+    this.taken = this.nodes.size <= MOST_MOVING ? this.rings(this.radius(usual) * 1.3 + 4) : [];
     if (this.layers.areas && this.nodes.size <= MOST_MOVING) this.drawAreas(context);
     this.drawEdges(context, usual);
     this.drawPaths(context);
@@ -248,6 +248,14 @@ class Picture {
 
   radius(usual) {
     return usual < 17 ? 3.5 : Math.max(6, RADIUS * Math.min(1.15, this.view.scale));
+  }
+
+  // The rectangles of nodes with their rings.
+  rings(radius) {
+    return [...this.nodes.keys()].filter((id) => this.places.has(id)).map((id) => {
+      const [x, y] = this.onScreen(this.places.get(id));
+      return [x - radius, y - radius, x + radius, y + radius];
+    });
   }
 
   // Whether a rectangle is free of what was written before; then it is taken.
@@ -403,7 +411,7 @@ class Picture {
     const [one, other] = [of(edge.a), of(edge.b)];
     const near = Math.min(0.42, 42 / length);
     const labels = one && other && text(one) === text(other) ? [[text(one), 0.5]]
-      : [[one && text(one), edge.kind === 'transit' ? Math.min(0.5, 44 / length) : near], [other && text(other), 1 - near]].filter(([label]) => label);
+      : [[one && text(one), edge.kind === 'transit' ? 0.5 : near], [other && text(other), 1 - near]].filter(([label]) => label);
     const aside = this.isOnPath(edge) ? 15 : 0;
     context.font = this.colors.small;
     context.textAlign = 'center';
@@ -502,7 +510,6 @@ class Picture {
       context.lineWidth = 2.2;
       context.stroke();
     }
-    this.taken.push([x - radius, y - radius, x + radius, y + radius]);
   }
 
   worst(counts) {
