@@ -105,6 +105,8 @@ function kindOf(name, content) {
 
 // Files that were picked or dropped.
 async function take(files) {
+  if (!files.length) return;
+  isBusy(true);
   const taken = { dump: [], names: [], study: [], capture: [] };
   for (const file of files) {
     const content = new Uint8Array(await file.arrayBuffer());
@@ -119,7 +121,10 @@ async function take(files) {
     editor.text.value = more.study;
     $('study-name').value = study.name;
     changed();
-  } else if (files.length) report('none of these files is a dump: one begins with OSWP');
+  } else {
+    report('none of these files is a dump: one begins with OSWP');
+    isBusy(false);
+  }
 }
 
 // A dump made of files that are none, and what was found in them.
