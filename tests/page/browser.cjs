@@ -99,6 +99,8 @@ async function open(browser, url, width = 1280, height = 800) {
   const pick = async (...files) => {
     const { root } = await send('DOM.getDocument');
     const { nodeId } = await send('DOM.querySelector', { nodeId: root.nodeId, selector: '#files' });
+    // Until the page has taken them, however late it hears of them.
+    await evaluate('document.body.dataset.state = "busy"');
     await send('DOM.setFileInputFiles', { nodeId, files });
   };
   const picture = async (file) => fs.writeFileSync(file, Buffer.from((await send('Page.captureScreenshot', { format: 'png' })).data, 'base64'));

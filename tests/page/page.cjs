@@ -1,14 +1,14 @@
-// Opens the page in Chromium, and does what a person does: node page.cjs PAGE STUDY FOLDER
+// Opens the page in Chromium, and does what a person does: node page.cjs PAGE STUDY PLAN FOLDER
 //
-// STUDY is ospf-study, whose answers are those that the page must show. Pictures of the page go to FOLDER. The last line is
-// `N passed, M failed`.
+// STUDY is ospf-study, whose answers are those that the page must show, and PLAN ospf-plan, which saves a session. Pictures of
+// the page go to FOLDER. The last line is `N passed, M failed`.
 'use strict';
 const { execFileSync, spawnSync } = require('node:child_process');
 const fs = require('node:fs');
 const path = require('node:path');
 const { begin, open } = require('./browser.cjs');
 
-const [page, program, folder] = process.argv.slice(2).map((word) => path.resolve(word));
+const [page, program, plan, folder] = process.argv.slice(2).map((word) => path.resolve(word));
 const examples = path.join(__dirname, '..', '..', 'examples');
 const [dump, hosts, study] = ['two-areas.oswp', 'hosts', 'maintenance.study'].map((name) => path.join(examples, name));
 let passed = 0, failed = 0;
@@ -29,7 +29,7 @@ function answers(lines, ...words) {
 
 const textOf = (tab, selector) => tab.evaluate(`document.querySelector(${JSON.stringify(selector)}).textContent`);
 const valueOf = (tab, id) => tab.evaluate(`document.getElementById(${JSON.stringify(id)}).value`);
-const countsOf = (tab) => tab.evaluate('Object.fromEntries([...document.querySelectorAll("[data-count]")].map((one) => [one.dataset.count, Number(one.querySelector("b").textContent)]))');
+const countsOf = (tab) => tab.evaluate('Object.fromEntries([...document.querySelectorAll("[data-count]")].filter((one) => one.dataset.count !== "better").map((one) => [one.dataset.count, Number(one.querySelector("b").textContent)]))');
 const rowsOf = (tab) => tab.evaluate('[...document.querySelectorAll("#pane tbody tr")].map((row) => [...row.cells].map((cell) => cell.textContent))');
 
 // The same as a person reads it off the page, from a document of `changes`.
@@ -44,6 +44,7 @@ async function compareChanges(tab, name, lines) {
   const wanted = { lost: changes.counts.lost, gone: changes.counts.gone, dearer: changes.counts.dearer, moved: changes.counts.moved + changes.counts.type, loops: loops.loops.length, blackholes: loops.blackholes.length };
   check(`${name}: counts`, JSON.stringify(counts) === JSON.stringify(wanted), JSON.stringify([counts, wanted]));
   await tab.click('#tab-Changes');
+  if (changes.changes.length) await tab.click('[data-group="flat"]');
   const rows = (await rowsOf(tab)).map(([change, ...rest]) => [change.split(' ')[1], ...rest.slice(0, 4)]);
   check(`${name}: rows`, JSON.stringify(rows) === JSON.stringify(changeRows(changes)), JSON.stringify(rows));
 }
@@ -106,12 +107,12 @@ async function editStudy(tab) {
   check('a failed expectation is shown', (await textOf(tab, '#faults .failed')).includes(wanted[1].found), await textOf(tab, '#faults .failed'));
   check('a fault is shown', (await textOf(tab, '#faults .fault')).includes(`S2 UnknownWord nonsense (${wanted[2].hint})`));
   check('a refusal is shown', (await textOf(tab, '#faults .refused')).includes('E1 NoArea 0.0.0.9'));
-  check('the verdict', (await textOf(tab, '#verdict')) === '✕ Study fails: 1 of 2 hold, 2 refused', await textOf(tab, '#verdict'));
+  check('the verdict', (await tab.evaluate('outcomeText()')) === 'Study fails: 1 of 2 expectations hold · 2 refused', await tab.evaluate('outcomeText()'));
   check('the marks', (await tab.evaluate('[...document.querySelectorAll("#gutter .mark")].map((mark) => mark.className.split(" ")[1]).join(" ")')) === 'edit failed fault refused ok');
   await tab.picture(path.join(folder, 'faults.png'));
   const maintenance = fs.readFileSync(study, 'utf8').split('\n');
   await setText(tab, maintenance);
-  check('the study of the examples holds', (await textOf(tab, '#verdict')) === '✓ Study holds: 14 of 14 hold', await textOf(tab, '#verdict'));
+  check('the study of the examples holds', (await tab.evaluate('outcomeText()')) === 'Study holds: 14 of 14 expectations hold', await tab.evaluate('outcomeText()'));
   const shown = maintenance.findIndex((line) => line.startsWith('undo'));
   await compareChanges(tab, 'the line before the edits are undone', maintenance.slice(0, shown).filter((line) => line && !line.startsWith('#')));
 }
@@ -123,7 +124,7 @@ async function showPaths(tab) {
   const [before, ...others] = answers(['path r1 10.1.5.1', 'cost 0.0.0.1 r3 10.1.0.3 65535', 'refresh', 'drop-link 0.0.0.1 r3 10.1.0.3', 'refresh', 'path r1 10.1.5.1']);
   const now = others[4];
   const cells = (document_) => document_.steps.map((step) => [`r${step.router[0]}`, step.to ? `r${step.to[0]}` : step.end, String(step.cost ?? '')]);
-  const rows = (await rowsOf(tab)).map((row) => row.slice(0, 3));
+  const rows = (await rowsOf(tab)).map(([router, next, , cost]) => [router, next, cost]);
   check('paths before and now', JSON.stringify(rows) === JSON.stringify([...cells(before), ...cells(now)]), JSON.stringify(rows));
   check('they are drawn', await tab.evaluate('picture.paths.before.length > 0 && picture.paths.now.length > 0'));
   await tab.picture(path.join(folder, 'path.png'));
@@ -135,10 +136,14 @@ async function sweepAll(tab) {
   await tab.click('#sweep');
   await tab.until('state.sweep?.isDone');
   const rows = await tab.evaluate('state.sweep.rows');
-  const asked = rows.flatMap(({ line }) => [line, 'changes', 'undo 1']);
-  const documents = answers(asked);
-  const wanted = rows.map(({ line }, k) => ({ line, lost: documents[3 * k + 1].counts.lost + documents[3 * k + 1].counts.gone, dearer: documents[3 * k + 1].counts.dearer }));
-  check('a sweep', rows.length === 8 && JSON.stringify(rows) === JSON.stringify(wanted), JSON.stringify(rows));
+  const documents = answers(rows.flatMap(({ line }) => [line, 'changes', 'loops', 'undo 1']));
+  const wanted = rows.map(({ line, key }, k) => {
+    const { lost, gone, dearer, moved } = documents[4 * k + 1].counts;
+    return { line, key, lost, gone, dearer, moved, loops: documents[4 * k + 2].loops.length };
+  });
+  check('a sweep', rows.length === 9 && JSON.stringify(rows) === JSON.stringify(wanted), JSON.stringify(rows));
+  check('it is drawn', await tab.evaluate('picture.mode === "sweep" && picture.heat.size === 9'));
+  await tab.picture(path.join(folder, 'sweep.png'));
 }
 
 async function saveAll(browser, tab) {
@@ -148,12 +153,47 @@ async function saveAll(browser, tab) {
   const again = await open(browser, `file://${html}`);
   await again.settle();
   check('a saved page opens', (await textOf(again, '#verdict')) === (await textOf(tab, '#verdict')) && (await valueOf(again, 'text')) === 'fail-link 0.0.0.0 r1 r2\nexpect lost none');
+  check('it calculates again, and has the same outcome', (await textOf(again, '#saved-note')).startsWith('✓'), await textOf(again, '#saved-note'));
+  await setText(again, ['fail-link 0.0.0.0 r1 r2']);
+  check('another outcome is reported', (await textOf(again, '#saved-note')).startsWith('✕'));
   check('a saved page says nothing', again.printed.length === 0, again.printed.join('; '));
   check('a saved page asks for nothing', again.requests.every((url) => /^(file|blob):/.test(url)), again.requests.join(' '));
   const left = path.join(folder, 'left.oswp');
   const saved = await tab.evaluate(`(async () => toBase64((await calculator.study({ dump: state.dump, names: state.names, study: bytes('fail-link 0.0.0.0 r1 r2'), wantsDump: true, json: false })).dump))()`);
   spawnSync(program, ['--dump', dump, '--names', hosts, '--out', left], { input: 'fail-link 0.0.0.0 r1 r2\n' });
   check('the dump that is left', fs.readFileSync(left).toString('base64') === saved);
+}
+
+// A saved session is opened with its edits done.
+async function openSession(browser) {
+  const session = path.join(folder, 'session.oswp');
+  spawnSync(plan, ['--dump', dump, '--save', session], { input: 'fail-link 0.0.0.0 1.1.1.1 2.2.2.2\n' });
+  const tab = await open(browser, `file://${page}`);
+  await tab.settle();
+  await tab.pick(session, hosts);
+  await tab.settle();
+  await compareChanges(tab, 'a saved session', ['fail-link 0.0.0.0 r1 r2']);
+}
+
+// What the card says that an action would change is what it changes.
+async function foresee(tab) {
+  await setText(tab, ['']);
+  await tab.evaluate('select("4.4.4.4")');
+  await tab.until('/\\d/.test(document.querySelector("#card [data-key=f] .forecast").textContent)');
+  const { counts } = answers(['fail-router r4', 'changes'])[1];
+  const words = Object.entries({ lost: counts.lost, gone: counts.gone, dearer: counts.dearer, moved: counts.moved + counts.type, better: counts.cheaper + counts.gained });
+  const wanted = words.filter(([, count]) => count).map(([word, count]) => `${count} ${word}`).join(' · ');
+  check('a forecast', (await textOf(tab, '#card [data-key=f] .forecast')) === wanted, await textOf(tab, '#card [data-key=f] .forecast'));
+  await tab.evaluate('select(null)');
+}
+
+async function print(tab) {
+  const { data } = await tab.send('Page.printToPDF', { preferCSSPageSize: true });
+  const pdf = Buffer.from(data, 'base64');
+  fs.writeFileSync(path.join(folder, 'printed.pdf'), pdf);
+  const pages = pdf.toString('latin1').match(/\/Type\s*\/Page\b/g)?.length;
+  check('it is printed on one page or two', pages === 1 || pages === 2, String(pages));
+  check('the picture is printed', await tab.evaluate('document.getElementById("printed").getContext("2d").getImageData(0, 0, 2000, 1100).data.some((byte) => byte)'));
 }
 
 async function refuse(tab) {
@@ -189,6 +229,7 @@ async function beForbidden(tab) {
   const image = await tab.evaluate('new Promise((done) => { const one = new Image(); one.onload = () => done("asked"); one.onerror = () => done("no"); one.src = "https://example.com/a.png"; })');
   await tab.evaluate('{ const script = document.createElement("script"); script.textContent = "window.ran = true"; document.head.append(script); }');
   await tab.evaluate('{ const form = document.createElement("form"); form.action = "https://example.com/"; document.body.append(form); form.requestSubmit(); }');
+  await tab.until('violated.length >= 4', 10).catch(() => {});
   const violated = (await tab.evaluate('violated')).sort().join(' ');
   check('requests are forbidden', said.startsWith('TypeError') && image === 'no' && !(await tab.evaluate('window.ran === true')), said);
   check('by the policy', violated === 'connect-src form-action img-src script-src-elem', violated);
@@ -216,6 +257,25 @@ async function moveThousand(browser) {
   await tab.picture(path.join(folder, 'thousand.png'));
 }
 
+// Eight thousand routers: lists alone, and the changes of a chosen router.
+async function listThousands(browser) {
+  const grid = path.join(folder, 'large.oswp');
+  execFileSync('/usr/bin/python3', [path.join(__dirname, 'grid.py'), '64', '128', grid]);
+  const tab = await open(browser, `file://${page}`);
+  await tab.settle();
+  await tab.pick(grid);
+  await tab.settle(300);
+  check('8,192 routers', (await textOf(tab, '#about')).includes('8192 routers'), await textOf(tab, '#about'));
+  check('they are not drawn', !(await tab.evaluate('document.getElementById("without").hidden')));
+  await tab.click('#tab-Elements');
+  check('they are listed', (await rowsOf(tab)).length > 1000);
+  await setText(tab, ['fail-router 1.0.0.2']);
+  await tab.click('#tab-Changes');
+  const [, { counts }] = execFileSync(program, ['--dump', grid, '--format', 'json'], { input: 'fail-router 1.0.0.2\nchanges 1.0.0.1\n', encoding: 'utf8', maxBuffer: 2 ** 30 }).split('\n').slice(0, 2).map((line) => JSON.parse(line));
+  check('the changes of a router', (await countsOf(tab)).lost === counts.lost && (await countsOf(tab)).gone === counts.gone && (await countsOf(tab)).dearer === counts.dearer, JSON.stringify(counts));
+  await tab.picture(path.join(folder, 'large.png'));
+}
+
 async function main() {
   fs.mkdirSync(folder, { recursive: true });
   const browser = begin();
@@ -228,13 +288,17 @@ async function main() {
     await editStudy(tab);
     await showPaths(tab);
     await sweepAll(tab);
+    await foresee(tab);
     await saveAll(browser, tab);
+    await print(tab);
+    await openSession(browser);
     await refuse(tab);
     await readOut(tab);
     check('the page says nothing', tab.printed.length === 0, tab.printed.join('; '));
     check('the page asks for nothing', tab.requests.every((url) => /^(file|blob):/.test(url)), tab.requests.join(' '));
     await beForbidden(tab);
     await moveThousand(browser);
+    await listThousands(browser);
   } catch (error) {
     failed++;
     console.log(error);

@@ -32,20 +32,41 @@ function places(exports) {
   };
 }
 
+// The size of `struct ospf_capture_file`: the addresses and the lengths of its name and of its bytes.
+const FILE_SIZE = 32;
+
+// Takes places for an input: bytes, or a list of files, each with a name and bytes, which is a list of structs.
+function placed(room, input) {
+  if (input instanceof Uint8Array) return { at: room.take(input.length), count: input.length, bytes: input };
+  const at = room.take(Math.max(1, input.length) * FILE_SIZE);
+  const files = input.map(({ name, bytes }) => [[name, room.take(name.length)], [bytes, room.take(bytes.length)]]);
+  return { at, count: input.length, files };
+}
+
+// Writes an input to its places.
+function fill(memory, { at, bytes: own, files = [] }) {
+  const bytes = new Uint8Array(memory.buffer);
+  if (own) bytes.set(own, at);
+  files.forEach((file, k) => {
+    for (const [part, place] of file) bytes.set(part, place);
+    new BigUint64Array(memory.buffer, at + k * FILE_SIZE, 4).set(file.flatMap(([part, place]) => [BigInt(place), BigInt(part.length)]));
+  });
+}
+
 // One call of an export with a struct of flags, inputs, and rooms for its texts. Its report has `counts` words.
 function callOnce(module, name, flags, inputs, rooms, counts, heap) {
   const exports = new WebAssembly.Instance(module, {}).exports;
   const room = places(exports);
   const memoryAt = room.take(16), flagsAt = room.take(flags.length), reportAt = room.take(8 * counts);
-  const inputsAt = inputs.map((input) => room.take(input.length)), roomsAt = rooms.map((size) => room.take(size));
+  const given = inputs.map((input) => placed(room, input)), roomsAt = rooms.map((size) => room.take(size));
   const heapAt = room.take(heap);
   room.grow();
   const bytes = new Uint8Array(exports.memory.buffer);
   bytes.set(flags, flagsAt);
-  inputs.forEach((input, k) => bytes.set(input, inputsAt[k]));
+  for (const input of given) fill(exports.memory, input);
   new BigUint64Array(exports.memory.buffer, memoryAt, 2).set([BigInt(heapAt), BigInt(heap)]);
   const parts = [
-    ...inputs.flatMap((input, k) => [inputsAt[k], input.length]), ...rooms.flatMap((size, k) => [roomsAt[k], size]),
+    ...given.flatMap(({ at, count }) => [at, count]), ...rooms.flatMap((size, k) => [roomsAt[k], size]),
   ];
   const status = exports[name](...[memoryAt, flagsAt, ...parts, reportAt].map(BigInt));
   const report = [...new BigUint64Array(exports.memory.buffer, reportAt, counts)].map(Number);
@@ -82,4 +103,15 @@ function runStudy(module, given) {
   const { status, texts } = call(module, 'ospf_study_run', flags, inputs, 3, 7);
   const [replies, errors, left] = texts;
   return { status, replies, errors, dump: left };
+}
+
+// Whether a module makes dumps of captures, walks and what routers print.
+const readsCaptures = (module) => WebAssembly.Module.exports(module).some(({ name }) => name === 'ospf_capture_run');
+
+// A dump made of files, as ospf-capture makes it: what each contains, notices, warnings, and the dump.
+function runCapture(module, { files, keepFlushed = false }) {
+  const named = files.map(({ name, bytes }) => ({ name: new TextEncoder().encode(name), bytes }));
+  const { status, texts, report } = call(module, 'ospf_capture_run', Uint8Array.of(Number(keepFlushed)), [named, []], 4, 4);
+  const [contents, notices, warnings, dump] = texts;
+  return { status, contents, notices, warnings, dump, report };
 }

@@ -4,36 +4,50 @@ const EDITS = new Set([
   'cost', 'drop-link', 'fail-link', 'fail-net', 'fail-router', 'add-stub', 'summary', 'add-summary', 'add-external',
   'drop-external', 'refresh',
 ]);
+const QUESTIONS = new Set([
+  'table', 'tables', 'compare', 'info', 'routers', 'links', 'networks', 'routes', 'path', 'explain', 'changes', 'differences', 'lost',
+  'gone', 'loops', 'microloops', 'audit', 'log', 'help', 'undo', 'redo', 'expect',
+]);
 const KINDS = ['lost', 'gone', 'dearer', 'type', 'moved', 'gained', 'cheaper', 'router-gone', 'router-new'];
 
-// The state of a session that is asked for, as lines in a branch.
-function questions(branch, path, table) {
-  const asked = ['routers', 'links', 'networks', 'changes', 'loops'];
+// The state of a session that is asked for, as lines in a branch. With `isLarge` the tables of a chosen router alone.
+function questions(branch, { path, table, isLarge, hasMicroloops, edits }) {
+  const asked = ['routers', 'links', 'networks'];
+  if (!isLarge) asked.push('changes', 'loops');
+  else if (table) asked.push(`changes ${table}`);
+  if (hasMicroloops && edits) asked.push(`microloops ${edits}`);
   if (path) asked.push(`path ${path.from} ${path.to}`);
   if (table) asked.push(`routes ${table}`);
   return asked.map((line) => `@${branch} ${line}`);
 }
 
-const isEdit = (line) => EDITS.has(line.replace(/^\s*@[0-7]\s/, '').trim().split(/\s+/)[0]) || /^\s*(@[0-7]\s+)?(undo|redo)\s/.test(line);
+const wordOf = (line) => line.replace(/^\s*@[0-7]\s/, '').trim().split(/\s+/)[0];
+const isEdit = (line) => EDITS.has(wordOf(line)) || wordOf(line) === 'undo' || wordOf(line) === 'redo';
 const branchOf = (line) => /^\s*@([0-7])(\s|$)/.exec(line)?.[1] ?? '0';
 
-// A study with questions before its first line and after line `shown` (0: before all). Returns the text, and for each of its
-// lines what it is: of the study by its number, or a question by its place.
-function withQuestions(lines, shown, { path, table, settled = true }) {
+// A study with questions before its first line and after line `shown` (0: before all), and with what each edit has changed
+// where `counts` is so. Returns the text, and for each of its lines what it is: of the study by its number, or a question.
+function withQuestions(lines, shown, { counts = false, settled = true, ...asked }) {
+  const { path } = asked;
   const before = ['routers', 'links', 'networks', 'info', ...(path ? [`path ${path.from} ${path.to}`] : [])];
-  const asked = settled ? questions(shown ? branchOf(lines[shown - 1]) : '0', path, table) : [];
+  const studied = (line, number) => [
+    { line, part: 'study', number },
+    ...(counts && isEdit(line) ? [{ line: `@${branchOf(line)} changes`, part: 'counts', number }] : []),
+  ];
+  const branch = shown ? branchOf(lines[shown - 1]) : '0';
+  const edits = lines.slice(0, shown).filter((line) => EDITS.has(wordOf(line)) && branchOf(line) === branch).length;
   const all = [
     ...before.map((line) => ({ line, part: 'before' })),
-    ...lines.slice(0, shown).map((line, k) => ({ line, part: 'study', number: k + 1 })),
-    ...asked.map((line) => ({ line, part: 'now' })),
-    ...lines.slice(shown).map((line, k) => ({ line, part: 'study', number: shown + k + 1 })),
+    ...lines.slice(0, shown).flatMap((line, k) => studied(line, k + 1)),
+    ...(settled ? questions(branch, { ...asked, edits }) : []).map((line) => ({ line, part: 'now' })),
+    ...lines.slice(shown).flatMap((line, k) => studied(line, shown + k + 1)),
   ];
   return { text: all.map(({ line }) => line).join('\n'), all };
 }
 
 // The documents of a study with questions, by what their lines are.
 function readAnswers(replies, all) {
-  const read = { before: {}, now: {}, study: new Map(), summary: null };
+  const read = { before: {}, now: {}, study: new Map(), counts: new Map(), summary: null };
   for (const line of replies.split('\n')) {
     if (!line) continue;
     const document = JSON.parse(line);
@@ -43,6 +57,7 @@ function readAnswers(replies, all) {
     }
     const { part, number } = all[document.line - 1];
     if (part === 'study') read.study.set(number, document);
+    else if (part === 'counts') read.counts.set(number, document.counts);
     else if (document.word) read[part][document.word] = document;
   }
   return read;
@@ -84,7 +99,14 @@ function topology(before, now) {
   const known = new Map(before.links.links.map((link) => [linkKey(link), link]));
   for (const link of now.links?.links ?? []) if (!known.has(linkKey(link))) known.set(linkKey(link), { ...link, isNew: true });
   for (const link of known.values()) addEdge(nodes, edges, link, present);
+  for (const node of nodes.values()) node.drained = node.kind === 'router' && !node.failed && isDrained(node);
   return { nodes, edges };
+}
+
+// Whether each link of a router costs the most, and one of them did not.
+function isDrained({ id, edges }) {
+  const ends = edges.flatMap((edge) => edge.ends).filter((end) => end.router === id && end.now !== null);
+  return ends.length > 0 && ends.every((end) => end.now === 65535) && ends.some((end) => end.was !== 65535);
 }
 
 // Adds the edge of a link, or its end to an edge that is there.
@@ -116,6 +138,15 @@ function changesByRouter(changes) {
     by.get(router)[change]++;
   }
   return by;
+}
+
+// Counts of changes in words, as `3 lost · 1 dearer`.
+function countsText(counts) {
+  const said = [
+    [counts.lost, 'lost'], [counts.gone, 'gone'], [counts.dearer, 'dearer'], [counts.moved + counts.type, 'moved'],
+    [counts.cheaper + counts.gained, 'better'],
+  ];
+  return said.filter(([count]) => count).map(([count, word]) => `${count} ${word}`).join(' · ');
 }
 
 const wayText = (way, name) => way.kind === 'via' ? `via ${name(way.router)}` : way.kind === 'exit' ? 'exit' : 'direct';

@@ -1,6 +1,7 @@
 // The picture of the topology, on a canvas: areas whisper, changes speak.
 
 const RADIUS = 15;
+const BACKBONE = '0.0.0.0';
 const AREA_COUNT = 8;
 // With more nodes, one drawing is moved while the view moves, and the next is made once it rests.
 const MOST_MOVING = 300;
@@ -20,6 +21,10 @@ class Picture {
     this.hovered = null;
     this.paths = { before: [], now: [] };
     this.impact = new Map();
+    this.mode = 'impact';
+    this.layers = { costs: true, areas: true };
+    this.heat = new Map();
+    this.margins = [150, 140];
     this.drawn = { count: 0, time: 0 };
     this.listen();
     new ResizeObserver(() => this.resize()).observe(canvas);
@@ -46,8 +51,8 @@ class Picture {
     if (!points.length) return;
     const [left, right] = [Math.min(...points.map(([x]) => x)), Math.max(...points.map(([x]) => x))];
     const [top, bottom] = [Math.min(...points.map(([, y]) => y)), Math.max(...points.map(([, y]) => y))];
-    const scale = Math.min(2, (this.width - 120) / Math.max(1, right - left), (this.height - 120) / Math.max(1, bottom - top));
-    this.view = { scale, x: this.width / 2 - scale * (left + right) / 2, y: this.height / 2 - scale * (top + bottom) / 2 };
+    const scale = Math.min(2, (this.width - this.margins[0]) / Math.max(1, right - left), (this.height - this.margins[1]) / Math.max(1, bottom - top));
+    this.view = { scale, x: this.width / 2 - scale * (left + right) / 2, y: this.height / 2 - scale * (top + bottom) / 2 + 4 };
     this.draw();
   }
 
@@ -123,6 +128,12 @@ class Picture {
     canvas.addEventListener('pointerleave', () => {
       this.hovered = null;
       this.draw();
+    });
+    canvas.addEventListener('keydown', (event) => {
+      const by = { ArrowLeft: [60, 0], ArrowRight: [-60, 0], ArrowUp: [0, 60], ArrowDown: [0, -60] }[event.key];
+      if (!by) return;
+      event.preventDefault();
+      this.pan(...by);
     });
     canvas.addEventListener('wheel', (event) => {
       event.preventDefault();
@@ -226,159 +237,316 @@ class Picture {
       this.colors = colorsOf((name) => style.getPropertyValue(`--${name}`).trim());
     }
     const usual = this.view.scale * 90;
-    if (this.nodes.size <= MOST_MOVING) this.drawAreas(context);
+    this.taken = this.nodes.size <= MOST_MOVING ? this.rings(this.radius(usual) * 1.3 + 4) : [];
+    if (this.layers.areas && this.nodes.size <= MOST_MOVING) this.drawAreas(context);
     this.drawEdges(context, usual);
     this.drawPaths(context);
+    if (this.layers.costs && usual > 52) for (const edge of this.edges.values()) if (this.isSeen(edge)) this.drawCosts(context, edge);
     this.drawNodes(context, usual);
     if (usual > 26) this.drawNames(context, usual);
   }
 
-  // A wide band along the links of each area.
+  radius(usual) {
+    return usual < 17 ? 3.5 : Math.max(6, RADIUS * Math.min(1.15, this.view.scale));
+  }
+
+  // The rectangles of nodes with their rings.
+  rings(radius) {
+    return [...this.nodes.keys()].filter((id) => this.places.has(id)).map((id) => {
+      const [x, y] = this.onScreen(this.places.get(id));
+      return [x - radius, y - radius, x + radius, y + radius];
+    });
+  }
+
+  // Whether a rectangle is free of what was written before; then it is taken.
+  takes(x, y, width, height) {
+    const one = [x - width / 2, y - height / 2, x + width / 2, y + height / 2];
+    if (this.taken.some((other) => one[0] < other[2] && one[2] > other[0] && one[1] < other[3] && one[3] > other[1])) return false;
+    this.taken.push(one);
+    return true;
+  }
+
+  // A hull around the nodes of each area, with its name; border routers lie at its rim.
   drawAreas(context) {
-    context.lineCap = context.lineJoin = 'round';
+    const radius = this.radius(this.view.scale * 90);
+    context.lineJoin = 'round';
     for (const [area, k] of this.areaColors ?? []) {
-      context.beginPath();
-      for (const edge of this.edges.values()) {
-        const ends = edge.area === area && this.endsOf(edge);
-        if (ends) context.moveTo(...ends[0]), context.lineTo(...ends[1]);
+      const points = [];
+      for (const node of this.nodes.values()) {
+        const place = node.areas.includes(area) && this.places.get(node.id);
+        if (!place) continue;
+        const [x, y] = this.onScreen(place), far = area !== BACKBONE && node.areas.length > 1 ? radius * 0.6 : radius + 16;
+        for (let turn = 0; turn < 18; turn++) points.push([x + far * Math.cos(turn * Math.PI / 9), y + far * Math.sin(turn * Math.PI / 9)]);
       }
-      context.globalAlpha = k ? 0.1 : 0.06;
-      context.strokeStyle = this.colors.areas[k];
-      context.lineWidth = Math.max(4, 54 * Math.min(1.2, this.view.scale));
+      if (!points.length) continue;
+      const hull = hullOf(points);
+      context.beginPath();
+      hull.forEach((point, at) => context[at ? 'lineTo' : 'moveTo'](...point));
+      context.closePath();
+      context.fillStyle = context.strokeStyle = this.colors.areas[k];
+      context.lineWidth = 1;
+      context.globalAlpha = 0.09;
+      context.fill();
+      context.globalAlpha = 0.36;
       context.stroke();
       context.globalAlpha = 1;
+      this.drawAreaName(context, area, hull);
     }
   }
 
+  // The name of an area, at the top, the left, the right or below of its hull: where there is room.
+  drawAreaName(context, area, hull) {
+    if (this.width < 200) return;
+    const label = area === BACKBONE ? 'backbone 0.0.0.0' : `area ${area}`;
+    context.font = this.colors.areaFont;
+    context.textAlign = 'center';
+    context.textBaseline = 'middle';
+    const half = context.measureText(label).width / 2 + 5, extreme = (of) => hull.reduce((best, point) => of(point) < of(best) ? point : best);
+    const [top, right, left, low] = [([, y]) => y, ([x]) => -x, ([x]) => x, ([, y]) => -y].map(extreme);
+    const offered = [[top[0], top[1] - 9], [right[0] + half, right[1]], [left[0] - half, left[1]], [low[0], low[1] + 9]];
+    const inside = ([x, y]) => x > half && x < this.width - half && y > 44 && y < this.height - 34;
+    const found = offered.find((place) => inside(place) && this.takes(...place, 2 * half, 14));
+    if (!found) return;
+    const [x, y] = found;
+    context.lineWidth = 3;
+    context.strokeStyle = this.colors.map;
+    context.strokeText(label, x, y);
+    context.fillText(label, x, y);
+  }
+
+  stateOf(edge) {
+    return edgeFailed(edge) ? 'failed' : edge.isNew ? 'isNew' : edgeChanged(edge) ? 'changed' : 'plain';
+  }
+
   drawEdges(context, usual) {
-    const groups = new Map();
+    const groups = new Map(), hasPath = this.paths.before.length + this.paths.now.length > 0;
     for (const edge of this.edges.values()) {
-      const state = edgeFailed(edge) ? 'failed' : edge.isNew ? 'isNew' : edgeChanged(edge) ? 'changed' : 'plain';
+      const state = this.stateOf(edge);
       if (!groups.has(state)) groups.set(state, []);
       groups.get(state).push(edge);
     }
+    const strokes = { failed: this.colors.down, changed: this.colors.dearer, isNew: this.colors.better, plain: this.colors.link };
     for (const [state, edges] of groups) {
       context.beginPath();
       for (const edge of edges) {
         const ends = this.endsOf(edge);
         if (ends) context.moveTo(...ends[0]), context.lineTo(...ends[1]);
       }
-      context.strokeStyle = { failed: this.colors.down, changed: this.colors.dearer, isNew: this.colors.better, plain: this.colors.link }[state];
-      context.lineWidth = state === 'plain' ? 1.6 : 2.2;
+      context.strokeStyle = strokes[state];
+      context.lineWidth = usual < 17 ? 1 : state === 'plain' ? 1.6 : 2.2;
       context.setLineDash(state === 'failed' ? [5, 4] : []);
+      context.globalAlpha = state === 'plain' && hasPath ? 0.55 : 1;
       context.stroke();
       context.setLineDash([]);
+      context.globalAlpha = 1;
     }
-    for (const key of [this.hovered, this.selected]) {
+    if (this.mode === 'sweep') this.drawHeat(context);
+    for (const key of [this.hovered, this.selected]) this.drawMarked(context, key);
+    for (const edge of groups.get('failed') ?? []) if (usual >= 17 && this.isSeen(edge)) this.drawCross(context, ...this.middle(edge), 7);
+  }
+
+  // An edge that is selected or under the pointer.
+  drawMarked(context, key) {
+    const ends = this.edges.has(key) && this.endsOf(this.edges.get(key));
+    if (!ends) return;
+    context.beginPath();
+    context.moveTo(...ends[0]), context.lineTo(...ends[1]);
+    context.strokeStyle = key === this.selected ? this.colors.accent : this.colors.text;
+    context.globalAlpha = key === this.selected ? 0.3 : 0.12;
+    context.lineWidth = 11;
+    context.lineCap = 'round';
+    context.stroke();
+    context.lineCap = 'butt';
+    context.globalAlpha = 1;
+  }
+
+  // Each link as wide as its failure hurts.
+  drawHeat(context) {
+    const most = Math.max(1, ...[...this.heat.values()].map(({ lost }) => lost));
+    for (const [key, { lost, dearer, moved }] of this.heat) {
       const ends = this.edges.has(key) && this.endsOf(this.edges.get(key));
-      if (!ends) continue;
+      if (!ends || !(lost || dearer || moved)) continue;
       context.beginPath();
       context.moveTo(...ends[0]), context.lineTo(...ends[1]);
-      context.strokeStyle = key === this.selected ? this.colors.accent : this.colors.faint;
-      context.lineWidth = 4;
+      context.strokeStyle = lost ? this.colors.lost : dearer ? this.colors.dearer : this.colors.moved;
+      context.lineWidth = lost ? 3 + 7 * Math.sqrt(lost / most) : dearer ? 3.4 : 2.2;
       context.stroke();
     }
-    if (usual > 52) for (const edge of this.edges.values()) if (this.isSeen(edge)) this.drawCosts(context, edge);
+  }
+
+  drawCross(context, x, y, radius) {
+    context.beginPath();
+    context.arc(x, y, radius, 0, 2 * Math.PI);
+    context.fillStyle = this.colors.map;
+    context.fill();
+    context.strokeStyle = this.colors.down;
+    context.lineWidth = 1.2;
+    context.stroke();
+    const arm = radius * 0.48;
+    context.beginPath();
+    context.moveTo(x - arm, y - arm), context.lineTo(x + arm, y + arm);
+    context.moveTo(x - arm, y + arm), context.lineTo(x + arm, y - arm);
+    context.lineWidth = 2;
+    context.stroke();
+  }
+
+  middle(edge) {
+    const [[x, y], [u, v]] = this.endsOf(edge);
+    return [(x + u) / 2, (y + v) / 2];
   }
 
   // Whether the middle of an edge is to be seen.
   isSeen(edge) {
-    const ends = this.endsOf(edge);
-    if (!ends) return false;
-    const [x, y] = [(ends[0][0] + ends[1][0]) / 2, (ends[0][1] + ends[1][1]) / 2];
+    if (!this.endsOf(edge)) return false;
+    const [x, y] = this.middle(edge);
     return x > -60 && y > -60 && x < this.width + 60 && y < this.height + 60;
   }
 
-  // The costs of an edge, each near its end; one cost where both are equal.
+  // The costs of an edge, each near its end; one cost where both are equal. Those on a path stand beside its strokes.
   drawCosts(context, edge) {
-    const ends = this.endsOf(edge);
-    if (!ends) return;
-    const [[x, y], [u, v]] = ends;
-    const text = ({ was, now }) => now === null ? '✕' : now === was ? String(now) : `${was}→${now === 65535 ? 'max' : now}`;
+    const [[x, y], [u, v]] = this.endsOf(edge), length = Math.hypot(u - x, v - y) || 1;
+    const cost = (value) => value === 65535 ? 'max' : String(value);
+    const text = ({ was, now }) => now === null ? '' : now === was ? cost(now) : `${cost(was)}→${cost(now)}`;
     const of = (router) => edge.ends.find((end) => end.router === router);
     const [one, other] = [of(edge.a), of(edge.b)];
+    const near = Math.min(0.42, 42 / length);
     const labels = one && other && text(one) === text(other) ? [[text(one), 0.5]]
-      : [[one && text(one), 0.3], [other && text(other), 0.7]].filter(([label]) => label);
+      : [[one && text(one), edge.kind === 'transit' ? 0.5 : near], [other && text(other), 1 - near]].filter(([label]) => label);
+    const aside = this.isOnPath(edge) ? 15 : 0;
     context.font = this.colors.small;
     context.textAlign = 'center';
     context.textBaseline = 'middle';
     for (const [label, t] of labels) {
-      const [px, py] = [x + (u - x) * t, y + (v - y) * t];
-      context.fillStyle = this.colors.map;
-      const width = context.measureText(label).width + 6;
-      context.fillRect(px - width / 2, py - 7, width, 14);
-      context.fillStyle = label.includes('→') ? this.colors.dearerText : label === '✕' ? this.colors.down : this.colors.cost;
+      const [px, py] = [x + (u - x) * t - (v - y) / length * aside, y + (v - y) * t + (u - x) / length * aside];
+      if (!label || !this.takes(px, py, label.length * 6.4 + 4, 13)) continue;
+      context.lineWidth = 4.5;
+      context.lineJoin = 'round';
+      context.strokeStyle = this.colors.map;
+      context.strokeText(label, px, py);
+      context.fillStyle = label.includes('→') ? this.colors.dearerText : this.colors.cost;
       context.fillText(label, px, py);
     }
   }
 
-  // The path before, in dashes, and now, each with arrows, beside the links.
+  isOnPath(edge) {
+    return [...this.paths.before, ...this.paths.now].some(([from, to]) => (from === edge.a && to === edge.b) || (from === edge.b && to === edge.a));
+  }
+
+  // The path before, in dashes, and now, each with chevrons, on two sides of the links.
   drawPaths(context) {
-    for (const [steps, stroke, dash, side] of [[this.paths.before, this.colors.before, [7, 5], -5], [this.paths.now, this.colors.accent, [], 5]]) {
-      context.strokeStyle = context.fillStyle = stroke;
-      context.lineWidth = 3.4;
+    for (const [steps, stroke, dash, side] of [[this.paths.before, this.colors.before, [6, 4], -3.6], [this.paths.now, this.colors.now, [], 3.6]]) {
       for (const [from, to] of steps) {
         const a = this.places.get(from), b = this.places.get(to);
-        if (!a || !b) continue;
-        const [x, y] = this.onScreen(a), [u, v] = this.onScreen(b);
-        const length = Math.hypot(u - x, v - y) || 1, [dx, dy] = [(u - x) / length, (v - y) / length];
-        const [ox, oy] = [-dy * side, dx * side], cut = Math.min(18, length / 4);
-        const start = [x + ox + dx * cut, y + oy + dy * cut], end = [u + ox - dx * cut, v + oy - dy * cut];
-        context.beginPath();
-        context.setLineDash(dash);
-        context.moveTo(...start), context.lineTo(...end);
-        context.stroke();
-        context.setLineDash([]);
-        context.beginPath();
-        context.moveTo(end[0] + dx * 4, end[1] + dy * 4);
-        context.lineTo(end[0] - dx * 9 - dy * 6, end[1] - dy * 9 + dx * 6);
-        context.lineTo(end[0] - dx * 9 + dy * 6, end[1] - dy * 9 - dx * 6);
-        context.fill();
+        if (a && b) this.drawStep(context, this.onScreen(a), this.onScreen(b), { stroke, dash, side: from < to ? side : -side });
       }
     }
   }
 
+  drawStep(context, [x, y], [u, v], { stroke, dash, side }) {
+    const length = Math.hypot(u - x, v - y) || 1, [dx, dy] = [(u - x) / length, (v - y) / length];
+    const [ox, oy] = [-dy * side, dx * side], cut = Math.min(19, length / 3);
+    const start = [x + ox + dx * cut, y + oy + dy * cut], end = [u + ox - dx * cut, v + oy - dy * cut];
+    const line = (width, color, pattern) => {
+      context.beginPath();
+      context.setLineDash(pattern);
+      context.moveTo(...start), context.lineTo(...end);
+      context.strokeStyle = color;
+      context.lineWidth = width;
+      context.stroke();
+      context.setLineDash([]);
+    };
+    line(6.5, this.colors.map, []);
+    line(3.4, stroke, dash);
+    context.beginPath();
+    context.moveTo(end[0] - dx * 9 - dy * 5, end[1] - dy * 9 + dx * 5);
+    context.lineTo(end[0], end[1]);
+    context.lineTo(end[0] - dx * 9 + dy * 5, end[1] - dy * 9 - dx * 5);
+    context.lineWidth = 2.6;
+    context.stroke();
+  }
+
   drawNodes(context, usual) {
-    const radius = usual < 17 ? 3.5 : Math.max(6, RADIUS * Math.min(1.15, this.view.scale));
+    const radius = this.radius(usual);
+    this.longest = Math.max(...[...this.nodes.values()].filter((node) => node.kind === 'router').map((node) => node.label.length), 1);
     const nodes = [...this.nodes.values()];
     for (const node of [...nodes.filter((one) => !one.failed), ...nodes.filter((one) => one.failed)]) {
       const place = this.places.get(node.id);
       if (!place) continue;
       const [x, y] = this.onScreen(place);
       if (x < -40 || y < -40 || x > this.width + 40 || y > this.height + 40) continue;
-      const area = this.colors.areas[this.areaColors.get(node.areas.find((one) => one !== '0.0.0.0') ?? '0.0.0.0') ?? 0];
-      context.beginPath();
-      outline(context, node, x, y, radius);
-      context.fillStyle = usual >= 17 ? this.colors.node : node.failed ? this.colors.down : area;
-      context.fill();
-      context.strokeStyle = node.failed ? this.colors.down : area;
-      context.lineWidth = node.failed ? 2 : 1.8;
-      context.setLineDash(node.failed ? [4, 3] : []);
-      context.stroke();
-      context.setLineDash([]);
-      if (node.kind === 'router' && !node.failed) this.drawImpact(context, node, x, y, radius + 4);
-      if (node.id === this.selected || node.id === this.hovered) {
-        context.beginPath();
-        context.arc(x, y, radius + 8, 0, 2 * Math.PI);
-        context.strokeStyle = node.id === this.selected ? this.colors.accent : this.colors.faint;
-        context.lineWidth = 2.4;
-        context.stroke();
-      }
+      this.drawNode(context, node, x, y, radius, usual);
     }
   }
 
-  // A ring: the shares of a router's routes that are lost, dearer and moved.
-  drawImpact(context, node, x, y, radius) {
-    const counts = this.impact.get(node.id);
-    if (!counts || !this.routeCount) return;
+  drawNode(context, node, x, y, radius, usual) {
+    const area = this.colors.areas[this.areaColors.get(node.areas.length > 1 ? BACKBONE : node.areas[0]) ?? 0];
+    const isRouter = node.kind === 'router', counts = this.mode === 'impact' && isRouter && !node.failed && this.impact.get(node.id);
+    const fill = (style, alpha) => {
+      context.globalAlpha = alpha;
+      context.fillStyle = style;
+      context.fill();
+      context.globalAlpha = 1;
+    };
+    context.beginPath();
+    outline(context, node, x, y, radius);
+    if (usual < 17) {
+      fill(node.failed ? this.colors.down : counts ? this.worst(counts) : area, 1);
+    } else {
+      fill(node.failed ? this.colors.map : this.colors.node, 1);
+      if (!node.failed) fill(area, isRouter ? 0.13 : 0.45);
+      context.strokeStyle = node.failed ? this.colors.down : node.drained ? this.colors.dearer : isRouter ? this.colors.nodeLine : area;
+      context.lineWidth = node.drained ? 2 : 1.5;
+      context.setLineDash(node.failed ? [3.5, 3] : []);
+      context.stroke();
+      context.setLineDash([]);
+      if (node.drained) this.hatch(context, node, x, y, radius);
+      if (node.failed) this.drawCross(context, x + radius * 0.95, y - radius * 0.95, 6.4);
+      if (counts) this.drawImpact(context, counts, x, y, radius * 1.3 + 3);
+    }
+    if (node.id === this.selected || node.id === this.hovered) {
+      context.beginPath();
+      context.arc(x, y, radius * 1.3 + 8, 0, 2 * Math.PI);
+      context.strokeStyle = node.id === this.selected ? this.colors.accent : this.colors.faint;
+      context.lineWidth = 2.2;
+      context.stroke();
+    }
+  }
+
+  worst(counts) {
+    return counts.lost + counts.gone ? this.colors.lost : counts.dearer ? this.colors.dearer : this.colors.moved;
+  }
+
+  // Stripes over a router that is drained.
+  hatch(context, node, x, y, radius) {
+    context.save();
+    context.beginPath();
+    outline(context, node, x, y, radius);
+    context.clip();
+    context.beginPath();
+    for (let at = -3 * radius; at < 3 * radius; at += 5) context.moveTo(x + at, y + radius * 1.3), context.lineTo(x + at + 2.6 * radius, y - radius * 1.3);
+    context.strokeStyle = this.colors.dearer;
+    context.globalAlpha = 0.55;
+    context.lineWidth = 1.6;
+    context.stroke();
+    context.restore();
+  }
+
+  // A ring: the shares of a router's routes that are lost, dearer, moved and better.
+  drawImpact(context, counts, x, y, radius) {
+    if (!this.routeCount) return;
     let angle = -Math.PI / 2;
     const parts = [
-      [counts.lost + counts.gone, this.colors.lost], [counts.dearer + counts.type, this.colors.dearer], [counts.moved, this.colors.moved],
+      [counts.lost + counts.gone, this.colors.lost], [counts.dearer, this.colors.dearer], [counts.moved + counts.type, this.colors.moved],
+      [counts.gained + counts.cheaper, this.colors.better],
     ];
     context.lineWidth = 3;
+    context.beginPath();
+    context.arc(x, y, radius, 0, 2 * Math.PI);
+    context.strokeStyle = this.colors.none;
+    context.stroke();
     for (const [count, stroke] of parts) {
       if (!count) continue;
-      const part = Math.max(0.35, 2 * Math.PI * Math.min(1, count / this.routeCount));
+      const part = Math.max(0.3, 2 * Math.PI * Math.min(1, count / this.routeCount));
       context.beginPath();
       context.arc(x, y, radius, angle, angle + part);
       context.strokeStyle = stroke;
@@ -387,23 +555,44 @@ class Picture {
     }
   }
 
+  // Names: in the nodes where all fit, else below those where there is room, border routers and what is marked first.
   drawNames(context, usual) {
-    context.font = this.colors.font;
+    const radius = this.radius(usual), fits = this.longest * 7 <= 2 * radius;
+    const weight = (node) => (node.id === this.selected ? 9 : 0) + (node.failed || node.drained ? 4 : 0) + (node.kind === 'router' ? node.roles.length : 0);
     context.textAlign = 'center';
-    context.textBaseline = 'top';
-    for (const node of this.nodes.values()) {
-      const place = this.places.get(node.id);
-      if (!place || (node.kind === 'network' && usual < 70)) continue;
+    for (const node of [...this.nodes.values()].sort((one, other) => weight(other) - weight(one))) {
+      const place = this.places.get(node.id), isRouter = node.kind === 'router';
+      if (!place || (!isRouter && usual < 46)) continue;
       const [x, y] = this.onScreen(place);
       if (x < -40 || y < -40 || x > this.width + 40 || y > this.height + 40) continue;
-      const below = Math.max(6, RADIUS * Math.min(1.15, this.view.scale)) + 7;
+      const isIn = isRouter && fits, below = isIn ? 0 : (isRouter ? radius * 1.3 : radius * 0.5) + 11;
+      context.font = isRouter ? this.colors.font : this.colors.small;
+      context.textBaseline = 'middle';
+      if (!isIn && !this.takes(x, y + below, context.measureText(node.label).width + 4, 12) && node.id !== this.selected) continue;
       context.lineWidth = 3;
+      context.lineJoin = 'round';
       context.strokeStyle = this.colors.map;
-      context.strokeText(node.label, x, y + below);
-      context.fillStyle = node.failed ? this.colors.down : this.colors.text;
-      context.fillText(node.label, x, y + below);
+      if (!isIn) context.strokeText(node.label, x, y + below);
+      context.fillStyle = node.failed ? this.colors.down : isRouter ? this.colors.text : this.colors.cost;
+      context.fillText(node.label, x, y + below + (isIn ? 0.5 : 0));
     }
   }
+}
+
+// The corners of the least convex shape around points (the monotone chain of Andrew).
+function hullOf(points) {
+  const sorted = [...points].sort((a, b) => a[0] - b[0] || a[1] - b[1]);
+  const turn = (o, a, b) => (a[0] - o[0]) * (b[1] - o[1]) - (a[1] - o[1]) * (b[0] - o[0]);
+  const half = (list) => {
+    const kept = [];
+    for (const point of list) {
+      while (kept.length > 1 && turn(kept[kept.length - 2], kept[kept.length - 1], point) <= 0) kept.pop();
+      kept.push(point);
+    }
+    kept.pop();
+    return kept;
+  };
+  return [...half(sorted), ...half(sorted.reverse())];
 }
 
 // The outline of a node: circle, square of an ABR, hexagon of an ASBR, octagon of both, pill of a LAN.
@@ -437,10 +626,10 @@ function colorsOf(color) {
   return {
     theme: document.documentElement.dataset.theme,
     areas: Array.from({ length: AREA_COUNT + 1 }, (_, k) => color(`area${k}`)),
-    link: color('link'), down: color('down'), dearer: color('dearer-fill'), dearerText: color('dearer'), better: color('better'),
-    accent: color('accent'), faint: color('faint'), map: color('map'), cost: color('dim'), before: color('before'), node: color('panel'),
-    lost: color('lost-fill'), moved: color('moved-fill'), text: color('text'),
-    font: `600 12px ${color('sans')}`, small: `500 11px ${color('sans')}`,
+    link: color('link'), down: color('down'), dearer: color('dearer-fill'), dearerText: color('dearer'), better: color('better-fill'),
+    accent: color('accent'), faint: color('faint'), map: color('map'), cost: color('cost'), before: color('before'), now: color('now'),
+    node: color('node'), nodeLine: color('node-line'), none: color('none-fill'), lost: color('lost-fill'), moved: color('moved-fill'),
+    text: color('text'), font: `620 12px ${color('sans')}`, small: `500 10.5px ${color('mono')}`, areaFont: `600 11px ${color('sans')}`,
   };
 }
 

@@ -7,10 +7,13 @@ const TASKS = {
   async open({ compressed }) {
     const stream = new Blob([compressed]).stream().pipeThrough(new DecompressionStream('gzip'));
     module = await WebAssembly.compile(await new Response(stream).arrayBuffer());
-    return {};
+    return { readsCaptures: readsCaptures(module) };
   },
   study(given) {
     return runStudy(module, given);
+  },
+  capture(given) {
+    return runCapture(module, given);
   },
   // Places for nodes: near those that they have links to, and apart from all others.
   place({ nodes, links }) {

@@ -1,0 +1,2 @@
+// Everything is defined: the page begins.
+begin();

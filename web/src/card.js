@@ -1,0 +1,113 @@
+// The card of what is selected: what it is, and the lines that it offers, each with what the line would change.
+
+function select(id) {
+  state.selected = id;
+  picture.selected = id;
+  if (id) picture.reveal(id);
+  picture.draw();
+  const node = state.graph?.nodes.get(id);
+  if (node?.kind === 'router' && state.table !== id) {
+    state.table = id;
+    if (state.isLarge || state.tab === 'Routes') calculate(false);
+  }
+  showCard();
+}
+
+const endTitle = (edge, end) => `${nameOf(end.router)} to ${nameOf(edge.a === end.router ? edge.b : edge.a)}`;
+
+// The branch of the shown line, before a line for it.
+function inBranch(line) {
+  const branch = state.shown ? branchOf(editor.lines()[state.shown - 1]) : '0';
+  return branch === '0' ? line : `@${branch} ${line}`;
+}
+
+// The lines that drain a router: each of its links of types 1 and 2 costs 65535.
+function drainLines(router) {
+  return state.graph.nodes.get(router).edges
+    .flatMap((edge) => edge.ends.filter((end) => end.router === router && end.now !== null && end.now !== 65535).map((end) => `cost ${edge.area} ${nameOf(router)} ${end.data} 65535`));
+}
+
+const CUTS = {
+  link: (edge) => `fail-link ${edge.area} ${nameOf(edge.a)} ${nameOf(edge.b)}`,
+  transit: (edge) => `drop-link ${edge.area} ${nameOf(edge.a)} ${edge.ends[0].data}`,
+};
+
+async function setCost(edge, end) {
+  const cost = await ask(`Cost of ${endTitle(edge, end)}, 0 to 65535`, String(end.now ?? end.was));
+  if (cost !== null && cost.trim() !== '') add(inBranch(`cost ${edge.area} ${nameOf(end.router)} ${end.data} ${cost.trim()}`));
+}
+
+// What can be done with an element: a label, a key, and lines or what is done.
+function actionsOf(id) {
+  const { nodes, edges } = state.graph;
+  if (edges.has(id)) return edgeActions(edges.get(id));
+  const node = nodes.get(id);
+  if (node.kind === 'network') return node.failed ? [] : [{ label: 'Fail the LAN', key: 'f', lines: [`fail-net ${node.area} ${node.address}`] }];
+  const drain = drainLines(id);
+  return [
+    !node.failed && { label: 'Fail', key: 'f', lines: [`fail-router ${nameOf(id)}`] },
+    !node.failed && drain.length && { label: 'Drain', key: 'd', lines: drain },
+    { label: 'Path from here', key: 'p', act: () => askPath(id) },
+    { label: 'Routes', key: 't', act: () => { state.table = id; state.tab = 'Routes'; calculate(false); } },
+  ].filter(Boolean);
+}
+
+function edgeActions(edge) {
+  return [
+    !edgeFailed(edge) && { label: 'Cut', key: 'c', lines: [CUTS[edge.kind](edge)] },
+    ...edge.ends.filter((end) => end.now !== null).map((end, k) => ({ label: `Set cost ${endTitle(edge, end)}`, key: k ? null : 's', act: () => setCost(edge, end) })),
+  ].filter(Boolean);
+}
+
+async function askPath(from) {
+  const to = await ask(`Path from ${nameOf(from)} to which address?`, state.path?.to ?? '');
+  if (to?.trim()) showPath(from, to.trim());
+}
+
+function aboutElement(id) {
+  const { nodes, edges } = state.graph, edge = edges.get(id), node = nodes.get(id);
+  if (edge) return edge.ends.map((end) => `${nameOf(end.router)} link ${end.number}, ${end.data}, cost ${end.was}${end.now === null ? ', gone' : end.now !== end.was ? `, now ${end.now}` : ''}`);
+  if (node.kind === 'network') return [`Designated Router's address ${node.address}`, `members ${node.members.map(nameOf).join(', ')}`];
+  return [`Router ID ${node.id}`, `area${node.areas.length > 1 ? 's' : ''} ${node.areas.join(', ')}`, node.roles.map((role) => role.toUpperCase()).join(' and ')].filter(Boolean);
+}
+
+function showCard() {
+  const id = state.selected, { nodes, edges } = state.graph ?? {};
+  $('card').hidden = !id || !(nodes?.has(id) || edges?.has(id));
+  if ($('card').hidden) return;
+  const edge = edges.get(id), node = nodes.get(id), actions = actionsOf(id);
+  const condition = node?.failed || (edge && edgeFailed(edge)) ? ' (failed)' : node?.drained ? ' (drained)' : '';
+  const buttons = actions.map((action) => element('button', { type: 'button', 'data-key': action.key, onclick: action.act ?? (() => add(...action.lines.map(inBranch))) },
+    action.label, action.lines ? element('span', { class: 'forecast' }, '…') : null, action.key ? element('kbd', { class: action.lines ? null : 'forecast' }, action.key.toUpperCase()) : null));
+  const culprit = condition ? lineOf(id) : 0;
+  if (culprit) buttons.unshift(element('button', { type: 'button', onclick: () => editor.remove(culprit) }, `Remove line ${culprit}`));
+  $('card').replaceChildren(element('h2', {}, edge ? edgeTitle(edge, nodes) : node.label, condition), ...aboutElement(id).map((line) => element('div', { class: 'dim' }, line)),
+    element('div', { class: 'actions' }, buttons), button('×', () => select(null), { class: 'button bare close', 'aria-label': 'Close' }));
+  forecast(actions.filter(({ lines }) => lines));
+}
+
+// The line of the study that names an element, the last one before the shown line.
+function lineOf(id) {
+  const { nodes, edges } = state.graph, edge = edges.get(id);
+  const names = (edge ? [edge.a, edge.b] : [id]).flatMap((one) => [one, nodes.get(one)?.label, nodes.get(one)?.address]).filter(Boolean);
+  return editor.lines().slice(0, state.shown).findLastIndex((line) => EDITS.has(wordOf(line)) && line.split(/\s+/).some((word) => names.includes(word))) + 1;
+}
+
+// Says beside each action what its lines would change, against what the shown line has left.
+async function forecast(actions) {
+  const places = [...$('card').querySelectorAll('span.forecast')];
+  if (state.isLarge || routerCount() > MOST_FORECAST) {
+    places.forEach((one) => { one.textContent = ''; });
+    return;
+  }
+  const id = state.selected, before = editor.lines().slice(0, state.shown);
+  const lines = actions.flatMap(({ lines: edits }) => [...edits, 'changes', `undo ${edits.length}`]).map(inBranch);
+  const found = documentsOf(await calculator.study(asked([...before, ...lines].join('\n')))).filter(({ line, word, counts }) => line > before.length && word === 'changes' && counts);
+  if (state.selected !== id) return;
+  const now = state.answers.now.changes?.counts;
+  places.forEach((one, k) => {
+    const counts = found[k]?.counts;
+    if (!counts || !now) one.textContent = '';
+    else one.textContent = countsText(Object.fromEntries(Object.keys(counts).map((kind) => [kind, Math.max(0, counts[kind] - now[kind])]))) || 'no change';
+  });
+}

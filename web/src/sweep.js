@@ -1,0 +1,66 @@
+// One more failure after the shown line, each by itself: counted in a worker of its own, while the page goes on.
+
+// How many failures are asked for at a time.
+const AT_A_TIME = 8;
+
+function sweepLines(kind) {
+  const { nodes, edges } = state.graph, present = [...nodes.values()].filter((node) => !node.failed);
+  const links = new Map([...edges.values()].filter((edge) => edge.kind === 'link' && !edgeFailed(edge)).map((edge) => [CUTS.link(edge), edge.key]));
+  const networks = present.filter((node) => node.kind === 'network').map((node) => [`fail-net ${node.area} ${node.address}`, node.id]);
+  const routers = present.filter((node) => node.kind === 'router').map((node) => [`fail-router ${nameOf(node.id)}`, node.id]);
+  return { links: [...links], networks, routers, all: [...links, ...networks, ...routers] }[kind];
+}
+
+async function sweep() {
+  const lines = sweepLines(state.sweepKind), before = editor.lines().slice(0, state.shown);
+  const run = { rows: [], count: lines.length, worker: new Calculator(parts) };
+  state.sweep = run;
+  picture.mode = 'sweep';
+  for (let at = 0; at < lines.length && !run.isStopped; at += AT_A_TIME) {
+    const some = lines.slice(at, at + AT_A_TIME);
+    const study = [...before, inBranch('changes'), ...some.flatMap(([line]) => [line, 'changes', 'loops', 'undo 1'].map(inBranch))];
+    const documents = documentsOf(await run.worker.study(asked(study.join('\n')))).filter(({ line }) => line > before.length);
+    run.rows.push(...some.map(([line, key], k) => sweepRow(line, key, documents[0].counts, documents.slice(4 * k + 1, 4 * k + 5))));
+    if (state.sweep === run && state.tab === 'Sweep') showTabs();
+    if (state.sweep === run) showPicture();
+  }
+  run.worker.end();
+  run.isDone = !run.isStopped;
+  if (state.sweep === run) showTabs();
+}
+
+// What a failure does by itself: its counts without those of before.
+function sweepRow(line, key, first, [, changes, loops]) {
+  const counts = Object.fromEntries(['lost', 'gone', 'dearer', 'moved'].map((kind) => [kind, Math.max(0, changes.counts[kind] - first[kind])]));
+  return { line, key, ...counts, loops: loops.loops.length };
+}
+
+// What is drawn on links while a sweep is shown.
+const heatOf = (run) => new Map((run?.rows ?? []).map((one) => [one.key, one]));
+
+// Shares of a row's counts, against the greatest sum.
+function bar(counts, most) {
+  return element('span', { class: 'bar' }, ['lost', 'gone', 'dearer', 'moved'].map((kind) => {
+    const part = element('i', { class: kind });
+    part.style.width = `${100 * counts[kind] / most}%`;
+    return part;
+  }));
+}
+
+function showSweep() {
+  const run = state.sweep;
+  const kinds = switched('What fails', [['links', 'links'], ['networks', 'LANs'], ['routers', 'routers'], ['all', 'all']], state.sweepKind, (value) => { state.sweepKind = value; showTabs(); }, 'sweep');
+  if (state.isLarge) return 'With this number of routers a sweep takes too long in a browser: ospf-study carries it out.';
+  const start = button(run ? 'Run again' : 'Run', () => { sweep(); showTabs(); }, { id: 'sweep', class: 'button first' });
+  if (!run) return [chips(kinds, start), 'Fails each one by itself, after the shown line, and counts what every router loses.'];
+  const rows = [...run.rows].sort((a, b) => b.lost - a.lost || b.gone - a.gone || b.dearer - a.dearer);
+  const most = Math.max(1, ...rows.map(({ lost, gone, dearer, moved }) => lost + gone + dearer + moved));
+  const losing = rows.filter(({ lost }) => lost).length;
+  const said = run.isDone ? [element('span', { class: 'dim' }, `${rows.length} failures: `, element('b', { class: losing ? 'lost' : '' }, `${losing} lose routes`))]
+    : [element('progress', { max: run.count, value: rows.length, 'aria-label': 'Progress' }), element('span', { class: 'dim' }, `${rows.length} of ${run.count}`), button('Stop', () => { run.isStopped = true; showTabs(); })];
+  const cell = (count, kind) => element('span', { class: count ? kind : 'faint' }, String(count));
+  return [chips(kinds, run.isDone || run.isStopped ? start : null, ...said), scroll(table(['Failure', 'What it does', 'Lost', 'Gone', 'Dearer', 'Moved', 'Loops'], rows.map((one) => row(
+    [element('span', { class: 'mono' }, one.line), bar(one, most), cell(one.lost, 'lost'), cell(one.gone, 'lost'), cell(one.dearer, 'dearer'), cell(one.moved, 'moved'), cell(one.loops, 'lost')],
+    () => { add(inBranch(one.line)); }, { 'data-line': one.line },
+  ))))];
+}

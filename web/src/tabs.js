@@ -1,0 +1,289 @@
+// The tabs of results, each a function that gives what its pane contains.
+
+const MOST_ROWS = 1000;
+// With more changes, groups are closed at first.
+const MOST_OPEN = 160;
+const SIGNS = { lost: '✕', gone: '✕', dearer: '▲', cheaper: '▼', moved: '➜', type: '◆', gained: '+', 'router-gone': '✕', 'router-new': '+' };
+
+const TABS = { Changes: showChanges, Path: showPathTab, Loops: showLoops, Sweep: showSweep, Audit: showAudit, Routes: showRoutes, Elements: showElements, Files: showFiles };
+
+// The tabs that there are: findings only where the dump was made of files.
+function tabs() {
+  const { Files, ...others } = TABS;
+  return state.found ? { ...others, Files } : others;
+}
+
+function showTab(name) {
+  state.tab = name;
+  if (name !== 'Sweep' && picture.mode === 'sweep') picture.mode = 'impact';
+  showPicture();
+  showTabs();
+}
+
+function badges() {
+  const { changes, loops } = state.answers.now, { sweep, audit, found: findings } = state;
+  const losing = sweep?.rows.filter(({ lost }) => lost).length;
+  const wrong = audit?.findings.filter((finding) => finding.class === 'wrong').length;
+  return {
+    Changes: [changes?.changes.length], Loops: [loops && loops.loops.length + loops.blackholes.length, 'bad'],
+    Sweep: [losing, 'bad'], Audit: audit ? [wrong || 'clean', wrong ? 'bad' : 'ok'] : [], Routes: [state.table && nameOf(state.table)], Files: [findings?.warnings.length, 'bad'],
+  };
+}
+
+function showTabs() {
+  const names = Object.keys(tabs()), badge = badges();
+  if (!names.includes(state.tab)) state.tab = 'Changes';
+  $('tabs').replaceChildren(...names.map((name, k) => element('button', {
+    type: 'button', role: 'tab', id: `tab-${name}`, title: String(k + 1), 'aria-selected': String(state.tab === name), tabindex: state.tab === name ? 0 : -1,
+    onclick: () => { showTab(name); $(`tab-${name}`).focus(); },
+    onkeydown: (event) => {
+      const by = { ArrowRight: 1, ArrowLeft: -1 }[event.key];
+      if (!by) return;
+      showTab(names[(names.indexOf(name) + by + names.length) % names.length]);
+      $(`tab-${state.tab}`).focus();
+    },
+  }, name, badge[name]?.[0] ? element('span', { class: `count ${badge[name][1] ?? ''}` }, String(badge[name][0])) : null)));
+  $('pane').setAttribute('aria-labelledby', `tab-${state.tab}`);
+  const shown = [TABS[state.tab]()].flat().map((part) => typeof part === 'string' ? element('p', {}, part) : part);
+  $('pane').replaceChildren(...shown);
+  stopOnce($('pane'));
+}
+
+// One stop of the Tab key for all rows of a pane; arrows go from row to row.
+function stopOnce(pane) {
+  const rows = [...pane.querySelectorAll('tr[tabindex]')];
+  rows.forEach((one, k) => { one.tabIndex = k ? -1 : 0; });
+  pane.onkeydown = (event) => {
+    const at = rows.indexOf(event.target), by = { ArrowDown: 1, ArrowUp: -1 }[event.key];
+    if (at < 0 || !by || !rows[at + by]) return;
+    event.preventDefault();
+    rows[at].tabIndex = -1;
+    rows[at + by].tabIndex = 0;
+    rows[at + by].focus();
+  };
+}
+
+function table(heads, rows, attributes = {}) {
+  return element('table', attributes, element('thead', {}, element('tr', {}, heads.map((head) => element('th', { scope: 'col' }, head)))), element('tbody', {}, rows));
+}
+
+const scroll = (...children) => element('div', { class: 'scroll' }, children);
+const chips = (...children) => element('div', { class: 'chips' }, children);
+
+// A row that does something when it is chosen.
+function row(cells, act, attributes = {}) {
+  const onkeydown = (event) => { if (event.key === 'Enter') act(); };
+  return element('tr', act ? { ...attributes, class: `row ${attributes.class ?? ''}`, tabindex: 0, onclick: act, onkeydown } : attributes, cells.map((cell) => element('td', {}, cell)));
+}
+
+function addressIn(prefix) {
+  return prefix.split('/')[0];
+}
+
+// ---- changes
+
+function isShownChange({ change, router, prefix }) {
+  const kinds = { moved: ['moved', 'type'], better: ['cheaper', 'gained'] }[state.kind] ?? [state.kind];
+  return (!state.kind || kinds.includes(change)) && (!state.filter || nameOf(router).includes(state.filter) || (prefix ?? '').startsWith(state.filter));
+}
+
+function showChanges() {
+  const { changes } = state.answers.now;
+  if (state.isLarge && !changes) return 'Choose a router (/): with this number of routers, its own changes alone are calculated.';
+  if (!changes?.changes.length) return state.isLarge ? `${nameOf(state.table)} uses what it used in the loaded database.` : 'No router uses anything else than in the loaded database.';
+  const kept = changes.changes.filter(isShownChange);
+  const chosen = KINDS.filter((kind) => changes.counts[kind]).map((kind) => button([`${SIGNS[kind]} ${kind} `, element('b', {}, String(changes.counts[kind]))], () => {
+    state.kind = state.kind === kind ? null : kind;
+    showCounts();
+    showTabs();
+  }, { class: `button chip ${kind}`, 'aria-pressed': String(state.kind === kind) }));
+  const group = switched('Group by', [['router', 'By router'], ['prefix', 'By prefix'], ['flat', 'Flat']], state.group, (value) => { state.group = value; showTabs(); }, 'group');
+  const filter = element('input', { placeholder: 'Router or prefix', 'aria-label': 'Filter', value: state.filter, size: 14, onchange: (event) => { state.filter = event.target.value.trim(); showTabs(); } });
+  const bar = chips(chosen, element('span', { class: 'grow' }), group, filter, button('Expect this', () => add(...expectations(changes).map(inBranch)), { title: 'Adds lines that expect what is lost here, and no more' }));
+  return [bar, element('div', { class: 'beside' }, scroll(changeTable(kept)), matrix(changes.changes))];
+}
+
+function changeRow({ change, router, prefix, now, was }) {
+  const cells = [
+    element('b', { class: change }, `${SIGNS[change]} ${change}`), nameOf(router), prefix ?? '', costText(was), costText(now), waysText(was, nameOf), waysText(now, nameOf),
+  ];
+  return row(cells, prefix ? () => showPath(router, addressIn(prefix)) : () => select(router));
+}
+
+function changeTable(kept) {
+  const heads = ['Change', 'Router', 'Prefix', 'Cost was', 'Cost now', 'Next hop was', 'Next hop now'];
+  if (state.group === 'flat') return table(heads, [...kept.slice(0, MOST_ROWS).map(changeRow), rest(kept.length, heads.length)]);
+  const groups = new Map();
+  for (const change of kept) {
+    const key = state.group === 'router' ? change.router : change.prefix ?? 'routers';
+    groups.set(key, [...(groups.get(key) ?? []), change]);
+  }
+  const weight = (list) => list.reduce((sum, { change }) => sum + ({ lost: 1000, gone: 300, dearer: 3, type: 1, moved: 1 }[change] ?? 0), 0);
+  const sorted = [...groups].sort(([, one], [, other]) => weight(other) - weight(one));
+  let left = MOST_ROWS;
+  const rows = sorted.slice(0, MOST_ROWS).flatMap(([key, list]) => {
+    const isOpen = (kept.length <= MOST_OPEN) !== state.folded.has(key), shown = isOpen ? list.slice(0, left) : [];
+    left -= shown.length;
+    return [groupRow(key, list, isOpen, heads.length), ...shown.map(changeRow)];
+  });
+  return table(heads, rows);
+}
+
+function groupRow(key, list, isOpen, columns) {
+  const flip = () => {
+    state.folded[state.folded.has(key) ? 'delete' : 'add'](key);
+    showTabs();
+  };
+  const counts = KINDS.map((kind) => [kind, list.filter(({ change }) => change === kind).length]).filter(([, count]) => count);
+  const said = counts.map(([kind, count]) => element('span', { class: kind }, `${count} ${kind}`));
+  const attributes = { class: 'row group', tabindex: 0, 'aria-expanded': String(isOpen), onclick: flip, onkeydown: (event) => { if (event.key === 'Enter') flip(); } };
+  return element('tr', attributes, element('td', { colspan: columns }, `${isOpen ? '▾' : '▸'} ${state.group === 'router' ? nameOf(key) : key}`, said));
+}
+
+const rest = (count, columns) => count > MOST_ROWS ? element('tr', {}, element('td', { colspan: columns, class: 'dim' }, `and ${count - MOST_ROWS} more: filter by router or prefix`)) : null;
+
+// Routers against the prefixes that changed for one of them: the shape of the damage.
+function matrix(changes) {
+  const prefixes = [...new Set(changes.map(({ prefix }) => prefix).filter(Boolean))], routers = [...state.graph.nodes.values()].filter((node) => node.kind === 'router');
+  if (routers.length > 60 || prefixes.length > 200 || !prefixes.length) return null;
+  const canvas = element('canvas', {}), at = new Map(changes.map((change) => [`${change.router} ${change.prefix}`, change.change]));
+  const names = Math.min(90, 10 + 6.6 * Math.max(...routers.map(({ label }) => label.length)));
+  const width = Math.max(2, Math.min(20, 300 / prefixes.length)), height = Math.max(3, Math.min(19, 190 / routers.length)), ratio = devicePixelRatio || 1;
+  const style = getComputedStyle(document.documentElement), color = (name) => style.getPropertyValue(`--${name}`).trim();
+  [canvas.width, canvas.height] = [(names + width * prefixes.length) * ratio, height * routers.length * ratio];
+  [canvas.style.width, canvas.style.height] = [`${canvas.width / ratio}px`, `${canvas.height / ratio}px`];
+  const context = canvas.getContext('2d');
+  context.scale(ratio, ratio);
+  context.font = `500 ${Math.min(11, height)}px ${color('sans')}`;
+  context.textAlign = 'right';
+  context.textBaseline = 'middle';
+  const fills = { lost: 'lost-fill', gone: 'lost-fill', dearer: 'dearer-fill', type: 'moved-fill', moved: 'moved-fill', cheaper: 'better-fill', gained: 'better-fill' };
+  routers.forEach((node, y) => {
+    context.fillStyle = color(node.failed ? 'down' : 'dim');
+    if (height >= 8) context.fillText(node.label, names - 6, (y + 0.5) * height);
+    prefixes.forEach((prefix, x) => {
+      context.fillStyle = color(fills[at.get(`${node.id} ${prefix}`)] ?? 'none-fill');
+      if (!node.failed) context.fillRect(names + x * width, y * height, width - (width > 5), height - (height > 5));
+    });
+  });
+  return element('div', { class: 'matrix', 'aria-hidden': 'true' }, element('h3', {}, 'router × changed prefix'), canvas);
+}
+
+// What is seen, as lines that expect it.
+function expectations({ counts }) {
+  return [counts.lost ? `expect lost <= ${counts.lost}` : 'expect lost none', counts.gone ? `expect gone <= ${counts.gone}` : 'expect gone none', 'expect loops none'];
+}
+
+// ---- path
+
+function showPath(from, to) {
+  state.path = { from, to };
+  state.tab = 'Path';
+  calculate(false);
+}
+
+const routeText = (route) => !route ? '' : `${route.prefix} ${route.kind === 'own' ? `own ${route.external}` : route.kind}`;
+
+function pathSide(title, path, other, kind) {
+  const seen = new Set((other?.steps ?? []).map((one) => `${one.router} ${one.to}`));
+  const rows = (path?.steps ?? []).map((one, k, steps) => row(
+    [nameOf(one.router), one.to ? nameOf(one.to) : one.end, one.out ?? '', one.cost ?? '', costText(one.route ?? null), routeText(one.route)],
+    null,
+    { class: `${seen.has(`${one.router} ${one.to}`) ? '' : 'differs'}${k && steps[k - 1].router === one.router ? ' alternative' : ''}${one.to ? '' : ` end${one.end === 'blackhole' ? ' bad' : ''}`}` },
+  ));
+  for (const loop of path?.loops ?? []) rows.push(row([`loop ${loop.map(nameOf).join(', ')}`, '', '', '', '', ''], null, { class: 'end bad' }));
+  const routers = new Set((path?.steps ?? []).map(({ router }) => router)).size;
+  const end = path?.steps?.[0]?.route;
+  return element('div', { class: `scroll ${kind}` }, element('h3', {}, `${kind === 'before' ? '┅' : '━'} ${title}`, element('span', { class: 'dim' }, path ? `${routers} routers, ${path.ends.join(', ')}` : 'no answer'), element('span', { class: 'grow' }), end ? costText(end) : ''),
+    table(['Router', 'Next', 'Out', 'Cost', 'Left', 'Route'], rows));
+}
+
+function showPathTab() {
+  const { before, now } = state.answers, { path } = state;
+  const form = element('form', { class: 'chips', onsubmit: (event) => {
+    event.preventDefault();
+    const [from, to] = ['from', 'to'].map((name) => event.target.elements[name].value.trim());
+    if (from && to) showPath(idOf(from), to);
+  } }, element('label', {}, 'From ', element('input', { name: 'from', list: 'found', size: 12, value: path ? nameOf(path.from) : '' })),
+  element('label', {}, ' to address ', element('input', { name: 'to', size: 16, value: path?.to ?? '' })), element('button', { class: 'button' }, 'Show'), element('span', { class: 'grow' }),
+  path ? [button('Expect delivered', () => add(inBranch(`expect path ${nameOf(path.from)} ${path.to} delivered`))), button('Expect this way', () => add(...thisWay(now.path).map(inBranch)))] : null);
+  if (!path) return [form, 'Choose a router and an address: the way of a packet before and now, in the picture too.'];
+  return [form, element('div', { class: 'beside' }, pathSide('As loaded', before.path, now.path, 'before'), pathSide(state.shown ? `After line ${state.shown}` : 'Now', now.path, before.path, 'now'))];
+}
+
+// Lines that expect a packet to pass the routers that it passes.
+function thisWay(path) {
+  const routers = [...new Set((path?.steps ?? []).map(({ router }) => router))].slice(1);
+  return routers.map((router) => `expect path ${nameOf(state.path.from)} ${state.path.to} via ${nameOf(router)}`);
+}
+
+// ---- loops
+
+function showLoops() {
+  const { loops, microloops } = state.answers.now;
+  if (state.isLarge) return 'Loops are not calculated with this number of routers: ospf-study does.';
+  const rows = [
+    ...(loops?.loops ?? []).map((loop) => row([element('b', { class: 'lost' }, 'loop'), loop.prefix, loop.routers.map(nameOf).join(' ⇄ '), ''], () => showPath(loop.routers[0], addressIn(loop.prefix)))),
+    ...(loops?.blackholes ?? []).map((hole) => row([element('b', { class: 'lost' }, 'blackhole'), hole.prefix, nameOf(hole.router), hole.from.map(nameOf).join(', ')], () => showPath(hole.from[0], addressIn(hole.prefix)))),
+    ...(microloops?.loops ?? []).slice(0, MOST_ROWS).map((loop) => row([element('b', { class: 'dearer' }, 'may loop'), loop.prefix, loop.routers.map(nameOf).join(' ⇄ '), 'while routers change over'], () => showPath(loop.routers[0], addressIn(loop.prefix)))),
+  ];
+  const none = 'No loop, and no blackhole that the loaded database does not have.';
+  const bar = chips(element('span', { class: 'dim' }, 'over all prefixes, after the shown line'), element('span', { class: 'grow' }),
+    ...['loops', 'blackholes', 'microloops'].map((what) => button(`Expect no ${what}`, () => add(inBranch(`expect ${what} none`)))));
+  return [bar, rows.length ? scroll(table(['What', 'Prefix', 'Routers', 'From'], rows)) : none];
+}
+
+// ---- routes
+
+function showRoutes() {
+  const { routes } = state.answers.now;
+  if (!state.table || !routes?.routes) return 'Choose a router, and Routes in its card.';
+  const rows = routes.routes.slice(0, MOST_ROWS).map((route) => row([
+    route.prefix, route.kind, costText(route), waysText(route, nameOf), button('Why', (event) => { event.stopPropagation(); explain(route.prefix); }, { class: 'button bare', 'aria-label': `Why ${route.prefix} is so` }),
+  ], () => showPath(state.table, addressIn(route.prefix))));
+  const bar = chips(element('b', {}, `What ${nameOf(state.table)} uses`), element('span', { class: 'dim' }, `${routes.routes.length} prefixes`));
+  return [bar, element('div', { class: 'beside' }, scroll(table(['Prefix', 'Kind', 'Cost', 'Ways', ''], rows)), element('pre', { id: 'why', class: 'scroll', hidden: true }))];
+}
+
+// Why a route is what it is, by the rules of RFC 2328.
+async function explain(prefix) {
+  const lines = [...editor.lines().slice(0, state.shown), inBranch(`explain ${nameOf(state.table)} ${prefix}`)];
+  const answer = await calculator.study(asked(lines.join('\n'), { json: false }));
+  const said = text(answer.replies).split('\n'), at = said.findLastIndex((line) => /^@\d explain /.test(line));
+  if (!$('why')) return;
+  $('why').hidden = false;
+  $('why').textContent = said.slice(at, -2).join('\n');
+}
+
+// ---- elements, audit, files
+
+function showElements() {
+  const { nodes, edges } = state.graph;
+  const isFailed = (failed) => failed ? element('b', { class: 'lost' }, 'failed') : '';
+  const listed = [
+    ...[...edges.values()].map((edge) => row([edge.kind === 'link' ? 'link' : 'LAN link', edgeTitle(edge, nodes), edge.area, edge.ends.map((end) => end.now ?? '✕').join(' / '), isFailed(edgeFailed(edge))], () => select(edge.key), { 'data-element': edge.key })),
+    ...[...nodes.values()].map((node) => row([node.kind === 'network' ? 'LAN' : ['router', ...node.roles].join(' '), node.label, node.areas.join(', '), '', isFailed(node.failed)], () => select(node.id), { 'data-element': node.id })),
+  ];
+  return [scroll(table(['What', 'Name', 'Area', 'Cost', ''], [...listed.slice(0, MOST_ROWS), listed.length > MOST_ROWS ? element('tr', {}, element('td', { colspan: 5, class: 'dim' }, `and ${listed.length - MOST_ROWS} more: find them by name (/)`)) : null]))];
+}
+
+function showAudit() {
+  if (!state.audit) {
+    calculator.study(asked('audit\n')).then((answer) => {
+      [state.audit] = documentsOf(answer);
+      if (state.tab === 'Audit') showTabs();
+    });
+    return 'Calculating.';
+  }
+  const bar = chips(element('span', { class: 'dim' }, 'what of the loaded database the answers may not be trusted for'), element('span', { class: 'grow' }), button('Expect an audit without findings', () => add('expect audit clean')));
+  if (!state.audit.findings.length) return [bar, 'Clean: nothing in the database makes a table wrong.'];
+  const rows = state.audit.findings.map((finding) => row([element('b', { class: finding.class === 'wrong' ? 'lost' : 'dim' }, finding.class), finding.kind, finding.count, finding.first, finding.meaning, finding.action]));
+  return [bar, scroll(table(['Class', 'Kind', 'Count', 'First', 'Meaning', 'What to do'], rows))];
+}
+
+// What was found in the files that the dump was made of.
+function showFiles() {
+  const { contents, notices, warnings } = state.found;
+  const rows = [['warning', 'lost', warnings], ['notice', 'dearer', notices], ['file', 'dim', contents]].flatMap(([what, kind, lines]) => lines.map((line) => row([element('b', { class: kind }, what), line])));
+  return [scroll(table(['What', 'Found'], rows))];
+}
