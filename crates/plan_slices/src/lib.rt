@@ -1,8 +1,8 @@
 //! The planner over bytes in memory, with any allocator.
 //!
 //! [`plan`] carries out a script on a dump, and gives the texts that are wanted of what `ospf-plan`
-//! writes; [`copy_texts`] copies three texts to the room that a host has for each. [`fault_text`] is
-//! the line of a run that ended early.
+//! writes; [`copy_texts`] copies three texts to the room that a host has for each. [`fault_text`]
+//! is the line of a run that ended early.
 #![tactic(auto)]
 
 mod fault;

@@ -17,8 +17,8 @@ pub fn copy_text(text: &[u8], room: &mut [u8]) -> bool
     true
 }
 
-/// Copies three texts, each to the front of the room for it, and leaves the bytes after them as they
-/// were. Returns whether there is room for all; without it nothing is copied.
+/// Copies three texts, each to the front of the room for it, and leaves the bytes after them as
+/// they were. Returns whether there is room for all; without it nothing is copied.
 pub fn copy_texts(
     first: &[u8],
     second: &[u8],
