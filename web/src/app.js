@@ -326,13 +326,28 @@ function showSaved() {
 
 const outcomeText = () => `${$('verdict').textContent}: ${$('held').textContent}`;
 
+// A text with names in the place of Router IDs, which documents have.
+const named = (said) => said.replace(/\b\d+\.\d+\.\d+\.\d+\b(?!\/)/g, (address) => state.graph?.nodes.get(address)?.label ?? address);
+
 function showFaults() {
   const lines = editor.lines();
   const wrong = [...state.answers.study].filter(([, { answer }]) => ['failed', 'refused', 'fault'].includes(answer));
-  $('faults').replaceChildren(...wrong.map(([number, answer]) => element('p', { class: answer.answer },
-    element('b', {}, `${number} ${lines[number - 1].trim()}: `), found(answer), ' ',
-    button('Show', () => showAfter(number), { 'aria-label': `Show the network after line ${number}` }),
-    button('Remove', () => { editor.remove(number); }, { 'aria-label': `Remove line ${number}` }))));
+  $('faults').replaceChildren(...wrong.map(([number, answer]) => {
+    const line = lines[number - 1], mended = mend(line, answer);
+    return element('p', { class: answer.answer }, element('b', {}, `${number} ${line.trim()}: `), answer.found ? named(found(answer)) : found(answer), ' ',
+      button('Show', () => showAfter(number), { 'aria-label': `Show the network after line ${number}` }),
+      mended ? button(answer.found ? 'Expect what was found' : `Write ${mended.word}`, () => editor.change(number, mended.line)) : null,
+      button('Remove', () => editor.remove(number), { 'aria-label': `Remove line ${number}` }));
+  }));
+}
+
+// A line with what the hint of its refusal names in the place of the word at fault, or one that expects what was found.
+function mend(line, { at, hint, expected, found: said }) {
+  const word = /^(?:did you mean|the database has|names have|area \S+ has) (\S+)$/.exec(hint ?? '')?.[1];
+  if (word && line.split(/\s+/).filter((one) => one === at).length === 1) return { word, line: line.split(/(\s+)/).map((one) => one === at ? word : one).join('') };
+  const count = /^(lost|gone|changes) (\d+)/.exec(said ?? '');
+  if (!count || !['lost', 'gone', 'changes', 'same'].includes(expected) || /\bnot\b|\bonly\b|\bsame\s+\S/.test(line)) return null;
+  return { word: count[0], line: `${/^\s*(@[0-7]\s+)?/.exec(line)[0]}expect ${count[1]} <= ${count[2]}` };
 }
 
 // To the next line that is not accepted.
