@@ -55,7 +55,6 @@ const editor = new Editor({ text: $('text'), gutter: $('gutter'), drawn: $('draw
 });
 
 const nameOf = (router) => state.graph?.nodes.get(router)?.label ?? router;
-const routerCount = () => state.answers?.before.routers.routers.length ?? 0;
 const isBusy = (busy) => { document.body.dataset.state = busy ? 'busy' : 'ready'; };
 const asked = (study, more = {}) => ({ dump: state.dump, names: state.names, study: bytes(study), json: true, keepGoing: true, ...more });
 const documentsOf = (answer) => text(answer.replies).trim().split('\n').map((line) => JSON.parse(line));
@@ -74,7 +73,7 @@ async function open(dump, name, { names = null, study = null, studyName = null, 
   const [{ routers }, { done }] = documentsOf(answer);
   Object.assign(state, {
     dump, dumpName: name, names: given.names, done, chosen: null, selected: null, path: null, audit: null, sweep: null, found: findings,
-    folded: new Set(), filter: '', kind: null, table: routers[0]?.router ?? null, isLarge: routers.length > MOST_CALCULATED,
+    folded: new Set(), filter: '', kind: null, table: routers[0]?.router ?? null, routerCount: routers.length, isLarge: routers.length > MOST_CALCULATED,
   });
   if (study !== null) editor.text.value = study;
   if (studyName) $('study-name').value = studyName;
@@ -165,10 +164,10 @@ async function calculate(isNew) {
   if (!state.dump) return;
   const turn = ++state.asked, begun = performance.now();
   isBusy(true);
-  const lines = editor.lines(), shown = shownLine(lines), routers = routerCount();
+  const lines = editor.lines(), shown = shownLine(lines), routers = state.routerCount;
   const isSmall = !state.isLarge && routers <= MOST_FORECAST;
   const { text: study, all } = withQuestions(lines, shown, {
-    path: state.path, table: state.table, isLarge: state.isLarge, hasMicroloops: isSmall, counts: isSmall && lines.filter(isEdit).length * routers <= 1000,
+    path: state.path, table: state.table, isLarge: state.isLarge, isSmall, isChanged: state.done > 0 || lines.slice(0, shown).some(isEdit), counts: isSmall && lines.filter(isEdit).length * routers <= 1000,
   });
   const answer = await calculator.study(asked(study));
   if (turn !== state.asked) return;
