@@ -128,7 +128,7 @@ class Editor {
     if (!answer) return '';
     if (counts && this.stateOf(number) === 'edit') return countsText(counts) || 'changes no table';
     if (answer.answer === 'failed' || answer.code) return answer.code ? `${answer.code} ${answer.name}` : 'failed';
-    return answer.found ?? '';
+    return named(answer.found ?? '');
   }
 
   colored(line, wrong) {
