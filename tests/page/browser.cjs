@@ -97,11 +97,9 @@ async function open(browser, url, width = 1280, height = 800) {
   };
   // Gives files to the page's picker, as a person does.
   const pick = async (...files) => {
-    const { root } = await send('DOM.getDocument');
-    const { nodeId } = await send('DOM.querySelector', { nodeId: root.nodeId, selector: '#files' });
     // Until the page has taken them, however late it hears of them.
-    await evaluate('document.body.dataset.state = "busy"');
-    await send('DOM.setFileInputFiles', { nodeId, files });
+    const { result } = await send('Runtime.evaluate', { expression: 'document.body.dataset.state = "busy", document.getElementById("files")' });
+    await send('DOM.setFileInputFiles', { objectId: result.objectId, files });
   };
   const picture = async (file) => fs.writeFileSync(file, Buffer.from((await send('Page.captureScreenshot', { format: 'png' })).data, 'base64'));
   return { send, evaluate, until, settle, click, clickAt, key, pick, picture, requests, printed };

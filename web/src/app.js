@@ -55,7 +55,6 @@ const editor = new Editor({ text: $('text'), gutter: $('gutter'), drawn: $('draw
 });
 
 const nameOf = (router) => state.graph?.nodes.get(router)?.label ?? router;
-const routerCount = () => state.answers?.before.routers.routers.length ?? 0;
 const isBusy = (busy) => { document.body.dataset.state = busy ? 'busy' : 'ready'; };
 const asked = (study, more = {}) => ({ dump: state.dump, names: state.names, study: bytes(study), json: true, keepGoing: true, ...more });
 const documentsOf = (answer) => text(answer.replies).trim().split('\n').map((line) => JSON.parse(line));
@@ -74,7 +73,7 @@ async function open(dump, name, { names = null, study = null, studyName = null, 
   const [{ routers }, { done }] = documentsOf(answer);
   Object.assign(state, {
     dump, dumpName: name, names: given.names, done, chosen: null, selected: null, path: null, audit: null, sweep: null, found: findings,
-    folded: new Set(), filter: '', kind: null, table: routers[0]?.router ?? null, isLarge: routers.length > MOST_CALCULATED,
+    folded: new Set(), filter: '', kind: null, table: routers[0]?.router ?? null, routerCount: routers.length, isLarge: routers.length > MOST_CALCULATED,
   });
   if (study !== null) editor.text.value = study;
   if (studyName) $('study-name').value = studyName;
@@ -165,10 +164,10 @@ async function calculate(isNew) {
   if (!state.dump) return;
   const turn = ++state.asked, begun = performance.now();
   isBusy(true);
-  const lines = editor.lines(), shown = shownLine(lines), routers = routerCount();
+  const lines = editor.lines(), shown = shownLine(lines), routers = state.routerCount;
   const isSmall = !state.isLarge && routers <= MOST_FORECAST;
   const { text: study, all } = withQuestions(lines, shown, {
-    path: state.path, table: state.table, isLarge: state.isLarge, hasMicroloops: isSmall, counts: isSmall && lines.filter(isEdit).length * routers <= 1000,
+    path: state.path, table: state.table, isLarge: state.isLarge, isSmall, isChanged: state.done > 0 || lines.slice(0, shown).some(isEdit), counts: isSmall && lines.filter(isEdit).length * routers <= 1000,
   });
   const answer = await calculator.study(asked(study));
   if (turn !== state.asked) return;
@@ -326,13 +325,28 @@ function showSaved() {
 
 const outcomeText = () => `${$('verdict').textContent}: ${$('held').textContent}`;
 
+// A text with names in the place of Router IDs, which documents have.
+const named = (said) => said.replace(/\b\d+\.\d+\.\d+\.\d+\b(?!\/)/g, (address) => state.graph?.nodes.get(address)?.label ?? address);
+
 function showFaults() {
   const lines = editor.lines();
   const wrong = [...state.answers.study].filter(([, { answer }]) => ['failed', 'refused', 'fault'].includes(answer));
-  $('faults').replaceChildren(...wrong.map(([number, answer]) => element('p', { class: answer.answer },
-    element('b', {}, `${number} ${lines[number - 1].trim()}: `), found(answer), ' ',
-    button('Show', () => showAfter(number), { 'aria-label': `Show the network after line ${number}` }),
-    button('Remove', () => { editor.remove(number); }, { 'aria-label': `Remove line ${number}` }))));
+  $('faults').replaceChildren(...wrong.map(([number, answer]) => {
+    const line = lines[number - 1], mended = mend(line, answer);
+    return element('p', { class: answer.answer }, element('b', {}, `${number} ${line.trim()}: `), answer.found ? named(found(answer)) : found(answer), ' ',
+      button('Show', () => showAfter(number), { 'aria-label': `Show the network after line ${number}` }),
+      mended ? button(answer.found ? 'Expect what was found' : `Write ${mended.word}`, () => editor.change(number, mended.line)) : null,
+      button('Remove', () => editor.remove(number), { 'aria-label': `Remove line ${number}` }));
+  }));
+}
+
+// A line with what the hint of its refusal names in the place of the word at fault, or one that expects what was found.
+function mend(line, { at, hint, expected, found: said }) {
+  const word = /^(?:did you mean|the database has|names have|area \S+ has) (\S+)$/.exec(hint ?? '')?.[1];
+  if (word && line.split(/\s+/).filter((one) => one === at).length === 1) return { word, line: line.split(/(\s+)/).map((one) => one === at ? word : one).join('') };
+  const count = /^(lost|gone|changes) (\d+)/.exec(said ?? '');
+  if (!count || !['lost', 'gone', 'changes', 'same'].includes(expected) || /\bnot\b|\bonly\b|\bsame\s+\S/.test(line)) return null;
+  return { word: count[0], line: `${/^\s*(@[0-7]\s+)?/.exec(line)[0]}expect ${count[1]} <= ${count[2]}` };
 }
 
 // To the next line that is not accepted.

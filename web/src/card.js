@@ -96,7 +96,7 @@ function lineOf(id) {
 // Says beside each action what its lines would change, against what the shown line has left.
 async function forecast(actions) {
   const places = [...$('card').querySelectorAll('span.forecast')];
-  if (state.isLarge || routerCount() > MOST_FORECAST) {
+  if (state.isLarge || state.routerCount > MOST_FORECAST) {
     places.forEach((one) => { one.textContent = ''; });
     return;
   }

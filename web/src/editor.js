@@ -60,6 +60,12 @@ class Editor {
     this.replace(start, Math.min(this.text.value.length, start + length), '');
   }
 
+  // Writes another line in the place of one.
+  change(number, line) {
+    const lines = this.lines(), start = lines.slice(0, number - 1).reduce((sum, one) => sum + one.length + 1, 0);
+    this.replace(start, start + lines[number - 1].length, line);
+  }
+
   replace(start, end, text) {
     const { activeElement } = document;
     this.text.focus({ preventScroll: true });
@@ -122,7 +128,7 @@ class Editor {
     if (!answer) return '';
     if (counts && this.stateOf(number) === 'edit') return countsText(counts) || 'changes no table';
     if (answer.answer === 'failed' || answer.code) return answer.code ? `${answer.code} ${answer.name}` : 'failed';
-    return answer.found ?? '';
+    return named(answer.found ?? '');
   }
 
   colored(line, wrong) {

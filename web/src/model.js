@@ -10,12 +10,14 @@ const QUESTIONS = new Set([
 ]);
 const KINDS = ['lost', 'gone', 'dearer', 'type', 'moved', 'gained', 'cheaper', 'router-gone', 'router-new'];
 
-// The state of a session that is asked for, as lines in a branch. With `isLarge` the tables of a chosen router alone.
-function questions(branch, { path, table, isLarge, hasMicroloops, edits }) {
-  const asked = ['routers', 'links', 'networks'];
-  if (!isLarge) asked.push('changes', 'loops');
-  else if (table) asked.push(`changes ${table}`);
-  if (hasMicroloops && edits) asked.push(`microloops ${edits}`);
+// The state of a session that is asked for, as lines in a branch: without edits little of it. With `isLarge` the tables of a
+// chosen router alone; with `isSmall` loops of the loaded database, and those while routers change over.
+function questions(branch, { path, table, isLarge, isSmall, isChanged, edits }) {
+  const asked = isChanged ? ['routers', 'links', 'networks'] : [];
+  if (isChanged && !isLarge) asked.push('changes');
+  if (isSmall || (isChanged && !isLarge)) asked.push('loops');
+  if (isChanged && isLarge && table) asked.push(`changes ${table}`);
+  if (isSmall && edits) asked.push(`microloops ${edits}`);
   if (path) asked.push(`path ${path.from} ${path.to}`);
   if (table) asked.push(`routes ${table}`);
   return asked.map((line) => `@${branch} ${line}`);
@@ -27,7 +29,7 @@ const branchOf = (line) => /^\s*@([0-7])(\s|$)/.exec(line)?.[1] ?? '0';
 
 // A study with questions before its first line and after line `shown` (0: before all), and with what each edit has changed
 // where `counts` is so. Returns the text, and for each of its lines what it is: of the study by its number, or a question.
-function withQuestions(lines, shown, { counts = false, settled = true, ...asked }) {
+function withQuestions(lines, shown, { counts = false, ...asked }) {
   const { path } = asked;
   const before = ['routers', 'links', 'networks', 'info', ...(path ? [`path ${path.from} ${path.to}`] : [])];
   const studied = (line, number) => [
@@ -39,7 +41,7 @@ function withQuestions(lines, shown, { counts = false, settled = true, ...asked 
   const all = [
     ...before.map((line) => ({ line, part: 'before' })),
     ...lines.slice(0, shown).flatMap((line, k) => studied(line, k + 1)),
-    ...(settled ? questions(branch, { ...asked, edits }) : []).map((line) => ({ line, part: 'now' })),
+    ...questions(branch, { ...asked, edits }).map((line) => ({ line, part: 'now' })),
     ...lines.slice(shown).flatMap((line, k) => studied(line, shown + k + 1)),
   ];
   return { text: all.map(({ line }) => line).join('\n'), all };

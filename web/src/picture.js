@@ -238,7 +238,7 @@ class Picture {
     }
     const usual = this.view.scale * 90;
     this.taken = this.nodes.size <= MOST_MOVING ? this.rings(this.radius(usual) * 1.3 + 4) : [];
-    if (this.layers.areas && this.nodes.size <= MOST_MOVING) this.drawAreas(context);
+    if (this.layers.areas) this.drawAreas(context);
     this.drawEdges(context, usual);
     this.drawPaths(context);
     if (this.layers.costs && usual > 52) for (const edge of this.edges.values()) if (this.isSeen(edge)) this.drawCosts(context, edge);
@@ -268,7 +268,7 @@ class Picture {
 
   // A hull around the nodes of each area, with its name; border routers lie at its rim.
   drawAreas(context) {
-    const radius = this.radius(this.view.scale * 90);
+    const radius = this.radius(this.view.scale * 90), turns = this.nodes.size > MOST_MOVING ? 6 : 18;
     context.lineJoin = 'round';
     for (const [area, k] of this.areaColors ?? []) {
       const points = [];
@@ -276,7 +276,7 @@ class Picture {
         const place = node.areas.includes(area) && this.places.get(node.id);
         if (!place) continue;
         const [x, y] = this.onScreen(place), far = area !== BACKBONE && node.areas.length > 1 ? radius * 0.6 : radius + 16;
-        for (let turn = 0; turn < 18; turn++) points.push([x + far * Math.cos(turn * Math.PI / 9), y + far * Math.sin(turn * Math.PI / 9)]);
+        for (let turn = 0; turn < turns; turn++) points.push([x + far * Math.cos(2 * turn * Math.PI / turns), y + far * Math.sin(2 * turn * Math.PI / turns)]);
       }
       if (!points.length) continue;
       const hull = hullOf(points);

@@ -5,7 +5,7 @@ const MOST_PRINTED = 60;
 function reportLine(line, number) {
   const answer = state.answers.study.get(number);
   const counts = state.answers.counts.get(number);
-  const said = !answer ? '' : [answer.answer === 'reply' ? '' : answer.answer, found(answer), counts && answer.answer === 'ok' ? countsText(counts) : ''].filter(Boolean).join(', ');
+  const said = !answer ? '' : [answer.answer === 'reply' ? '' : answer.answer, named(found(answer)), counts && answer.answer === 'ok' ? countsText(counts) : ''].filter(Boolean).join(', ');
   return element('li', { class: answer?.answer ?? '' }, line || ' ', said ? element('span', {}, `   ${said}`) : null);
 }
 
@@ -19,7 +19,7 @@ function showReport() {
     element('h2', {}, `The network ${state.shown ? `after line ${state.shown}: ${editor.lines()[state.shown - 1]}` : 'as loaded'}`),
     element('p', { class: 'facts' }, changes ? countsText(changes.counts) || 'every table is as loaded' : '', loops ? `; loops ${loops.loops.length}, blackholes ${loops.blackholes.length}` : ''),
     element('canvas', { id: 'printed' }),
-    element('h2', {}, 'The study, and what each line answers'), element('ol', {}, editor.lines().map((line, k) => reportLine(line, k + 1))),
+    element('h2', {}, 'The study, and what each line answers'), element('ol', {}, editor.text.value.trimEnd().split('\n').map((line, k) => reportLine(line, k + 1))),
     ...(rows.length ? [element('h2', {}, 'What changes'), table(['Change', 'Router', 'Prefix', 'Cost was', 'Cost now', 'Next hop was', 'Next hop now'], rows)] : []),
     more > 0 ? element('p', {}, `and ${more} more`) : '',
     element('p', { class: 'facts' }, `Calculated by RFC 2328, section 16, from the databases as they are in the dump, by the module ${parts.hash.slice(0, 16)}. To check: ospf-study --dump ${state.dumpName}${state.names.length ? ' --names HOSTS' : ''} ${$('study-name').value}`),

@@ -89,7 +89,7 @@ function isShownChange({ change, router, prefix }) {
 
 function showChanges() {
   const { changes } = state.answers.now;
-  if (state.isLarge && !changes) return 'Choose a router (/): with this number of routers, its own changes alone are calculated.';
+  if (state.isLarge && !changes && !state.table) return 'Choose a router (/): with this number of routers, its own changes alone are calculated.';
   if (!changes?.changes.length) return state.isLarge ? `${nameOf(state.table)} uses what it used in the loaded database.` : 'No router uses anything else than in the loaded database.';
   const kept = changes.changes.filter(isShownChange);
   const chosen = KINDS.filter((kind) => changes.counts[kind]).map((kind) => button([`${SIGNS[kind]} ${kind} `, element('b', {}, String(changes.counts[kind]))], () => {
@@ -221,7 +221,7 @@ function thisWay(path) {
 
 function showLoops() {
   const { loops, microloops } = state.answers.now;
-  if (state.isLarge) return 'Loops are not calculated with this number of routers: ospf-study does.';
+  if (!loops) return state.isLarge ? 'Loops are not calculated with this number of routers: ospf-study does.' : 'Loops are calculated once something is edited.';
   const rows = [
     ...(loops?.loops ?? []).map((loop) => row([element('b', { class: 'lost' }, 'loop'), loop.prefix, loop.routers.map(nameOf).join(' ⇄ '), ''], () => showPath(loop.routers[0], addressIn(loop.prefix)))),
     ...(loops?.blackholes ?? []).map((hole) => row([element('b', { class: 'lost' }, 'blackhole'), hole.prefix, nameOf(hole.router), hole.from.map(nameOf).join(', ')], () => showPath(hole.from[0], addressIn(hole.prefix)))),
