@@ -252,9 +252,9 @@ class Picture {
 
   // The rectangles of nodes with their rings.
   rings(radius) {
-    return [...this.nodes.keys()].filter((id) => this.places.has(id)).map((id) => {
-      const [x, y] = this.onScreen(this.places.get(id));
-      return [x - radius, y - radius, x + radius, y + radius];
+    return [...this.nodes.values()].filter(({ id }) => this.places.has(id)).map(({ id, kind }) => {
+      const [x, y] = this.onScreen(this.places.get(id)), high = kind === 'network' ? radius * 0.4 : radius;
+      return [x - radius, y - high, x + radius, y + high];
     });
   }
 
