@@ -22,8 +22,16 @@ def library() -> bytes:
         return built.read_bytes()
     shipped = HERE.parent / "release" / "libospf_plan.so.gz"
     if shipped.is_file():
-        return gzip.decompress(shipped.read_bytes())
-    raise FileNotFoundError(f"neither {built} nor {shipped} is there: tools/library builds the first one")
+        return checked(gzip.decompress(shipped.read_bytes()), shipped.parent / "SHA256SUMS")
+    raise FileNotFoundError(f"neither {built} nor {shipped} is there: tools/library builds the library")
+
+
+def checked(content: bytes, sums: pathlib.Path) -> bytes:
+    """These bytes of the library, if SHA256SUMS has their sum."""
+    line = f"{hashlib.sha256(content).hexdigest()}  libospf_plan.so"
+    if line not in sums.read_text().splitlines():
+        raise ValueError(f"{sums} has another SHA-256 of libospf_plan.so")
+    return content
 
 
 def metadata(project: dict) -> str:

@@ -291,7 +291,7 @@ function showCounts() {
   const shown = [
     ['lost', of('lost'), 'lost', 'routes lost'], ['gone', of('gone'), 'gone', 'gone'], ['dearer', of('dearer'), 'dearer', 'dearer'], ['moved', of('moved', 'type'), 'moved', 'moved'],
     ['better', of('cheaper', 'gained'), 'better', 'cheaper or new'], ['loops', loops?.loops.length ?? 0, 'Loops', 'loops'], ['blackholes', loops?.blackholes.length ?? 0, 'Loops', 'blackholes'],
-  ].filter(([name, count]) => name !== 'better' || count);
+  ].filter(([name, count, to]) => (name !== 'better' || count) && (to !== 'Loops' || loops));
   $('counts').replaceChildren(...shown.map(([name, count, to, label]) => element('button', {
     type: 'button', 'data-count': name, class: count ? name : to === 'Loops' ? 'fine' : '', 'aria-pressed': String(to !== 'Loops' && state.kind === to),
     'aria-label': `${count} ${label}: show them`, onclick: () => filterBy(to),

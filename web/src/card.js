@@ -104,10 +104,10 @@ async function forecast(actions) {
   const lines = actions.flatMap(({ lines: edits }) => [...edits, 'changes', `undo ${edits.length}`]).map(inBranch);
   const found = documentsOf(await calculator.study(asked([...before, ...lines].join('\n')))).filter(({ line, word, counts }) => line > before.length && word === 'changes' && counts);
   if (state.selected !== id) return;
-  const now = state.answers.now.changes?.counts;
+  const now = state.answers.now.changes?.counts ?? {};
   places.forEach((one, k) => {
     const counts = found[k]?.counts;
-    if (!counts || !now) one.textContent = '';
-    else one.textContent = countsText(Object.fromEntries(Object.keys(counts).map((kind) => [kind, Math.max(0, counts[kind] - now[kind])]))) || 'no change';
+    if (!counts) one.textContent = '';
+    else one.textContent = countsText(Object.fromEntries(Object.keys(counts).map((kind) => [kind, Math.max(0, counts[kind] - (now[kind] ?? 0))]))) || 'no change';
   });
 }

@@ -252,9 +252,9 @@ class Picture {
 
   // The rectangles of nodes with their rings.
   rings(radius) {
-    return [...this.nodes.keys()].filter((id) => this.places.has(id)).map((id) => {
-      const [x, y] = this.onScreen(this.places.get(id));
-      return [x - radius, y - radius, x + radius, y + radius];
+    return [...this.nodes.values()].filter(({ id }) => this.places.has(id)).map(({ id, kind }) => {
+      const [x, y] = this.onScreen(this.places.get(id)), high = kind === 'network' ? radius * 0.4 : radius;
+      return [x - radius, y - high, x + radius, y + high];
     });
   }
 
@@ -269,13 +269,14 @@ class Picture {
   // A hull around the nodes of each area, with its name; border routers lie at its rim.
   drawAreas(context) {
     const radius = this.radius(this.view.scale * 90), turns = this.nodes.size > MOST_MOVING ? 6 : 18;
+    const wide = radius + (this.width < 200 ? 5 : 16);
     context.lineJoin = 'round';
     for (const [area, k] of this.areaColors ?? []) {
       const points = [];
       for (const node of this.nodes.values()) {
         const place = node.areas.includes(area) && this.places.get(node.id);
         if (!place) continue;
-        const [x, y] = this.onScreen(place), far = area !== BACKBONE && node.areas.length > 1 ? radius * 0.6 : radius + 16;
+        const [x, y] = this.onScreen(place), far = area !== BACKBONE && node.areas.length > 1 ? radius * 0.6 : wide;
         for (let turn = 0; turn < turns; turn++) points.push([x + far * Math.cos(2 * turn * Math.PI / turns), y + far * Math.sin(2 * turn * Math.PI / turns)]);
       }
       if (!points.length) continue;

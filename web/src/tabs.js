@@ -99,7 +99,8 @@ function showChanges() {
   }, { class: `button chip ${kind}`, 'aria-pressed': String(state.kind === kind) }));
   const group = switched('Group by', [['router', 'By router'], ['prefix', 'By prefix'], ['flat', 'Flat']], state.group, (value) => { state.group = value; showTabs(); }, 'group');
   const filter = element('input', { placeholder: 'Router or prefix', 'aria-label': 'Filter', value: state.filter, size: 14, onchange: (event) => { state.filter = event.target.value.trim(); showTabs(); } });
-  const bar = chips(chosen, element('span', { class: 'grow' }), group, filter, button('Expect this', () => add(...expectations(changes).map(inBranch)), { title: 'Adds lines that expect what is lost here, and no more' }));
+  const bar = chips(chosen, element('span', { class: 'grow' }), group, filter,
+    state.isLarge ? null : button('Expect this', () => add(...expectations(changes).map(inBranch)), { title: 'Adds lines that expect what is lost here, and no more' }));
   return [bar, element('div', { class: 'beside' }, scroll(changeTable(kept)), matrix(changes.changes))];
 }
 
