@@ -192,7 +192,7 @@ static void check_memory(struct text dump, struct text script)
     struct ospf_plan_wanted all = {true, true, true};
     unsigned short_ones = 0;
     size_t memory = 0;
-    for (;; memory += 16384) {
+    for (;; memory += 2048) {
         struct run run = run_with(memory, all, dump, script, ROOM, ROOM, ROOM, 128);
         uint32_t status = run.status;
         check(status == OSPF_DONE || (status == OSPF_NO_MEMORY && is_canary(run.replies.bytes, ROOM)), "a run by its memory");
@@ -202,7 +202,7 @@ static void check_memory(struct text dump, struct text script)
         }
         short_ones++;
     }
-    check(short_ones > 1, "memory that is too small");
+    check(short_ones > 4, "memory that is too small");
 }
 
 static void check_fault_room(struct text script)
