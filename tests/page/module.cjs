@@ -1,4 +1,4 @@
-// Runs the module on the cases that cases.py writes: node --experimental-wasm-memory64 module.cjs MODULE CASES
+// Runs the module on the cases that module_cases.py writes: node --experimental-wasm-memory64 module.cjs MODULE CASES
 // The last line is `N passed, M failed`.
 'use strict';
 const fs = require('node:fs');

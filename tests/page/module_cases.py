@@ -1,5 +1,5 @@
 #!/usr/bin/python3
-"""Writes the cases of tests/cases as calls of the module, a JSON text on each line: tests/page/cases.py
+"""Writes the cases of tests/cases as calls of the module, a JSON text on each line: tests/page/module_cases.py
 
 Bytes are in base64. `given` is what the module is handed, and `wanted` what it must write, by the case.
 """
