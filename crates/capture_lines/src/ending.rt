@@ -1,7 +1,7 @@
-//! How the program ends after a fault: its status, and the line on standard error.
+//! How a run ends after a fault: its status, and its line.
 
 ghost use Rattle.std.specs.Prelude.{◌≡◌, IfOk, string_bytes};
-ghost use Rattle.ospf_capture.specs.Exit.{at_text, capture_name, capture_offset, exit_status, exit_text, file_status, file_text, join_status, join_text, refusal_name, refusal_offset, refusal_status, refused_text, unpacking_text};
+ghost use Rattle.capture_lines.specs.Endings.{at_text, capture_name, capture_offset, exit_status, exit_text, file_status, file_text, join_status, join_text, refusal_name, refusal_offset, refusal_status, refused_text, unpacking_text};
 
 use crate::fault::{ExitFault, FileEnd};
 use capture_files::CaptureFault;
@@ -196,7 +196,7 @@ fn line_of<A: Allocator + Copy>(alloc: A, fault: ExitFault<'_>) -> Result<String
 /// memory ran out.
 ///
 /// Where memory runs out for the line, the answer is an error; the status holds all the same.
-pub(crate) fn exit_line<A: Allocator + Copy>(
+pub fn exit_line<A: Allocator + Copy>(
     alloc: A,
     fault: ExitFault<'_>,
 ) -> (u8, Result<String<A>, AllocError>)
