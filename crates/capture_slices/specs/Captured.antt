@@ -2,6 +2,7 @@
 use Rattle.std.specs.Prelude.{◌≡◌, ◌⊎◌, ◌<◌, ℕ, List, length, map, false, Some, IfSome, take}
 use Rattle.std.specs.Borrow.{Bor}
 use Rattle.std.specs.List.{AllZip, slice_get, zip}
+use Rattle.std.specs.Str.{IsUtf8}
 use Rattle.std.specs.String.{string_bytes}
 use Rattle.capture_lines.specs.Endings.{index_of, named}
 use Rattle.capture_lines.specs.Reports.{AreReported}
@@ -11,6 +12,8 @@ use Rattle.capture_lines.specs.declared.fault.FileEnd.TheVariants.{NotAList, Too
 use Rattle.capture_report.specs.Runs.{MayEndRun, longest_file}
 use Rattle.capture_report.specs.declared.fault.RunFault.{RunFault}
 use Rattle.capture_slices.specs.declared.capturing.CaptureTexts.{CaptureTexts}
+use Rattle.capture_slices.specs.declared.fault.CaptureEnd.{CaptureEnd}
+use Rattle.capture_slices.specs.declared.fault.CaptureEnd.TheVariants.{Fault, NotText}
 use Rattle.findings.specs.Contents.{content_of}
 use Rattle.lsa_instances.specs.declared.keeping.FlushedLsas.{FlushedLsas}
 use Rattle.lsdb.specs.Lists.{Lists}
@@ -34,6 +37,17 @@ given_of names bytes list_names list_bytes = record {
   list_names = list_names;
   list_bytes = list_bytes;
 }
+
+-- ---- names
+
+-- one of the names is not text in UTF-8
+abbrev pub HasOther : List (List ℕ) → Type 0
+HasOther names = (index : ℕ) × ((name : List ℕ) × ((slice_get names index ≡ Some name) × (IsUtf8 name → ⊥)))
+
+-- files of these names are not named: one is not text, or memory ran out
+abbrev pub IsNamesEnd : List (List ℕ) → CaptureEnd → Type 0
+IsNamesEnd names NotText = HasOther names
+IsNamesEnd names (Fault fault) = fault ≡ Memory
 
 -- ---- lists
 
@@ -100,3 +114,8 @@ abbrev pub MayEndCapture : (A : Type 0) → FlushedLsas → Given → ExitFault 
 MayEndCapture A flushed given fault =
     IsListEnd A given.list_names given.list_bytes fault
     ⊎ (IsRunEnd A flushed given.names given.bytes fault ⊎ (fault ≡ Memory))
+
+-- a name is not text, or it ends so
+abbrev pub IsEnd : (A : Type 0) → FlushedLsas → Given → CaptureEnd → Type 0
+IsEnd A flushed given NotText = HasOther given.names ⊎ HasOther given.list_names
+IsEnd A flushed given (Fault fault) = MayEndCapture A flushed given fault

@@ -5,10 +5,11 @@ ghost use Rattle.std.specs.List.{zip};
 ghost use Rattle.std.specs.String.{string_bytes};
 ghost use Rattle.capture_lines.specs.Reports.{AreReported};
 ghost use Rattle.capture_lines.specs.declared.fault.ExitFault.TheVariants.{Memory};
-ghost use Rattle.capture_slices.specs.Captured.{AreTextsOf, IsMadeOf, IsNamed, IsRunEnd, MayEndCapture, given_of};
+ghost use Rattle.capture_slices.specs.Captured.{AreTextsOf, IsEnd, IsMadeOf, IsNamed, IsRunEnd, MayEndCapture, given_of};
 ghost use Rattle.lsdb.specs.Slots.{lists_of as lists_of_database};
 
-use crate::files::{NamedFile, names_of, readers_of};
+use crate::fault::CaptureEnd;
+use crate::files::{GivenFile, NamedFile, named_files, names_of, readers_of};
 use crate::lists::lists_of;
 use capture_lines::{ExitFault, Report, index_of, named, reported};
 use capture_report::{NetworkDump, RunFault, run};
@@ -86,15 +87,8 @@ fn report_of<A: Allocator + Copy>(
     reported(alloc, made, &names, &list_names, read)
 }
 
-/// Makes the dump of files, and compares it with lists of the LSAs of other routers; flushed LSAs
-/// are left out of the dump, or kept at MaxAge, as `flushed` says. The lists are read first, as by
-/// `ospf-capture`.
-///
-/// # Errors
-///
-/// The first of these: a list that is too long or is none; a file that is too long or is refused;
-/// why the files make no database; or memory ran out.
-pub fn capture<'a, A: Allocator + Copy>(
+/// Makes the dump of files with names, and compares it with lists.
+fn capture_named<'a, A: Allocator + Copy>(
     alloc: A,
     flushed: FlushedLsas,
     files: &[NamedFile<'a>],
@@ -111,4 +105,30 @@ pub fn capture<'a, A: Allocator + Copy>(
     let Made { contents, dump } = made_of(alloc, flushed, files)?;
     let report = report_of(alloc, &contents, files, lists, &read)?;
     Ok(CaptureTexts { report, dump })
+}
+
+/// Makes the dump of files, and compares it with lists of the LSAs of other routers; flushed LSAs
+/// are left out of the dump, or kept at MaxAge, as `flushed` says. The lists are read before the
+/// files, as by `ospf-capture`.
+///
+/// # Errors
+///
+/// The first of these: a name that is not text; a list that is too long or is none; a file that is
+/// too long or is refused; why the files make no database. Or memory ran out.
+pub fn capture<'a, A: Allocator + Copy>(
+    alloc: A,
+    flushed: FlushedLsas,
+    files: &[GivenFile<'a>],
+    lists: &[GivenFile<'a>],
+) -> Result<CaptureTexts<A>, CaptureEnd<'a>>
+    ensures texts { IfOk result (AreTextsOf flushed (given_of
+        (map (λ file. file.name.now) files.now) (map (λ file. file.bytes.now) files.now)
+        (map (λ file. file.name.now) lists.now) (map (λ file. file.bytes.now) lists.now))) }
+    ensures fault { IfErr result (IsEnd A flushed (given_of
+        (map (λ file. file.name.now) files.now) (map (λ file. file.bytes.now) files.now)
+        (map (λ file. file.name.now) lists.now) (map (λ file. file.bytes.now) lists.now))) }
+{
+    let files = named_files(alloc, files)?;
+    let lists = named_files(alloc, lists)?;
+    Ok(capture_named(alloc, flushed, &files, &lists)?)
 }

@@ -1,11 +1,15 @@
 //! Files in memory.
 
-ghost use Rattle.std.specs.Prelude.{◌≡◌, ◌≢◌, All, IfOk, IfErr, Some, false, map};
+ghost use Rattle.std.specs.Prelude.{◌≡◌, All, IfOk, IfErr, Some, false, map};
+ghost use Rattle.std.specs.Str.{IsUtf8};
 ghost use Rattle.capture_report.specs.Runs.{known};
+ghost use Rattle.capture_slices.specs.Captured.{IsNamesEnd};
+ghost use Rattle.capture_slices.specs.declared.fault.CaptureEnd.TheVariants.{NotText};
 ghost use Rattle.host_io.specs.Watched.{has_failed};
 
+use crate::fault::CaptureEnd;
 use host_io::Watched;
-use std::alloc::{AllocError, AllocFailed, Allocator};
+use std::alloc::{AllocError, Allocator};
 
 /// A file as a host has it. Its name stands before each line about it.
 #[repr(C)]
@@ -19,54 +23,35 @@ pub struct GivenFile<'a> {
 
 /// A file whose name is text in UTF-8.
 #[derive(Clone, Copy, Debug, PartialEq, Eq)]
-pub struct NamedFile<'a> {
+pub(crate) struct NamedFile<'a> {
     /// Its name.
-    pub name: &'a str,
+    pub(crate) name: &'a str,
     /// Its bytes.
-    pub bytes: &'a [u8],
-}
-
-/// Why files cannot be named.
-#[derive(Clone, Copy, Debug, PartialEq, Eq)]
-pub enum NamesFault {
-    /// A name is not text in UTF-8.
-    NotText,
-    /// Memory ran out.
-    OutOfMemory,
-}
-
-impl From<AllocError> for NamesFault {
-    fn from(_error: AllocError) -> NamesFault {
-        NamesFault::OutOfMemory
-    }
-}
-
-impl<T: Drop> From<AllocFailed<T>> for NamesFault {
-    fn from(_error: AllocFailed<T>) -> NamesFault {
-        NamesFault::OutOfMemory
-    }
+    pub(crate) bytes: &'a [u8],
 }
 
 /// The name of a file, as text.
-fn name_of<'a>(file: &GivenFile<'a>) -> Result<&'a str, NamesFault>
-    ensures { IfOk result (λ name. name.now ≡ file.now.name.now) }
+fn name_of<'a>(file: &GivenFile<'a>) -> Result<&'a str, CaptureEnd<'a>>
+    ensures name { IfOk result (λ name. name.now ≡ file.now.name.now) }
+    ensures fault { IfErr result
+        (λ end. (end ≡ NotText) × (IsUtf8 file.now.name.now → ⊥)) }
 {
-    std::str::from_utf8(file.name).map_err(|_| NamesFault::NotText)
+    match std::str::from_utf8(file.name) {
+        Ok(name) => Ok(name),
+        Err(_) => Err(CaptureEnd::NotText),
+    }
 }
 
 /// The files, with their names as text.
-///
-/// # Errors
-///
-/// A name is not text in UTF-8, or memory ran out.
-pub fn named_files<'a, A: Allocator + Copy>(
+pub(crate) fn named_files<'a, A: Allocator + Copy>(
     alloc: A,
     given: &[GivenFile<'a>],
-) -> Result<Vec<NamedFile<'a>, A>, NamesFault>
+) -> Result<Vec<NamedFile<'a>, A>, CaptureEnd<'a>>
     ensures names { IfOk result (λ files. map (λ file. file.name.now) files.items
         ≡ map (λ file. file.name.now) given.now) }
     ensures bytes { IfOk result (λ files. map (λ file. file.bytes.now) files.items
         ≡ map (λ file. file.bytes.now) given.now) }
+    ensures fault { IfErr result (IsNamesEnd (map (λ file. file.name.now) given.now)) }
 {
     let mut files = Vec::new(alloc);
     for file in given {

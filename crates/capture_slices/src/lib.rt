@@ -6,9 +6,11 @@
 
 mod capturing;
 mod copying;
+mod fault;
 mod files;
 mod lists;
 
 pub use capturing::{CaptureTexts, capture};
 pub use copying::copy_texts;
-pub use files::{GivenFile, NamedFile, NamesFault, named_files};
+pub use fault::CaptureEnd;
+pub use files::GivenFile;
