@@ -13,7 +13,7 @@ use std::alloc::{AllocError, Allocator};
 
 /// A file as a host has it. Its name stands before each line about it.
 #[repr(C)]
-#[derive(Clone, Copy, Debug, PartialEq, Eq)]
+#[derive(Clone, Copy, Debug)]
 pub struct GivenFile<'a> {
     /// Its name.
     pub name: &'a [u8],
@@ -22,7 +22,7 @@ pub struct GivenFile<'a> {
 }
 
 /// A file whose name is text in UTF-8.
-#[derive(Clone, Copy, Debug, PartialEq, Eq)]
+#[derive(Clone, Copy, Debug)]
 pub(crate) struct NamedFile<'a> {
     /// Its name.
     pub(crate) name: &'a str,
