@@ -134,23 +134,22 @@ struct ospf_capture_manner {
 /* Lengths are in bytes. Where the call ends with another status than OSPF_DONE, OSPF_NOT_ACCEPTED and OSPF_NO_ROOM, all
  * is 0 but `warnings`. */
 struct ospf_capture_report {
-    size_t contents;
-    size_t notices;
+    size_t output;
+    size_t contents; /* of the output, the lines of what each file contains, which come first */
     size_t warnings; /* where the run ended early, the length of the line that says why */
     size_t dump;
 };
 
 /* Makes the dump of a network's files, and compares it with the lists of --against.
  *
- * Returns OSPF_DONE where there is no warning, OSPF_NOT_ACCEPTED where there is one, and any other status. `contents` gets
- * the lines of what each file contains and `notices` those of notices, which ospf-capture writes one after the other to
- * standard output; `warnings` gets what it writes to standard error, and `dump` the dump of --out. Where the run ended
- * early, `warnings` gets the line that says why, if it fits; with OSPF_NOT_TEXT there is none. */
+ * Returns OSPF_DONE where there is no warning, OSPF_NOT_ACCEPTED where there is one, and any other status. `output` gets
+ * what ospf-capture writes to standard output: the lines of what each file contains, and those of notices. `warnings` gets
+ * what it writes to standard error, and `dump` the dump of --out. Where the run ended early, `warnings` gets the line that
+ * says why, if it fits; with OSPF_NOT_TEXT there is none. */
 uint32_t ospf_capture_run(struct ospf_memory memory, const struct ospf_capture_manner *manner,
                           const struct ospf_capture_file *files, size_t file_count,
                           const struct ospf_capture_file *lists, size_t list_count,
-                          uint8_t *contents, size_t contents_room,
-                          uint8_t *notices, size_t notices_room,
+                          uint8_t *output, size_t output_room,
                           uint8_t *warnings, size_t warnings_room,
                           uint8_t *dump, size_t dump_room,
                           struct ospf_capture_report *report);

@@ -59,7 +59,7 @@ class CaptureManner(ctypes.Structure):
 
 
 class CaptureReport(ctypes.Structure):
-    _fields_ = [(name, ctypes.c_size_t) for name in ("contents", "notices", "warnings", "dump")]
+    _fields_ = [(name, ctypes.c_size_t) for name in ("output", "contents", "warnings", "dump")]
 
 
 @dataclass(frozen=True)
@@ -127,7 +127,7 @@ def library() -> ctypes.CDLL:
             HostMemory, ctypes.POINTER(StudyManner), *text * 4, *room * 3, ctypes.POINTER(StudyReport),
         ]
         loaded.ospf_capture_run.argtypes = [
-            HostMemory, ctypes.POINTER(CaptureManner), *[ctypes.POINTER(CaptureFile), ctypes.c_size_t] * 2, *room * 4,
+            HostMemory, ctypes.POINTER(CaptureManner), *[ctypes.POINTER(CaptureFile), ctypes.c_size_t] * 2, *room * 3,
             ctypes.POINTER(CaptureReport),
         ]
         for call in (loaded.ospf_plan_run, loaded.ospf_study_run, loaded.ospf_capture_run):
@@ -216,9 +216,10 @@ def capture(
     def call(memory: HostMemory, rooms: list) -> int:
         return library().ospf_capture_run(memory, ctypes.byref(manner), *given, *rooms, ctypes.byref(report))
 
-    status, texts = _attempts(call, lambda: [report.contents, report.notices, report.warnings, report.dump])
+    status, texts = _attempts(call, lambda: [report.output, report.warnings, report.dump])
     if status == NOT_TEXT:
         raise ValueError("the name of a file is not text in UTF-8")
     if status not in (DONE, NOT_ACCEPTED):
-        raise from_capture_line(texts[2].decode(), [name.decode() for name, _ in [*lists, *files]])
-    return CaptureTexts(*texts)
+        raise from_capture_line(texts[1].decode(), [name.decode() for name, _ in [*lists, *files]])
+    output, warnings, dump = texts
+    return CaptureTexts(output[: report.contents], output[report.contents:], warnings, dump)

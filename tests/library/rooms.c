@@ -340,34 +340,33 @@ static const uint8_t BOTH[] =
     "\0";
 
 struct capture {
-    struct text contents, notices, warnings, dump;
+    struct text output, warnings, dump;
     struct ospf_capture_report report;
     uint32_t status;
 };
 
 static struct capture capture_with(size_t memory, bool keeps, const struct ospf_capture_file *files, size_t file_count,
-                                   const struct ospf_capture_file *lists, size_t list_count, const size_t room[4])
+                                   const struct ospf_capture_file *lists, size_t list_count, const size_t room[3])
 {
-    struct capture run = {at_end(NULL, room[0]), at_end(NULL, room[1]), at_end(NULL, room[2]), at_end(NULL, room[3]), {0}, 0};
+    struct capture run = {at_end(NULL, room[0]), at_end(NULL, room[1]), at_end(NULL, room[2]), {0}, 0};
     struct text block = at_end(NULL, memory);
     struct text given = at_end(files, file_count * sizeof *files), listed = at_end(lists, list_count * sizeof *lists);
     struct ospf_capture_manner manner = {keeps};
     memset(&run.report, CANARY, sizeof run.report);
     run.status = ospf_capture_run((struct ospf_memory){block.bytes, memory}, &manner,
                                   (const struct ospf_capture_file *)given.bytes, file_count,
-                                  (const struct ospf_capture_file *)listed.bytes, list_count, run.contents.bytes, room[0],
-                                  run.notices.bytes, room[1], run.warnings.bytes, room[2], run.dump.bytes, room[3],
-                                  &run.report);
+                                  (const struct ospf_capture_file *)listed.bytes, list_count, run.output.bytes, room[0],
+                                  run.warnings.bytes, room[1], run.dump.bytes, room[2], &run.report);
     drop(block), drop(given), drop(listed);
     return run;
 }
 
 static void drop_capture(struct capture run)
 {
-    drop(run.contents), drop(run.notices), drop(run.warnings), drop(run.dump);
+    drop(run.output), drop(run.warnings), drop(run.dump);
 }
 
-static const size_t WIDE[4] = {ROOM, ROOM, ROOM, ROOM};
+static const size_t WIDE[3] = {ROOM, ROOM, ROOM};
 
 static struct ospf_capture_file file_of(struct text name, struct text bytes)
 {
@@ -382,8 +381,8 @@ static void captures(const char *name, const char *file, const char *list, uint3
     struct ospf_capture_file files[1] = {file_of(a, bytes)}, lists[1] = {file_of(l, row)};
     struct capture run = capture_with(MEMORY, false, files, 1, lists, list != NULL, WIDE);
     check(run.status == status, name);
-    check(has(run.contents, run.report.contents, contents) && has(run.warnings, run.report.warnings, warnings), name);
-    check(has(run.notices, run.report.notices, ""), name);
+    check(has(run.output, run.report.output, contents) && has(run.warnings, run.report.warnings, warnings), name);
+    check(run.report.contents == strlen(contents), name);
     check(status <= OSPF_NOT_ACCEPTED ? run.report.dump > 0 : run.report.dump == 0 && is_canary(run.dump.bytes, ROOM), name);
     drop_capture(run), drop(a), drop(l), drop(bytes), drop(row);
 }
@@ -412,15 +411,15 @@ static void check_capture_names(void)
     struct text bad = words("r\xff"), good = words("r\xc3\xa9"), walk = words(WALK_KIND WALK_ONE WALK_TWO);
     struct ospf_capture_file files[2] = {file_of(good, walk), file_of(bad, walk)};
     struct capture none = capture_with(MEMORY, false, files, 0, files, 0, WIDE);
-    check(none.status == OSPF_DONE && none.report.contents == 0 && none.report.warnings == 0, "no file");
+    check(none.status == OSPF_DONE && none.report.output == 0 && none.report.warnings == 0, "no file");
     check(none.report.dump == 8 && memcmp(none.dump.bytes, "OSWP\1\0\0", 8) == 0, "the dump of no file");
     struct capture text = capture_with(MEMORY, false, files, 1, files, 0, WIDE);
-    check(text.status == OSPF_DONE && has(text.contents, text.report.contents, "r\xc3\xa9: walk, 2 LSAs, 1 areas\n"), "a name");
+    check(text.status == OSPF_DONE && has(text.output, text.report.output, "r\xc3\xa9: walk, 2 LSAs, 1 areas\n"), "a name");
     struct capture other = capture_with(MEMORY, false, files, 2, files, 0, WIDE);
     struct capture list = capture_with(MEMORY, false, files, 1, files + 1, 1, WIDE);
     check(other.status == OSPF_NOT_TEXT && list.status == OSPF_NOT_TEXT, "a name that is not text");
     check(other.report.warnings == 0 && other.report.dump == 0 && is_canary(other.dump.bytes, ROOM), "nothing of its run");
-    check(is_canary(other.warnings.bytes, ROOM) && is_canary(list.contents.bytes, ROOM), "nothing of both");
+    check(is_canary(other.warnings.bytes, ROOM) && is_canary(list.output.bytes, ROOM), "nothing of both");
     drop_capture(none), drop_capture(text), drop_capture(other), drop_capture(list), drop(bad), drop(good), drop(walk);
 }
 
@@ -440,22 +439,20 @@ static void check_capture_rooms(void)
     struct text name = words("a"), walk = words(WALK_KIND WALK_ONE WALK_TWO), list = words(LIST);
     struct ospf_capture_file files[1] = {file_of(name, walk)}, lists[1] = {file_of(name, list)};
     struct capture whole = capture_with(MEMORY, false, files, 1, lists, 1, WIDE);
-    size_t length[4] = {whole.report.contents, 0, whole.report.warnings, whole.report.dump};
-    check(whole.status == OSPF_NOT_ACCEPTED && length[0] > 0 && length[2] > 0, "a run with a warning");
-    check(length[3] == sizeof BOTH && memcmp(whole.dump.bytes, BOTH, sizeof BOTH) == 0, "its dump");
+    size_t length[3] = {whole.report.output, whole.report.warnings, whole.report.dump};
+    check(whole.status == OSPF_NOT_ACCEPTED && length[0] > 0 && length[1] > 0, "a run with a warning");
+    check(length[2] == sizeof BOTH && memcmp(whole.dump.bytes, BOTH, sizeof BOTH) == 0, "its dump");
     struct capture exact = capture_with(MEMORY, false, files, 1, lists, 1, length);
     check(exact.status == OSPF_NOT_ACCEPTED && memcmp(exact.dump.bytes, BOTH, sizeof BOTH) == 0, "rooms of these lengths");
-    check(memcmp(exact.warnings.bytes, whole.warnings.bytes, length[2]) == 0, "the warning in them");
-    for (size_t short_one = 0; short_one < 4; short_one += short_one == 0 ? 2 : 1) {
-        size_t room[4] = {length[0], length[1], length[2], length[3]};
-        room[short_one]--;
+    check(memcmp(exact.warnings.bytes, whole.warnings.bytes, length[1]) == 0, "the warning in them");
+    for (size_t short_one = 0; short_one < 3; short_one++) {
+        size_t room[3] = {length[0] - (short_one == 0), length[1] - (short_one == 1), length[2] - (short_one == 2)};
         struct capture run = capture_with(MEMORY, false, files, 1, lists, 1, room);
         check(run.status == OSPF_NO_ROOM, "a room of a run that is too small by one");
-        check(run.report.contents == length[0] && run.report.notices == 0 && run.report.warnings == length[2] &&
-                  run.report.dump == length[3],
+        check(run.report.output == length[0] && run.report.warnings == length[1] && run.report.dump == length[2],
               "the lengths of a run");
-        check(is_canary(run.contents.bytes, room[0]) && is_canary(run.warnings.bytes, room[2]) &&
-                  is_canary(run.dump.bytes, room[3]),
+        check(is_canary(run.output.bytes, room[0]) && is_canary(run.warnings.bytes, room[1]) &&
+                  is_canary(run.dump.bytes, room[2]),
               "the rooms of a run");
         drop_capture(run);
     }
@@ -470,7 +467,7 @@ static void check_capture_rooms(void)
     }
     struct text other = words("What is this?\n");
     struct ospf_capture_file refused[1] = {file_of(name, other)};
-    size_t narrow[4] = {0, 0, 19, 0};
+    size_t narrow[3] = {0, 19, 0};
     struct capture small = capture_with(MEMORY, false, refused, 1, lists, 0, narrow);
     check(small.status == OSPF_REFUSED && small.report.warnings == 20, "too little room for the line of a file");
     check(is_canary(small.warnings.bytes, 19), "nothing of the line of a file");

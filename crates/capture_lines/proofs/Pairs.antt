@@ -22,10 +22,10 @@ module _ {V : Type 0} (names : List (Bor (List ℕ))) (values : List V) where
   pairs_more i name value in_names in_values is_name is_value =
       let long : length texts ≡ length names = length-map names (λ name. name.now) in
       let here : get_or pairs i (name.now, value) ≡ (name.now, value) =
-          get_or-zip texts values i (name.now, value) (omega (arith, long, in_names)) in_values
-          ∙ ap (λ text. (text, get_or values i value))
-          (get_or-map (λ name. name.now) names i name name.now in_names ∙ ap (λ one. one.now) (sym is_name))
-          ∙ ap (λ one. (name.now, one)) (sym is_value) in
+      get_or-zip texts values i (name.now, value) (omega (arith, long, in_names)) in_values
+      ∙ ap (λ text. (text, get_or values i value))
+      (get_or-map (λ name. name.now) names i name name.now in_names ∙ ap (λ one. one.now) (sym is_name))
+      ∙ ap (λ one. (name.now, one)) (sym is_value) in
       take_more pairs i (name.now, value) (omega (arith, length-zip texts values, long, in_names, in_values))
       ∙ ap (λ pair. take i pairs ++ pair ∷ []) here
 

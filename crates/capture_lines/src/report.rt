@@ -59,12 +59,7 @@ impl<A: Allocator + Copy> Report<A> {
     }
 
     /// Adds the line of a file of this name, and the lines of the findings in it.
-    fn put_file(
-        &mut self,
-        alloc: A,
-        name: &str,
-        file: &ParsedFile<A>,
-    ) -> Result<(), AllocError>
+    fn put_file(&mut self, alloc: A, name: &str, file: &ParsedFile<A>) -> Result<(), AllocError>
         ensures { OnOk result (AddsFile name.now file.now
             (string_bytes self.old.files) (string_bytes self.new.files)
             (string_bytes self.old.notices) (string_bytes self.new.notices)

@@ -1,5 +1,5 @@
 -- What a run over files in memory writes, and how it may end early.
-use Rattle.std.specs.Prelude.{◌≡◌, ◌⊎◌, ◌<◌, ℕ, List, length, map, false, Some, IfSome, take}
+use Rattle.std.specs.Prelude.{◌≡◌, ◌⊎◌, ◌<◌, ℕ, List, ◌++◌, length, map, false, Some, IfSome, take}
 use Rattle.std.specs.Borrow.{Bor}
 use Rattle.std.specs.List.{AllZip, slice_get, zip}
 use Rattle.std.specs.Str.{IsUtf8}
@@ -104,10 +104,13 @@ pub record AreCaptured (A : Type 0) (flushed : FlushedLsas) (given : Given) (lin
   pub are_lists : AllZip IsListOf given.list_bytes read
   pub reported : AreReported parsed database (zip given.names parsed) (zip given.list_names read) lines notices warnings
 
-abbrev pub AreTextsOf : {A : Type 0} → FlushedLsas → Given → CaptureTexts A → Type 0
-AreTextsOf {A} flushed given texts =
-    AreCaptured A flushed given (string_bytes texts.report.files) (string_bytes texts.report.notices)
-    (string_bytes texts.report.warnings) texts.dump.items
+-- these are its texts: the lines of files and those of notices stand one after the other
+pub record AreTextsOf {A : Type 0} (flushed : FlushedLsas) (given : Given) (texts : CaptureTexts A) : Type 0 where
+  pub lines : List ℕ
+  pub notices : List ℕ
+  pub captured : AreCaptured A flushed given lines notices (string_bytes texts.warnings) texts.dump.items
+  pub output_is : string_bytes texts.output ≡ lines ++ notices
+  pub contents_are : texts.contents ≡ length lines
 
 -- a run ends early with the first list that is not read, as a run over its files may, or as memory runs out
 abbrev pub MayEndCapture : (A : Type 0) → FlushedLsas → Given → ExitFault → Type 0

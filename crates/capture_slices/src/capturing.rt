@@ -1,6 +1,6 @@
 //! A run over files in memory.
 
-ghost use Rattle.std.specs.Prelude.{◌≡◌, ◌⊎◌, IfErr, IfOk, map};
+ghost use Rattle.std.specs.Prelude.{◌≡◌, ◌++◌, ◌⊎◌, IfErr, IfOk, length, map};
 ghost use Rattle.std.specs.List.{zip};
 ghost use Rattle.std.specs.String.{string_bytes};
 ghost use Rattle.capture_lines.specs.Reports.{AreReported};
@@ -21,8 +21,12 @@ use std::alloc::{AllocError, Allocator, Global};
 /// What a run writes.
 #[derive(Drop)]
 pub struct CaptureTexts<A: Allocator = Global> {
-    /// The lines of what each file contains, of notices and of warnings.
-    pub report: Report<A>,
+    /// What goes to standard output: a line for each file, and the lines of notices.
+    pub output: String<A>,
+    /// The length of the lines of files, in bytes.
+    pub contents: usize,
+    /// What goes to standard error: the lines of warnings.
+    pub warnings: String<A>,
     /// The dump of the database that all files make.
     pub dump: Vec<u8, A>,
 }
@@ -87,6 +91,34 @@ fn report_of<A: Allocator + Copy>(
     reported(alloc, made, &names, &list_names, read)
 }
 
+/// The texts of a run.
+fn texts_of<A: Allocator + Copy>(
+    report: Report<A>,
+    dump: Vec<u8, A>,
+) -> Result<CaptureTexts<A>, AllocError>
+    ensures output { IfOk result (λ texts. string_bytes texts.output
+        ≡ string_bytes report.files ++ string_bytes report.notices) }
+    ensures contents { IfOk result (λ texts. texts.contents ≡ length (string_bytes report.files)) }
+    ensures warnings { IfOk result
+        (λ texts. string_bytes texts.warnings ≡ string_bytes report.warnings) }
+    ensures dump { IfOk result (λ texts. texts.dump.items ≡ dump.items) }
+{
+    let Report {
+        files,
+        notices,
+        warnings,
+    } = report;
+    let contents = files.len();
+    let mut output = files;
+    output.push_str(notices.as_str())?;
+    Ok(CaptureTexts {
+        output,
+        contents,
+        warnings,
+        dump,
+    })
+}
+
 /// Makes the dump of files with names, and compares it with lists.
 fn capture_named<'a, A: Allocator + Copy>(
     alloc: A,
@@ -104,7 +136,7 @@ fn capture_named<'a, A: Allocator + Copy>(
     let read = lists_of(alloc, lists)?;
     let Made { contents, dump } = made_of(alloc, flushed, files)?;
     let report = report_of(alloc, &contents, files, lists, &read)?;
-    Ok(CaptureTexts { report, dump })
+    Ok(texts_of(report, dump)?)
 }
 
 /// Makes the dump of files, and compares it with lists of the LSAs of other routers; flushed LSAs

@@ -1,5 +1,5 @@
 -- How a run over files ends, and what it leaves in the rooms of a host.
-use Rattle.std.specs.Prelude.{◌≡◌, ◌==◌, ℕ, Bool, true, false, if◌then◌else◌, List, length, map}
+use Rattle.std.specs.Prelude.{◌≡◌, ◌==◌, ℕ, Bool, true, false, if◌then◌else◌, List, ◌++◌, length, map}
 use Rattle.capture_slices.specs.Captured.{AreCaptured, Given, given_of}
 use Rattle.capture_slices.specs.declared.files.GivenFile.{GivenFile}
 use Rattle.lsa_instances.specs.declared.keeping.FlushedLsas.{FlushedLsas}
@@ -24,20 +24,19 @@ abbrev pub verdict_of : List ℕ → ℕ
 verdict_of warnings = if length warnings == 0 then done else not_accepted
 
 -- the texts of a run are in their rooms, and the report has their lengths
-pub record AreInRooms {A : Type 0} (flushed : FlushedLsas) (given : Given)
-    (contents new_contents notices new_notices warnings new_warnings dump new_dump : List ℕ) (report : CaptureReport) (status : ℕ) : Type 0 where
-  pub contents_text : List ℕ
+pub record AreInRooms {A : Type 0} (flushed : FlushedLsas) (given : Given) (output new_output warnings new_warnings dump new_dump : List ℕ)
+    (report : CaptureReport) (status : ℕ) : Type 0 where
+  pub lines_text : List ℕ
   pub notices_text : List ℕ
   pub warnings_text : List ℕ
   pub dump_text : List ℕ
-  pub captured : AreCaptured A flushed given contents_text notices_text warnings_text dump_text
-  pub in_contents : IsCopied contents_text contents new_contents
-  pub in_notices : IsCopied notices_text notices new_notices
+  pub captured : AreCaptured A flushed given lines_text notices_text warnings_text dump_text
+  pub in_output : IsCopied (lines_text ++ notices_text) output new_output
   pub in_warnings : IsCopied warnings_text warnings new_warnings
   pub in_dump : IsCopied dump_text dump new_dump
   pub report_is : report ≡ record {
-    contents = length contents_text;
-    notices = length notices_text;
+    output = length (lines_text ++ notices_text);
+    contents = length lines_text;
     warnings = length warnings_text;
     dump = length dump_text;
   }

@@ -9,10 +9,10 @@ ghost use Rattle.ospf_plan_c.specs.Status.{done, not_accepted};
 
 use crate::status::{DONE, NO_ROOM, NOT_ACCEPTED, NOT_TEXT};
 use capture_lines::exit_line;
-use capture_slices::{CaptureEnd, CaptureTexts, GivenFile, capture, copy_texts};
+use capture_slices::{CaptureEnd, CaptureTexts, GivenFile, capture};
 use host_heap::{HostHeap, HostMemory};
 use lsa_instances::FlushedLsas;
-use plan_slices::copy_text;
+use plan_slices::{copy_text, copy_texts};
 use std::alloc::Allocator;
 
 /// How a run is made: the options of `ospf-capture`.
@@ -27,10 +27,10 @@ pub struct CaptureManner {
 #[repr(C)]
 #[derive(Clone, Copy, Debug, PartialEq, Eq)]
 pub struct CaptureReport {
-    /// The length of the lines of what each file contains, in bytes.
+    /// The length of the lines of what each file contains and of notices, in bytes.
+    pub output: usize,
+    /// The length of those of them that are about what each file contains, in bytes.
     pub contents: usize,
-    /// The length of the lines of notices, in bytes.
-    pub notices: usize,
     /// The length of the lines of warnings, in bytes; of a run that ended early, of the line that
     /// says why.
     pub warnings: usize,
@@ -49,24 +49,23 @@ pub extern "C" fn ospf_capture_run(
     manner: &CaptureManner,
     files: &[GivenFile<'_>],
     lists: &[GivenFile<'_>],
-    contents: &mut [u8],
-    notices: &mut [u8],
+    output: &mut [u8],
     warnings: &mut [u8],
     dump: &mut [u8],
     report: &mut CaptureReport,
 ) -> u32
     ensures texts { (result ≡ done) ⊎ (result ≡ not_accepted)
         → AreInRooms {A = Bor AnyHeap} (flushed_if manner.now.keep_flushed)
-        (given_in files.now lists.now) contents.old contents.new notices.old notices.new
-        warnings.old warnings.new dump.old dump.new report.new result }
-    ensures kept { 1 < result → (contents.new ≡ contents.old)
-        × ((notices.new ≡ notices.old) × (dump.new ≡ dump.old)) }
+        (given_in files.now lists.now) output.old output.new warnings.old warnings.new
+        dump.old dump.new report.new result }
+    ensures kept { 1 < result → (output.new ≡ output.old) × (dump.new ≡ dump.old) }
 {
     let heap = HostHeap::new(memory);
     match capture(&heap, flushed_if(manner.keep_flushed), files, lists) {
         Ok(texts) => {
             *report = report_of(&texts);
-            if copy_texts(&texts, contents, notices, warnings, dump) {
+            let (lines, warned) = (texts.output.as_bytes(), texts.warnings.as_bytes());
+            if copy_texts(lines, warned, &texts.dump, output, warnings, dump) {
                 verdict_of(&texts)
             } else {
                 NO_ROOM
@@ -93,9 +92,9 @@ fn flushed_if(kept: bool) -> FlushedLsas
 
 /// The status of a run with these texts.
 fn verdict_of<A: Allocator>(texts: &CaptureTexts<A>) -> u32
-    ensures { result ≡ verdict_of (string_bytes texts.now.report.warnings) }
+    ensures { result ≡ verdict_of (string_bytes texts.now.warnings) }
 {
-    if texts.report.warnings.is_empty() {
+    if texts.warnings.is_empty() {
         DONE
     } else {
         NOT_ACCEPTED
@@ -105,16 +104,16 @@ fn verdict_of<A: Allocator>(texts: &CaptureTexts<A>) -> u32
 /// The report of a run with these texts.
 fn report_of<A: Allocator>(texts: &CaptureTexts<A>) -> CaptureReport
     ensures { result ≡ record {
-      contents = length (string_bytes texts.now.report.files);
-      notices = length (string_bytes texts.now.report.notices);
-      warnings = length (string_bytes texts.now.report.warnings);
+      output = length (string_bytes texts.now.output);
+      contents = texts.now.contents;
+      warnings = length (string_bytes texts.now.warnings);
       dump = length texts.now.dump.items;
     } }
 {
     CaptureReport {
-        contents: texts.report.files.len(),
-        notices: texts.report.notices.len(),
-        warnings: texts.report.warnings.len(),
+        output: texts.output.len(),
+        contents: texts.contents,
+        warnings: texts.warnings.len(),
         dump: texts.dump.len(),
     }
 }
@@ -124,8 +123,8 @@ fn no_texts(warnings: usize) -> CaptureReport
     ensures { result.warnings ≡ warnings }
 {
     CaptureReport {
+        output: 0,
         contents: 0,
-        notices: 0,
         warnings,
         dump: 0,
     }
@@ -134,11 +133,7 @@ fn no_texts(warnings: usize) -> CaptureReport
 /// The status of a run that ended early, and the length of its line in bytes, which is copied to
 /// the room for it, where there is enough. The length is 0 where there is no line, or no memory for
 /// it.
-fn copy_end<A: Allocator + Copy>(
-    alloc: A,
-    end: CaptureEnd<'_>,
-    room: &mut [u8],
-) -> (u32, usize)
+fn copy_end<A: Allocator + Copy>(alloc: A, end: CaptureEnd<'_>, room: &mut [u8]) -> (u32, usize)
     ensures early { 1 < result.0 }
 {
     let CaptureEnd::Fault(fault) = end else {

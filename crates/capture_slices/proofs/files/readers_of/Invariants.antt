@@ -6,6 +6,6 @@ use Rattle.host_io.specs.Watched.{has_failed}
 
 abbrev pub invariant-loop-file : goal.invariant-loop-file
 invariant-loop-file g l = record {
-  open : All (λ reader. has_failed reader ≡ false) l.readers.items;
+  unfailed : All (λ reader. has_failed reader ≡ false) l.readers.items;
   bytes : known (λ bytes. Some bytes.now) l.readers.items ≡ map (λ file. Some file.bytes.now) (take l.file-index l.files);
 }
