@@ -1,0 +1,81 @@
+//! Opaque LSAs (RFC 5250, A.2) in JSON. Their data are printed byte for byte, so that an LSA whose
+//! fields are all there is rebuilt; of any other one only the number is reported.
+
+ghost use Rattle.std.specs.Prelude.{◌≡◌, IfOk, option_map};
+ghost use Rattle.json.specs.Value.{value_view};
+ghost use Rattle.frr_json.specs.Opaque.{data_in, header_in, pairs_in, parsed_opaque};
+
+use crate::header::{age_and_options_in, checksum_and_length_in, origination_in};
+use crate::member::{address_at, text_at};
+use findings::{Feature, Part};
+use frr_text::fields::bytes_with_key;
+use frr_text::parsed_bytes;
+use hex::FromHexError;
+use json::Value;
+use lsa_codec::{Addr, AreaId, Key};
+use std::alloc::{AllocError, Allocator};
+
+/// The key of the opaque LSA of this type in an object, and the bytes of its header.
+#[tactic(auto, unfolding(crate::specs::Opaque::header_in))]
+fn header_in<A: Allocator>(kind: u8, json: &Value<'_, A>) -> Option<(Key, [u8; 20])>
+    ensures { result ≡ header_in kind (value_view json.now) }
+{
+    let age_and_options = age_and_options_in(json)?;
+    let id = address_at("linkStateId", json)?;
+    let origination = origination_in(json)?;
+    let checksum_and_length = checksum_and_length_in(json)?;
+    let key = Key {
+        kind,
+        id: Addr(id),
+        adv: origination.adv,
+    };
+    let sequence = origination.sequence;
+    let bytes = bytes_with_key(age_and_options, key, sequence, checksum_and_length);
+    Some((key, bytes))
+}
+
+/// The bytes that a text spells, in two hexadecimal digits each.
+fn pairs_in<A: Allocator + Copy>(alloc: A, text: &str) -> Result<Option<Vec<u8, A>>, AllocError>
+    ensures { IfOk result (λ bytes. option_map (λ v. v.items) bytes ≡ pairs_in text.now) }
+{
+    match hex::decode(alloc, text.as_bytes()) {
+        Ok(bytes) => Ok(Some(bytes)),
+        Err(FromHexError::OutOfMemory) => Err(AllocError),
+        Err(_) => Ok(None),
+    }
+}
+
+/// The opaque data, which follow the header.
+#[tactic(auto, unfolding(crate::specs::Opaque::data_in))]
+fn data_in<A: Allocator + Copy>(
+    alloc: A,
+    json: &Value<'_, A>,
+) -> Result<Option<Vec<u8, A>>, AllocError>
+    ensures { IfOk result (λ data. option_map (λ bytes. bytes.items) data
+        ≡ data_in (value_view json.now)) }
+{
+    match text_at("opaqueData", json) {
+        Some(text) => pairs_in(alloc, text),
+        None => Ok(None),
+    }
+}
+
+/// The opaque LSA of this type in an object, or why it cannot be used.
+pub(crate) fn parsed_opaque<A: Allocator + Copy>(
+    alloc: A,
+    kind: u8,
+    area: Option<AreaId>,
+    json: &Value<'_, A>,
+) -> Result<Part<A>, AllocError>
+    ensures { IfOk result (λ parsed. parsed ≡ parsed_opaque kind area (value_view json.now)) }
+{
+    let Some((key, header)) = header_in(kind, json) else {
+        return Ok(Part::NotRead(Feature::Opaque));
+    };
+    let Some(data) = data_in(alloc, json)? else {
+        return Ok(Part::NotRead(Feature::Opaque));
+    };
+    let mut bytes = Vec::from_slice(alloc, &header)?;
+    bytes.extend_from_slice(&data)?;
+    parsed_bytes(alloc, area, key, &bytes)
+}
