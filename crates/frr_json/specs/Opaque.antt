@@ -42,13 +42,13 @@ data_in json = do
   pairs_in text
 
 module _ {A : Type 0} where
-  abbrev pub parsed_with : Option AreaId → Key × List ℕ → Option (List ℕ) → Part A
-  parsed_with area header None = contents.NotRead features.Opaque
-  parsed_with area header (Some data) = parsed_decoded area header.0 (decoded (header.1 ++ data))
+  abbrev pub parsed_with : Option AreaId → Key → List ℕ → Option (List ℕ) → Part A
+  parsed_with area key header None = contents.NotRead features.Opaque
+  parsed_with area key header (Some information) = parsed_decoded area key (decoded (header ++ information))
 
   abbrev pub parsed_from : Option AreaId → Option (Key × List ℕ) → Option (List ℕ) → Part A
-  parsed_from area None data = contents.NotRead features.Opaque
-  parsed_from area (Some header) data = parsed_with area header data
+  parsed_from area None information = contents.NotRead features.Opaque
+  parsed_from area (Some header) information = parsed_with area header.0 header.1 information
 
   -- the LSA of this type in an object, or why it cannot be used; where a field or the data are missing, it is counted alone
   abbrev pub parsed_opaque : ℕ → Option AreaId → Json → Part A

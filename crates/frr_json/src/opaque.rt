@@ -1,9 +1,11 @@
 //! Opaque LSAs (RFC 5250, A.2) in JSON. Their data are printed byte for byte, so that an LSA whose
 //! fields are all there is rebuilt; of any other one only the number is reported.
 
-ghost use Rattle.std.specs.Prelude.{◌≡◌, IfOk, option_map};
+ghost use Rattle.std.specs.Prelude.{◌≡◌, ◌++◌, IfOk, option_map};
 ghost use Rattle.json.specs.Value.{value_view};
-ghost use Rattle.frr_json.specs.Opaque.{data_in, header_in, pairs_in, parsed_opaque};
+ghost use Rattle.lsa_codec.specs.Decoding.{decoded};
+ghost use Rattle.frr_text.specs.ParsedParts.{parsed_decoded};
+ghost use Rattle.frr_json.specs.Opaque.{data_in, header_in, pairs_in, parsed_opaque, parsed_with};
 
 use crate::header::{age_and_options_in, checksum_and_length_in, origination_in};
 use crate::member::{address_at, text_at};
@@ -51,12 +53,45 @@ fn data_in<A: Allocator + Copy>(
     alloc: A,
     json: &Value<'_, A>,
 ) -> Result<Option<Vec<u8, A>>, AllocError>
-    ensures { IfOk result (λ data. option_map (λ bytes. bytes.items) data
+    ensures { IfOk result (λ found. option_map (λ bytes. bytes.items) found
         ≡ data_in (value_view json.now)) }
 {
     match text_at("opaqueData", json) {
         Some(text) => pairs_in(alloc, text),
         None => Ok(None),
+    }
+}
+
+/// The LSA with this key, whose header and data these bytes are; or why it cannot be used.
+fn joined<A: Allocator + Copy>(
+    alloc: A,
+    area: Option<AreaId>,
+    key: Key,
+    header: [u8; 20],
+    information: &[u8],
+) -> Result<Part<A>, AllocError>
+    ensures { IfOk result (λ parsed. parsed
+        ≡ parsed_decoded area key (decoded (header ++ information.now))) }
+{
+    let mut bytes = Vec::from_slice(alloc, &header)?;
+    bytes.extend_from_slice(information)?;
+    parsed_bytes(alloc, area, key, &bytes)
+}
+
+/// The LSA with this key and this header in an object, if its data are there.
+fn parsed_with<A: Allocator + Copy>(
+    alloc: A,
+    area: Option<AreaId>,
+    key: Key,
+    header: [u8; 20],
+    json: &Value<'_, A>,
+) -> Result<Part<A>, AllocError>
+    ensures { IfOk result (λ parsed. parsed
+        ≡ parsed_with area key header (data_in (value_view json.now))) }
+{
+    match data_in(alloc, json)? {
+        Some(information) => joined(alloc, area, key, header, &information),
+        None => Ok(Part::NotRead(Feature::Opaque)),
     }
 }
 
@@ -69,13 +104,8 @@ pub(crate) fn parsed_opaque<A: Allocator + Copy>(
 ) -> Result<Part<A>, AllocError>
     ensures { IfOk result (λ parsed. parsed ≡ parsed_opaque kind area (value_view json.now)) }
 {
-    let Some((key, header)) = header_in(kind, json) else {
-        return Ok(Part::NotRead(Feature::Opaque));
-    };
-    let Some(data) = data_in(alloc, json)? else {
-        return Ok(Part::NotRead(Feature::Opaque));
-    };
-    let mut bytes = Vec::from_slice(alloc, &header)?;
-    bytes.extend_from_slice(&data)?;
-    parsed_bytes(alloc, area, key, &bytes)
+    match header_in(kind, json) {
+        Some((key, header)) => parsed_with(alloc, area, key, header, json),
+        None => Ok(Part::NotRead(Feature::Opaque)),
+    }
 }

@@ -8,6 +8,7 @@ use Rattle.capture_files.specs.Captures.{IsOfFormat}
 use Rattle.capture_files.specs.Pcap.{IsPcap}
 use Rattle.capture_files.specs.Pcapng.{IsPcapng, has_section}
 use Rattle.capture_files.specs.CaptureTexts.{CaptureText}
+use Rattle.findings.specs.declared.finding.Finding.{Finding}
 use Rattle.findings.specs.declared.part.Part.{Part}
 use Rattle.findings.specs.declared.reported_lsa.ReportedLsa.{ReportedLsa}
 use Rattle.findings.specs.Contents.{ContentLists, content_of, header_of, kind_of, observation_of}
@@ -17,11 +18,12 @@ use Rattle.network_files.specs.declared.kind.FileKind.TheVariants.{Capture, Json
 use Rattle.network_files.specs.ParsedFiles.{HasContent, databases_in}
 use Rattle.ospf_packets.specs.Contents as captures
 use Rattle.snmp_walk.specs.Contents as walks
+use Rattle.snmp_walk.specs.Counts.{fewer_part}
 use Rattle.snmp_walk.specs.Missing.{missing_row}
 use Rattle.snmp_walk.specs.ParsedObjects.{parsed_in}
 use Rattle.snmp_walk.specs.Sorting.{part_of}
 
--- ---- rows that are missing add nothing to the databases
+-- ---- findings about a walk as a whole add nothing to the databases
 
 no_observations : (A : Type 0) (rows : List ReportedLsa) → filter_map (observation_of {A = A}) (map missing_row rows) ≡ []
 no_observations A [] = refl
@@ -35,18 +37,40 @@ no_headers : (A : Type 0) (rows : List ReportedLsa) → filter_map (header_of {A
 no_headers A [] = refl
 no_headers A (row ∷ rows) = no_headers A rows
 
-module _ {A : Type 0} where
-  nothing_more : {X : Type 0} (f : Part A → Option X) (these : List (Part A)) (rows : List ReportedLsa) → filter_map f (map missing_row rows) ≡ []
-      → filter_map f (these ++ map missing_row rows) ≡ filter_map f these
-  nothing_more f these rows none =
-      filter_map-append f these (map missing_row rows) ∙ ap (λ rest. filter_map f these ++ rest) none ∙ append-nil (filter_map f these)
+counts_show_no_lsas : (A : Type 0) (found : List Finding) → filter_map (observation_of {A = A}) (map fewer_part found) ≡ []
+counts_show_no_lsas A [] = refl
+counts_show_no_lsas A (one ∷ found) = counts_show_no_lsas A found
 
-  same_databases : (these : List (Part A)) (rows : List ReportedLsa)
-      → databases_in (content_of (these ++ map missing_row rows)) ≡ databases_in (content_of these)
+counts_show_no_kinds : (A : Type 0) (found : List Finding) → filter_map (kind_of {A = A}) (map fewer_part found) ≡ []
+counts_show_no_kinds A [] = refl
+counts_show_no_kinds A (one ∷ found) = counts_show_no_kinds A found
+
+counts_show_no_headers : (A : Type 0) (found : List Finding) → filter_map (header_of {A = A}) (map fewer_part found) ≡ []
+counts_show_no_headers A [] = refl
+counts_show_no_headers A (one ∷ found) = counts_show_no_headers A found
+
+module _ {A : Type 0} where
+  -- what a walk has besides its objects
+  more : List ReportedLsa → List Finding → List (Part A)
+  more rows found = map missing_row rows ++ map fewer_part found
+
+  nothing_more : {X : Type 0} (f : Part A → Option X) (these : List (Part A)) (rows : List ReportedLsa) (found : List Finding)
+      → filter_map f (map missing_row rows) ≡ [] → filter_map f (map fewer_part found) ≡ [] → filter_map f (these ++ more rows found) ≡ filter_map f these
+  nothing_more f these rows found no_rows no_counts =
+      filter_map-append f these (more rows found)
+      ∙ ap (λ rest. filter_map f these ++ rest)
+      (filter_map-append f (map missing_row rows) (map fewer_part found) ∙ ap (λ front. front ++ filter_map f (map fewer_part found)) no_rows ∙ no_counts)
+      ∙ append-nil (filter_map f these)
+
+  same_databases : (these : List (Part A)) (rows : List ReportedLsa) (found : List Finding)
+      → databases_in (content_of (these ++ more rows found)) ≡ databases_in (content_of these)
   unfolding content_of
-  same_databases these rows = λ i. (
-    nothing_more observation_of these rows (no_observations A rows) i,
-    (nothing_more kind_of these rows (no_kinds A rows) i, nothing_more header_of these rows (no_headers A rows) i),
+  same_databases these rows found = λ i. (
+    nothing_more observation_of these rows found (no_observations A rows) (counts_show_no_lsas A found) i,
+    (
+      nothing_more kind_of these rows found (no_kinds A rows) (counts_show_no_kinds A found) i,
+      nothing_more header_of these rows found (no_headers A rows) (counts_show_no_headers A found) i,
+    ),
   )
 
 -- ---- files of each kind
@@ -66,7 +90,7 @@ module _ (pcap : (file : List ℕ) (a b : CaptureText) → IsPcap file a → IsP
     by_walk : walks.HasContent bytes one → walks.HasContent bytes two → databases_in one ≡ databases_in two
     by_walk a b =
         let found : List (Part A) = filter_map part_of (parsed_in bytes) in
-        ap databases_in a.whole ∙ same_databases found a.rows ∙ sym (same_databases found b.rows) ∙ sym (ap databases_in b.whole)
+        ap databases_in a.whole ∙ same_databases found a.rows a.fewer ∙ sym (same_databases found b.rows b.fewer) ∙ sym (ap databases_in b.whole)
 
     pub one_reading : (kind : FileKind) → HasContent kind bytes one → HasContent kind bytes two → databases_in one ≡ databases_in two
     one_reading Capture a b = ap databases_in (by_capture a b)

@@ -1,11 +1,11 @@
 -- The numbers of rows, counted one by one.
-use Rattle.std.proofs.Common.{◌≡◌, ℕ, ◌+◌, ◌<◌, add-zero, Bool, true, false, List, Some, length, get_or, take, refl, sym, ap, subst, ◌∙◌}
+use Rattle.std.proofs.Common.{◌≡◌, ℕ, ◌+◌, ◌<◌, ◌≤◌, ◌^◌, add-zero, Bool, true, false, List, [], ◌∷◌, Some, None, length, get_or, take, refl, sym, ap, subst, ◌∙◌, arith}
 use Rattle.std.specs.Prelude.{◌==◌}
 use Rattle.std.specs.BTreeMap.{BTreeMap, get, Updates}
 use Rattle.std.specs.Ordering.{eq_by_cmp, nat_cmp}
 use Rattle.std.proofs.lemmas.Bool.{eqb-true, eq-eqb}
 use Rattle.std.proofs.lemmas.Cmp.{eq_by_cmp_equiv, nat_cmp_total}
-use Rattle.std.proofs.lemmas.List.Sums.{count_by_more_no, count_by_more_yes}
+use Rattle.std.proofs.lemmas.List.Sums.{count_by-le-length, count_by_more_no, count_by_more_yes}
 use Rattle.std.proofs.lemmas.Map.Lookups.{exact_unsigned}
 use Rattle.findings.specs.declared.reported_lsa.ReportedLsa.{ReportedLsa}
 use Rattle.snmp_walk.specs.Counts.{counted_as, counts, is_counted, number_among}
@@ -28,6 +28,12 @@ apart a b h = by (a == b) refl
         cc
 
 -- ---- one more row
+
+-- one that nothing counts
+pub no_more : (numbers : BTreeMap ℕ ℕ) (row : ReportedLsa) → counted_as row ≡ None → AreMore numbers row numbers
+no_more numbers row is counted =
+    sym (add-zero (number_in (get nat_cmp numbers counted)))
+    ∙ ap (λ o. number_in (get nat_cmp numbers counted) + one_if (counts counted o)) (sym is)
 
 module _ (old new : BTreeMap ℕ ℕ) (row : ReportedLsa) where
   pub one_more : (number : ℕ) → counted_as row ≡ Some number → Updates nat_cmp old new number (Some (number_in (get nat_cmp old number) + 1))
@@ -59,3 +65,11 @@ numbers_more rows i row old new within at known more counted = by (is_counted co
     by false h =
         so_far ∙ ap (λ b. number_among (take i rows) counted + one_if b) h ∙ add-zero (number_among (take i rows) counted)
         ∙ sym (count_by_more_no (is_counted counted) rows i row within (ap (is_counted counted) (sym at) ∙ h))
+
+-- no number is above that of the rows
+pub few : (rows : List ReportedLsa) (i : ℕ) (numbers : BTreeMap ℕ ℕ) → i + 1 < 2 ^ 64 → AreNumbers (take i rows) numbers → (counted : ℕ)
+    → number_in (get nat_cmp numbers counted) + 1 < 2 ^ 64
+few rows i numbers small known counted =
+    let most : number_among (take i rows) counted ≤ length (take i rows) = count_by-le-length (is_counted counted) (take i rows) in
+    let long : length (take i rows) ≤ i = length-take-least i rows in
+    subst (λ n. n + 1 < 2 ^ 64) (sym (known counted)) (omega arith)

@@ -1,6 +1,6 @@
 //! The LSAs that a walk has, and the numbers of them that its router counts.
 
-ghost use Rattle.std.specs.Prelude.{◌≡◌, ◌+◌, ◌<◌, ◌++◌, ℕ, Some, IfOk, OnOk, map};
+ghost use Rattle.std.specs.Prelude.{◌≡◌, ◌+◌, ◌<◌, ◌^◌, ◌++◌, ℕ, Some, IfOk, OnOk, map};
 ghost use Rattle.std.specs.BTreeMap.{get, Updates};
 ghost use Rattle.std.specs.BTreeSet.{IsFromIterResult};
 ghost use Rattle.std.specs.List.{filter_map};
@@ -35,10 +35,10 @@ fn counted_number(area: Option<AreaId>) -> u64
 fn counted_as(row: ReportedLsa) -> Option<u64>
     ensures { result ≡ counted_as row }
 {
-    if row.area.is_none() && row.key.kind != EXTERNAL_LSA {
-        return None;
+    match row.area {
+        None if row.key.kind != EXTERNAL_LSA => None,
+        area => Some(counted_number(area)),
     }
-    Some(counted_number(row.area))
 }
 
 /// The row of an object, if it is a column of one.
@@ -67,6 +67,16 @@ fn set_of_rows<A: Allocator + Copy>(
         .collect(alloc)
 }
 
+/// The rows of a set, in order.
+fn in_order<A: Allocator + Copy>(
+    alloc: A,
+    rows: &BTreeSet<ReportedLsa, A>,
+) -> Result<Vec<ReportedLsa, A>, AllocError>
+    ensures { IfOk result (λ once. once.items ≡ rows.now.keys) }
+{
+    rows.iter().copied().collect(alloc)
+}
+
 /// The rows of a walk, each once, in order.
 fn rows_of<A: Allocator + Copy>(
     alloc: A,
@@ -75,7 +85,7 @@ fn rows_of<A: Allocator + Copy>(
     ensures { IfOk result (λ rows. AreRows (filter_map row_of parsed.now) rows.items) }
 {
     let rows = set_of_rows(alloc, parsed)?;
-    rows.iter().copied().collect(alloc)
+    in_order(alloc, &rows)
 }
 
 /// The number of rows that are counted so.
