@@ -380,7 +380,11 @@ def read_array(reading: PrintReading, value, kind: int, area: int | None) -> Non
         return
     for one in value:
         try:
-            reading.lsa(header_of(one, kind), body_of(one, kind) if kind < 6 else data_of(one), area)
+            header = header_of(one, kind)
+            body = body_of(one, kind) if kind < 6 else data_of(one)
+            if kind > 6 and header.length != 20 + len(body):
+                raise Unreadable
+            reading.lsa(header, body, area)
         except Unreadable:
             if kind < 6:
                 reading.unreadable += 1

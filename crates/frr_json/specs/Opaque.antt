@@ -1,5 +1,5 @@
 -- Opaque LSAs (RFC 5250, A.2) in the object that FRR prints of one.
-use Rattle.std.specs.Prelude.{ℕ, codes, List, ◌++◌, Option, Some, None, Result, Ok, Err}
+use Rattle.std.specs.Prelude.{ℕ, ◌==◌, ◌*◌, ◌-◌, codes, List, ◌++◌, length, if◌then◌else◌, Option, Some, None, Result, Ok, Err}
 use Rattle.hex.specs.Hex.{decode_of}
 use Rattle.json.specs.Json.{Json}
 use Rattle.findings.specs.declared.feature.Feature.TheVariants as features
@@ -8,12 +8,14 @@ use Rattle.findings.specs.declared.part.Part.TheVariants as contents
 use Rattle.lsa_codec.specs.declared.address.AreaId.{AreaId}
 use Rattle.lsa_codec.specs.declared.address.RouterId.{RouterId}
 use Rattle.lsa_codec.specs.declared.key.Key.{Key}
+use Rattle.lsa_codec.specs.Accepted.{longest_lsa}
 use Rattle.lsa_codec.specs.Decoding.{decoded}
+use Rattle.lsa_codec.specs.Fields.{header_length}
 use Rattle.frr_text.specs.Making.{bytes_with_key}
 use Rattle.frr_text.specs.ParsedParts.{parsed_decoded}
 use Rattle.frr_text.specs.Rules.{◌>>=◌}
 use Rattle.frr_json.specs.Header.{age_and_options_in, origination_in, checksum_and_length_in}
-use Rattle.frr_json.specs.Members.{text_at, address_at}
+use Rattle.frr_json.specs.Members.{text_at, number_at, address_at}
 
 abbrev pub key_with : ℕ → ℕ → RouterId → Key
 key_with kind id adv = record { kind = kind; id = record { 0 = id }; adv = adv }
@@ -35,11 +37,20 @@ ok (Err e) = None
 abbrev pub pairs_in : List ℕ → Option (List ℕ)
 pairs_in text = ok (decode_of text)
 
--- the opaque data
+-- the data of an LSA of this length
+abbrev pub data_of_size : ℕ → List ℕ → Option (List ℕ)
+data_of_size size text = if length text == 2 * (size - header_length) then pairs_in text else None
+
+-- the opaque data, where they are what the length leaves after the header
+unfoldable pub data_of : List ℕ → Json → Option (List ℕ)
+data_of text json = do
+  size ← number_at longest_lsa (codes "length") json
+  data_of_size size text
+
 unfoldable pub data_in : Json → Option (List ℕ)
 data_in json = do
   text ← text_at (codes "opaqueData") json
-  pairs_in text
+  data_of text json
 
 module _ {A : Type 0} where
   abbrev pub parsed_with : Option AreaId → Key → List ℕ → Option (List ℕ) → Part A
@@ -50,6 +61,6 @@ module _ {A : Type 0} where
   parsed_from area None information = contents.NotRead features.Opaque
   parsed_from area (Some header) information = parsed_with area header.0 header.1 information
 
-  -- the LSA of this type in an object, or why it cannot be used; where a field or the data are missing, it is counted alone
+  -- the LSA of this type in an object, or why it cannot be used; where a field or data of its length are missing, it is counted alone
   abbrev pub parsed_opaque : ℕ → Option AreaId → Json → Part A
   parsed_opaque kind area json = parsed_from area (header_in kind json) (data_in json)

@@ -5,16 +5,16 @@ ghost use Rattle.std.specs.Prelude.{◌≡◌, ◌++◌, IfOk, option_map};
 ghost use Rattle.json.specs.Value.{value_view};
 ghost use Rattle.lsa_codec.specs.Decoding.{decoded};
 ghost use Rattle.frr_text.specs.ParsedParts.{parsed_decoded};
-ghost use Rattle.frr_json.specs.Opaque.{data_in, header_in, pairs_in, parsed_opaque, parsed_with};
+ghost use Rattle.frr_json.specs.Opaque.{data_in, data_of, data_of_size, header_in, pairs_in, parsed_opaque, parsed_with};
 
 use crate::header::{age_and_options_in, checksum_and_length_in, origination_in};
-use crate::member::{address_at, text_at};
+use crate::member::{address_at, number_at, text_at};
 use findings::{Feature, Part};
 use frr_text::fields::bytes_with_key;
 use frr_text::parsed_bytes;
 use hex::FromHexError;
 use json::Value;
-use lsa_codec::{Addr, AreaId, Key};
+use lsa_codec::{Addr, AreaId, Key, LONGEST_LSA};
 use std::alloc::{AllocError, Allocator};
 
 /// The key of the opaque LSA of this type in an object, and the bytes of its header.
@@ -47,6 +47,38 @@ fn pairs_in<A: Allocator + Copy>(alloc: A, text: &str) -> Result<Option<Vec<u8, 
     }
 }
 
+/// The data of an LSA of this length, where the text spells that many bytes after the header.
+fn data_of_size<A: Allocator + Copy>(
+    alloc: A,
+    size: u32,
+    text: &str,
+) -> Result<Option<Vec<u8, A>>, AllocError>
+    ensures { IfOk result (λ found. option_map (λ bytes. bytes.items) found
+        ≡ data_of_size size text.now) }
+{
+    if text.len() == 2 * size.saturating_sub(20) as usize {
+        pairs_in(alloc, text)
+    } else {
+        Ok(None)
+    }
+}
+
+/// The data that this text spells, where they are what the printed length leaves after the header.
+#[tactic(auto, unfolding(crate::specs::Opaque::data_of))]
+fn data_of<A: Allocator + Copy>(
+    alloc: A,
+    text: &str,
+    json: &Value<'_, A>,
+) -> Result<Option<Vec<u8, A>>, AllocError>
+    ensures { IfOk result (λ found. option_map (λ bytes. bytes.items) found
+        ≡ data_of text.now (value_view json.now)) }
+{
+    match number_at(LONGEST_LSA as u32, "length", json) {
+        Some(size) => data_of_size(alloc, size, text),
+        None => Ok(None),
+    }
+}
+
 /// The opaque data, which follow the header.
 #[tactic(auto, unfolding(crate::specs::Opaque::data_in))]
 fn data_in<A: Allocator + Copy>(
@@ -57,7 +89,7 @@ fn data_in<A: Allocator + Copy>(
         ≡ data_in (value_view json.now)) }
 {
     match text_at("opaqueData", json) {
-        Some(text) => pairs_in(alloc, text),
+        Some(text) => data_of(alloc, text, json),
         None => Ok(None),
     }
 }

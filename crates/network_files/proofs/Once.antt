@@ -51,7 +51,7 @@ counts_show_no_headers A (one ∷ found) = counts_show_no_headers A found
 
 module _ {A : Type 0} where
   -- what a walk has besides its objects
-  more : List ReportedLsa → List Finding → List (Part A)
+  abbrev more : List ReportedLsa → List Finding → List (Part A)
   more rows found = map missing_row rows ++ map fewer_part found
 
   nothing_more : {X : Type 0} (f : Part A → Option X) (these : List (Part A)) (rows : List ReportedLsa) (found : List Finding)
