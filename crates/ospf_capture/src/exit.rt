@@ -164,8 +164,7 @@ fn file_line<A: Allocator + Copy>(
         FileEnd::TooLarge => format!(in alloc; "{name}: TooLarge\n"),
         FileEnd::Refused(fault) => refused_line(alloc, name, fault),
         FileEnd::NotAList => format!(in alloc; "{name}: NotAList\n"),
-        FileEnd::CompressedList => format!(
-            in alloc;
+        FileEnd::CompressedList => format!(in alloc;
             "{name}: Compressed (zcat {name} | ospf-capture --against - ..)\n"
         ),
     }

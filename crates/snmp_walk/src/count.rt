@@ -21,7 +21,8 @@ const EXTERNALS: u64 = 4_294_967_296;
 /// The number of rows of each area, and of AS-external-LSAs.
 type Numbers<A> = BTreeMap<u64, usize, A>;
 
-/// A number for what a router counts: the LSAs of an area, or, where there is none, AS-external-LSAs.
+/// A number for what a router counts: the LSAs of an area, or, where there is none, those that are
+/// AS-external.
 fn counted_number(area: Option<AreaId>) -> u64
     ensures { result ≡ counted_number area }
 {
@@ -61,10 +62,7 @@ fn set_of_rows<A: Allocator + Copy>(
     ensures { IfOk result
         (λ rows. IsFromIterResult reported_cmp (filter_map row_of parsed.now) rows) }
 {
-    parsed
-        .iter()
-        .filter_map(|object| row_of(object))
-        .collect(alloc)
+    parsed.iter().filter_map(|one| row_of(one)).collect(alloc)
 }
 
 /// The rows of a set, in order.
@@ -124,10 +122,7 @@ fn put_row<A: Allocator + Copy>(
 }
 
 /// The numbers of these rows.
-fn numbers_of<A: Allocator + Copy>(
-    alloc: A,
-    rows: &[ReportedLsa],
-) -> Result<Numbers<A>, AllocError>
+fn numbers_of<A: Allocator + Copy>(alloc: A, rows: &[ReportedLsa]) -> Result<Numbers<A>, AllocError>
     ensures { IfOk result (AreNumbers rows.now) }
 {
     let mut numbers = BTreeMap::new(alloc);
@@ -149,10 +144,7 @@ fn fewer_than(area: Option<AreaId>, found: usize, count: u32) -> Option<Finding>
 }
 
 /// The finding about a count, if there are fewer LSAs.
-fn fewer_by<A: Allocator + Copy>(
-    numbers: &Numbers<A>,
-    parsed: &ParsedObject<A>,
-) -> Option<Finding>
+fn fewer_by<A: Allocator + Copy>(numbers: &Numbers<A>, parsed: &ParsedObject<A>) -> Option<Finding>
     ensures { result ≡ fewer_by (λ counted. number_in (get nat_cmp numbers.now counted))
         parsed.now }
 {
