@@ -1,5 +1,5 @@
 -- The numbers of rows, counted one by one.
-use Rattle.std.proofs.Common.{◌≡◌, ℕ, ◌+◌, ◌<◌, ◌≤◌, ◌^◌, add-zero, Bool, true, false, List, [], ◌∷◌, Some, None, length, get_or, take, refl, sym, ap, subst, ◌∙◌, arith}
+use Rattle.std.proofs.Common.{◌≡◌, ℕ, ◌+◌, ◌<◌, ◌≤◌, ◌^◌, add-zero, Bool, true, false, List, Some, None, length, length-take, get_or, take, refl, sym, ap, subst, ◌∙◌, arith}
 use Rattle.std.specs.Prelude.{◌==◌}
 use Rattle.std.specs.BTreeMap.{BTreeMap, get, Updates}
 use Rattle.std.specs.Ordering.{eq_by_cmp, nat_cmp}
@@ -71,5 +71,4 @@ pub few : (rows : List ReportedLsa) (i : ℕ) (numbers : BTreeMap ℕ ℕ) → i
     → number_in (get nat_cmp numbers counted) + 1 < 2 ^ 64
 few rows i numbers small known counted =
     let most : number_among (take i rows) counted ≤ length (take i rows) = count_by-le-length (is_counted counted) (take i rows) in
-    let long : length (take i rows) ≤ i = length-take-least i rows in
-    subst (λ n. n + 1 < 2 ^ 64) (sym (known counted)) (omega arith)
+    subst (λ n. n + 1 < 2 ^ 64) (sym (known counted)) (omega (arith, most, small, length-take i rows))

@@ -111,10 +111,11 @@ pub(super) const TYPE_2_BYTES: &[u8] = &[
 
 /// An opaque LSA of area scope: Router Information of 10.255.0.3.
 pub(super) const OPAQUE: &[u8] =
-    b"{\"routerId\": \"10.255.0.6\", \"areaLocalOpaqueLsa\": {\"areas\": {\"0.0.0.0\": [{\"lsaAge\": \
-    201, \"options\": \"*|O|-|-|-|-|E|-\", \"lsaFlags\": 6, \"lsaType\": \"Area-Local Opaque-LSA\", \
-    \"linkStateId\": \"4.0.0.0\", \"advertisingRouter\": \"10.255.0.3\", \"lsaSeqNumber\": \
-    \"80000001\", \"checksum\": \"31be\", \"length\": 28, \"opaqueType\": \
+    b"{\"routerId\": \"10.255.0.6\", \"areaLocalOpaqueLsa\": {\"areas\": {\"0.0.0.0\": [{ \
+    \"lsaAge\": 201, \"options\": \"*|O|-|-|-|-|E|-\", \"lsaFlags\": 6, \"lsaType\": \
+    \"Area-Local Opaque-LSA\", \"linkStateId\": \"4.0.0.0\", \"advertisingRouter\": \
+    \"10.255.0.3\", \"lsaSeqNumber\": \"80000001\", \"checksum\": \"31be\", \"length\": 28, \
+    \"opaqueType\": \
     \"Router Information LSA\", \"opaqueId\": 0, \"opaqueDataLength\": 8, \"opaqueData\": \
     \"0001000410000000\"}]}}}";
 
@@ -126,10 +127,11 @@ pub(super) const OPAQUE_BYTES: &[u8] = &[
 
 /// The same with a byte less of its data.
 pub(super) const OPAQUE_CUT: &[u8] =
-    b"{\"routerId\": \"10.255.0.6\", \"areaLocalOpaqueLsa\": {\"areas\": {\"0.0.0.0\": [{\"lsaAge\": \
-    201, \"options\": \"*|O|-|-|-|-|E|-\", \"lsaFlags\": 6, \"lsaType\": \"Area-Local Opaque-LSA\", \
-    \"linkStateId\": \"4.0.0.0\", \"advertisingRouter\": \"10.255.0.3\", \"lsaSeqNumber\": \
-    \"80000001\", \"checksum\": \"31be\", \"length\": 28, \"opaqueType\": \
+    b"{\"routerId\": \"10.255.0.6\", \"areaLocalOpaqueLsa\": {\"areas\": {\"0.0.0.0\": [{ \
+    \"lsaAge\": 201, \"options\": \"*|O|-|-|-|-|E|-\", \"lsaFlags\": 6, \"lsaType\": \
+    \"Area-Local Opaque-LSA\", \"linkStateId\": \"4.0.0.0\", \"advertisingRouter\": \
+    \"10.255.0.3\", \"lsaSeqNumber\": \"80000001\", \"checksum\": \"31be\", \"length\": 28, \
+    \"opaqueType\": \
     \"Router Information LSA\", \"opaqueId\": 0, \"opaqueDataLength\": 8, \"opaqueData\": \
     \"00010004100000\"}]}}}";
 
