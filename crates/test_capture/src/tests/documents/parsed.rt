@@ -73,12 +73,7 @@ const DOCUMENTS: &[(&str, &[u8], &[Expected], &[Finding])] = &[
         &[(Scope::AsWide, TYPE_2_BYTES)],
         &[],
     ),
-    (
-        "an opaque LSA",
-        OPAQUE,
-        &[(BACKBONE, OPAQUE_BYTES)],
-        &[],
-    ),
+    ("an opaque LSA", OPAQUE, &[(BACKBONE, OPAQUE_BYTES)], &[]),
     (
         "an opaque LSA without all its data",
         OPAQUE_CUT,

@@ -121,8 +121,8 @@ pub(super) const OPAQUE: &[u8] =
 
 /// Its bytes.
 pub(super) const OPAQUE_BYTES: &[u8] = &[
-    0, 201, 0x42, 10, 4, 0, 0, 0, 10, 255, 0, 3, 0x80, 0, 0, 1, 0x31, 0xbe, 0, 28, 0, 1, 0, 4, 0x10,
-    0, 0, 0,
+    0, 201, 0x42, 10, 4, 0, 0, 0, 10, 255, 0, 3, 0x80, 0, 0, 1, 0x31, 0xbe, 0, 28, 0, 1, 0, 4,
+    0x10, 0, 0, 0,
 ];
 
 /// The same with a byte less of its data.

@@ -75,7 +75,7 @@ const WALKS: &[Row] = &[
         &[Finding::Unused(CUT_LSA, UnusedReason::Missing)],
     ),
     (
-        "as many rows as are counted",
+        "the number of rows that is counted",
         COUNTED,
         &[(OTHER_AREA, NETWORK), (Scope::AsWide, EXTERNAL)],
         &[],
