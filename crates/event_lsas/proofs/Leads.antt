@@ -33,14 +33,3 @@ refused db event OutOfMemory is early = absurd cc
 -- a late fault says nothing
 pub late_refusal : (db : Lists) (event : LinkEvent) (fault : EventFault) → is_late fault ≡ true → IsRefusal fault (link_event db event)
 late_refusal db event fault late early = absurd (let e : true ≡ false = sym late ∙ early in cc)
-
--- the fault that an answer names
-pub is_fault : (fault : EventFault) (answer : Result LinkEdit EventFault) → answer ≡ Err fault → IsEditFault fault answer
-is_fault SameRouter answer is = is
-is_fault (NoRouter router) answer is = is
-is_fault (NotNeighbors router neighbor) answer is = is
-is_fault (NoInterface router address) answer is = is
-is_fault (UnclearEnd router address) answer is = is
-is_fault ZeroCost answer is = is
-is_fault (NotMade fault) answer is = is
-is_fault OutOfMemory answer is = tt

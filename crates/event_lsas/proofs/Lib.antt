@@ -5,3 +5,4 @@ mod Turns
 mod Walked
 mod Leads
 mod Removals
+mod Edits

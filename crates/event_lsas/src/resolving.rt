@@ -118,11 +118,13 @@ fn cut_link<A: Allocator + Copy>(
         IsEditFault fault (cut_link (lists_of database.now) router neighbor address)) }
 {
     let own = Selection::OneLink(router, neighbor, address);
-    if is_somewhere(alloc, database, areas, own)? {
+    let is_own = is_somewhere(alloc, database, areas, own)?;
+    if is_own {
         return clear_link(alloc, database, areas, router, neighbor, address);
     }
     let other = Selection::OneLink(neighbor, router, address);
-    if is_somewhere(alloc, database, areas, other)? {
+    let is_other = is_somewhere(alloc, database, areas, other)?;
+    if is_other {
         return clear_link(alloc, database, areas, neighbor, router, address);
     }
     Err(EventFault::NoInterface(router, address))
@@ -202,7 +204,8 @@ fn set_cost_at<A: Allocator + Copy>(
         IsEditFault fault (set_cost_at (lists_of database.now) router address metric)) }
 {
     let selection = Selection::AtAddress(router, address);
-    if !is_somewhere(alloc, database, areas, selection)? {
+    let has_link = is_somewhere(alloc, database, areas, selection)?;
+    if !has_link {
         let mask = longest_mask_at(alloc, database, areas, router, address)?;
         return set_stub_cost(router, address, metric, mask);
     }
@@ -292,7 +295,6 @@ fn edit_of<A: Allocator + Copy>(
 }
 
 /// The links of an event, and how they change; or the first refusal.
-#[tactic(auto, using(crate::proofs::Leads::is_fault))]
 pub(crate) fn resolved<A: Allocator + Copy>(
     alloc: A,
     database: &Database<A>,
