@@ -120,6 +120,7 @@ module _ (db : Lists) (e : LinkEdit) (k : ℕ) (ps : List Slot) where
   -- those of an area change where its links are chosen
   pub of_area : (head : Option AreaHead) (area : AreaId) (kind : Bool) → Some (area, kind) ≡ option_map id_and_kind head
       → section_changes (where_chosen e.change (chosen_in db area e.selection)) k 0 ps ≡ changes_in head
+  unfolding area_of
   of_area None area kind is = absurd cc
   of_area (Some head) area kind is =
       let same : area ≡ id_of head = ap (area_of area) is in

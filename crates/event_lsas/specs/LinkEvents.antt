@@ -1,5 +1,5 @@
 -- Events of links and of the costs of interfaces: what each makes of a database, or the first refusal.
-use Rattle.std.specs.Prelude.{◌≡◌, ℕ, ◌==◌, not, Bool, false, is_some, map, Option, Some, None, Result, Ok, Err, if◌then◌else◌}
+use Rattle.std.specs.Prelude.{◌≡◌, ℕ, ◌==◌, not, Bool, false, is_some, List, map, Option, Some, None, Result, Ok, Err, if◌then◌else◌}
 use Rattle.std.specs.List.{list_any, list_all}
 use Rattle.lsa_codec.specs.declared.address.Addr.{Addr}
 use Rattle.lsa_codec.specs.declared.address.AreaId.{AreaId}
@@ -45,9 +45,13 @@ unless_fault (Some fault) answer = Err fault
 abbrev pub clear_in : Lists → RouterId → RouterId → Addr → AreaId → Bool
 clear_in db router neighbor address area = is_clear db area router neighbor (interfaces_to_at db area router neighbor address)
 
+-- in each area
+abbrev pub clear_everywhere : Lists → RouterId → RouterId → Addr → List Bool
+clear_everywhere db router neighbor address = map (clear_in db router neighbor address) (area_ids db)
+
 -- in all areas
 abbrev pub are_clear : Lists → RouterId → RouterId → Addr → Bool
-are_clear db router neighbor address = list_all (λ clear. clear) (map (clear_in db router neighbor address) (area_ids db))
+are_clear db router neighbor address = list_all (λ clear. clear) (clear_everywhere db router neighbor address)
 
 -- ---- the links of each event, and how they change
 

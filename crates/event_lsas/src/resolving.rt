@@ -3,7 +3,7 @@
 ghost use Rattle.std.specs.Prelude.{◌≡◌, IfOk, IfErr, Ok};
 ghost use Rattle.lsdb.specs.Slots.{lists_of};
 ghost use Rattle.event_lsas.specs.Selections.{area_ids};
-ghost use Rattle.event_lsas.specs.LinkEvents.{clear_in, are_clear, cut_links, clear_link, cut_link, towards, set_cost, set_stub_cost, set_cost_at, drained, fault_of, edit_of, resolved, IsEditFault};
+ghost use Rattle.event_lsas.specs.LinkEvents.{clear_in, clear_everywhere, are_clear, cut_links, clear_link, cut_link, towards, set_cost, set_stub_cost, set_cost_at, drained, fault_of, edit_of, resolved, IsEditFault};
 
 use crate::event::LinkEvent;
 use crate::fault::EventFault;
@@ -57,6 +57,27 @@ fn clear_in<A: Allocator + Copy>(
     is_clear(alloc, database, area, router, neighbor, &owns)
 }
 
+/// Whether that is so, in each area.
+fn clear_everywhere<A: Allocator + Copy>(
+    alloc: A,
+    database: &Database<A>,
+    areas: &[AreaId],
+    router: RouterId,
+    neighbor: RouterId,
+    address: Addr,
+) -> Result<Vec<bool, A>, AllocError>
+    requires { areas.now ≡ area_ids (lists_of database.now) }
+    ensures { IfOk result (λ v. v.items
+        ≡ clear_everywhere (lists_of database.now) router neighbor address) }
+{
+    let mut found = Vec::new(alloc);
+    for area in areas {
+        let clear = clear_in(alloc, database, *area, router, neighbor, address)?;
+        found.push(clear)?;
+    }
+    Ok(found)
+}
+
 /// Whether that is so in all areas.
 fn are_clear<A: Allocator + Copy>(
     alloc: A,
@@ -70,11 +91,7 @@ fn are_clear<A: Allocator + Copy>(
     ensures { IfOk result (λ clear. clear
         ≡ are_clear (lists_of database.now) router neighbor address) }
 {
-    let mut found = Vec::new(alloc);
-    for area in areas {
-        let clear = clear_in(alloc, database, *area, router, neighbor, address)?;
-        found.push(clear)?;
-    }
+    let found = clear_everywhere(alloc, database, areas, router, neighbor, address)?;
     Ok(found.iter().all(|clear| *clear))
 }
 

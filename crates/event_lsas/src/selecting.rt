@@ -1,6 +1,7 @@
 //! The links of a selection, in an area and in all areas.
 
 ghost use Rattle.std.specs.Prelude.{◌≡◌, IfOk};
+ghost use Rattle.std.specs.List.{find};
 ghost use Rattle.lsdb.specs.Slots.{lists_of};
 ghost use Rattle.event_lsas.specs.declared.selection.Selection.TheVariants.{Between, OneLink};
 ghost use Rattle.event_lsas.specs.Interfaces.{stubs_at};
@@ -220,12 +221,21 @@ fn is_longest(links: &[Link], link: Link) -> bool
         .all(|other| other.link_data.0 <= link.link_data.0)
 }
 
+/// The first stub link whose mask is as long as any.
+fn longest(links: &[Link]) -> Option<Link>
+    ensures { result ≡ find (is_longest links.now) links.now }
+{
+    links.iter().copied().find(|link| is_longest(links, *link))
+}
+
 /// The longest mask of some stub links.
 fn longest_mask(links: &[Link]) -> Option<u32>
     ensures { result ≡ longest_mask links.now }
 {
-    let link = links.iter().copied().find(|link| is_longest(links, *link))?;
-    Some(link.link_data.0)
+    match longest(links) {
+        Some(link) => Some(link.link_data.0),
+        None => None,
+    }
 }
 
 /// The longest mask of the links to stub networks of a router that have an address, in all areas.

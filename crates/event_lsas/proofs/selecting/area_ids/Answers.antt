@@ -8,8 +8,8 @@ use Rattle.event_lsas.proofs.selecting.area_ids.Goals as goal
 
 pub loop-number-preserved : goal.loop-number-preserved
 loop-number-preserved g c =
-    let head : AreaHead = record { id = c.area-_is_stub.result.0.0; is_stub = c.area-_is_stub.result.1 } in
-    ids_more (areas_of (lists_of c.args.database.now)) c.loop-number.number head _ _ c.area-_is_stub.ensures c.loop-number.invariant c.in_ok-push.ensures.items
+    let head : AreaHead = record { id = c.area-is_stub.result.0.0; is_stub = c.area-is_stub.result.1 } in
+    ids_more (areas_of (lists_of c.args.database.now)) c.loop-number.number head _ _ c.area-is_stub.ensures c.loop-number.invariant c.in_ok-push.ensures.items
 
 pub returns : goal.returns
 returns g c =

@@ -1,7 +1,7 @@
 use Rattle.std.proofs.Common.{◌≡◌, map, take}
 use Rattle.lsdb.specs.Slots.{lists_of}
 use Rattle.event_lsas.specs.LinkEvents.{clear_in}
-use Rattle.event_lsas.proofs.resolving.are_clear.Given as goal
+use Rattle.event_lsas.proofs.resolving.clear_everywhere.Given as goal
 
 -- the answers of the areas so far
 abbrev pub invariant-loop-area : goal.invariant-loop-area
