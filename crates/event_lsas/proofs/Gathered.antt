@@ -22,7 +22,8 @@ taken_more (h ∷ hs) zero head at =
     ap (λ (x : AreaHead). let ids : List AreaId = id_of x ∷ [] in ids) (sym same)
 taken_more (h ∷ hs) (suc i) head at = ap (λ (ids : List AreaId). id_of h ∷ ids) (taken_more hs i head at)
 
-pub ids_more : (heads : List AreaHead) (i : ℕ) (head : AreaHead) (old new : List AreaId) → slice_get heads i ≡ Some head
-    → old ≡ map id_of (take i heads) → new ≡ old ++ id_of head ∷ [] → new ≡ map id_of (take (suc i) heads)
-ids_more heads i head old new at so_far pushed =
+pub ids_more : (heads : List AreaHead) (i j : ℕ) (head : AreaHead) (old new : List AreaId) → j ≡ suc i → slice_get heads i ≡ Some head
+    → old ≡ map id_of (take i heads) → new ≡ old ++ id_of head ∷ [] → new ≡ map id_of (take j heads)
+ids_more heads i j head old new e at so_far pushed =
     pushed ∙ ap (λ (ids : List AreaId). ids ++ id_of head ∷ []) so_far ∙ taken_more heads i head at
+    ∙ ap (λ (k : ℕ). map id_of (take k heads)) (sym e)

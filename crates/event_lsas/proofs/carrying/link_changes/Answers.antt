@@ -10,7 +10,7 @@ returns-in_err-edit-clause-refused g c =
 
 pub returns-clause-leads : goal.returns-clause-leads
 returns-clause-leads g c =
-    IfOk-weaker c.changes_of.result _ _ (λ v made. leads c.args.database.now c.args.event c.in_ok-edit.edit v c.in_ok-edit.ensures.edit made)
+    IfOk-weaker c.changes_of.result _ _ (λ v made. leads c.args.database.now c.args.event c.in_ok-edit.edit _ c.in_ok-edit.ensures.edit made)
     c.changes_of.ensures.changes
 
 pub returns-clause-refused : goal.returns-clause-refused

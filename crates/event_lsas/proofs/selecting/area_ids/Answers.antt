@@ -1,4 +1,4 @@
-use Rattle.std.proofs.Common.{List, ℕ, map, sym, ap, ◌∙◌, arith}
+use Rattle.std.proofs.Common.{◌+◌, List, ℕ, map, sym, ap, ◌∙◌, arith}
 use Rattle.std.proofs.lemmas.List.{take_all}
 use Rattle.lsdb.specs.Lists.{AreaHead, areas_of}
 use Rattle.lsdb.specs.Slots.{lists_of}
@@ -9,7 +9,7 @@ use Rattle.event_lsas.proofs.selecting.area_ids.Goals as goal
 pub loop-number-preserved : goal.loop-number-preserved
 loop-number-preserved g c =
     let head : AreaHead = record { id = c.area-is_stub.result.0.0; is_stub = c.area-is_stub.result.1 } in
-    ids_more (areas_of (lists_of c.args.database.now)) c.loop-number.number head _ _ c.area-is_stub.ensures c.loop-number.invariant c.in_ok-push.ensures.items
+    ids_more (areas_of (lists_of c.args.database.now)) c.loop-number.number (c.loop-number.number + 1) head _ _ (omega arith) c.area-is_stub.ensures c.loop-number.invariant c.in_ok-push.ensures.items
 
 pub returns : goal.returns
 returns g c =
