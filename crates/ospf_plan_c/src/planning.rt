@@ -85,7 +85,14 @@ pub extern "C" fn ospf_plan_run(
     match plan(&heap, dump, script, wanted) {
         Ok(texts) => {
             *report = report_of(&texts);
-            if copy_texts(&texts, replies, out, session) {
+            if copy_texts(
+                &texts.replies,
+                &texts.dump,
+                &texts.session,
+                replies,
+                out,
+                session,
+            ) {
                 DONE
             } else {
                 NO_ROOM

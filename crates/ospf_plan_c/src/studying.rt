@@ -9,10 +9,10 @@ ghost use Rattle.ospf_plan_c.specs.Studies.{AreInRooms, format_if, given_if, man
 
 use crate::status::{DONE, NO_MEMORY, NO_ROOM, NOT_ACCEPTED, REFUSED, TOO_LARGE};
 use host_heap::{HostHeap, HostMemory};
-use plan_slices::copy_text;
+use plan_slices::{copy_text, copy_texts};
 use std::alloc::Allocator;
 use study_session::Format;
-use study_slices::{StudyTexts, copy_texts, fault_text, study};
+use study_slices::{StudyTexts, fault_text, study};
 use whole_study::{Manner, RunFault, Summary};
 
 /// How a study is carried out: the options of `ospf-study`.
@@ -83,7 +83,14 @@ pub extern "C" fn ospf_study_run(
     match study(&heap, manner_of(manner), dump, baseline, names, lines) {
         Ok(texts) => {
             *report = report_of(&texts);
-            if copy_texts(&texts, replies, errors, left) {
+            if copy_texts(
+                &texts.replies,
+                &texts.errors,
+                &texts.dump,
+                replies,
+                errors,
+                left,
+            ) {
                 status_of(&texts.summary)
             } else {
                 NO_ROOM

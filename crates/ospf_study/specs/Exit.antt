@@ -5,9 +5,7 @@ use Rattle.lsdb.specs.declared.fault.DumpFault.{DumpFault}
 use Rattle.lsdb.specs.declared.fault.DumpFaultKind.{DumpFaultKind}
 use Rattle.lsdb.specs.declared.fault.DumpFaultKind.TheVariants as kind
 use Rattle.lsdb.specs.Faults.{fault_text}
-use Rattle.network_names.specs.Fault.{code_of, name_of}
-use Rattle.study_hints.specs.Escaped.{escaped}
-use Rattle.whole_study.specs.declared.fault.NamesRefusal.{NamesRefusal}
+use Rattle.whole_study.specs.Refusals.{names_text}
 use Rattle.whole_study.specs.declared.fault.RunFault.{RunFault}
 use Rattle.whole_study.specs.declared.fault.RunFault.TheVariants as «run»
 use Rattle.whole_study.specs.declared.running.Ended.{Ended}
@@ -49,12 +47,6 @@ dump_text_by what _ fault = what ++ codes ": " ++ fault_text fault ++ codes "\n"
 -- `dump: L4 TrailingBytes at 99`
 abbrev pub dump_text : List ℕ → DumpFault → List ℕ
 dump_text what fault = dump_text_by what fault.kind fault
-
--- `hosts:7: H3 BadName r!`
-abbrev pub names_text : {A : Type 0} → List ℕ → NamesRefusal A → List ℕ
-names_text file refusal =
-    file ++ codes ":" ++ decimal refusal.line ++ codes ": " ++ code_of refusal.kind ++ codes " " ++ name_of refusal.kind
-    ++ codes " " ++ escaped refusal.word.items ++ codes "\n"
 
 abbrev pub run_text : {A : Type 0} → List ℕ → RunFault A → List ℕ
 run_text names (run.Dump fault) = dump_text (codes "dump") fault

@@ -1,14 +1,12 @@
 //! How the program ends after a fault: its status, and the line on standard error.
 
 ghost use Rattle.std.specs.Prelude.{◌≡◌, IfOk, string_bytes};
-ghost use Rattle.ospf_study.specs.Exit.{dump_status, dump_text, exit_status, exit_text, names_text, open_study_text, open_text, run_status, run_text};
+ghost use Rattle.ospf_study.specs.Exit.{dump_status, dump_text, exit_status, exit_text, open_study_text, open_text, run_status, run_text};
 
 use crate::fault::{ExitFault, FileArg};
 use lsdb::{DumpFault, DumpFaultKind};
 use std::alloc::{AllocError, Global};
-use study_hints::push_escaped;
-use study_text::push_number;
-use whole_study::{NamesRefusal, RunFault};
+use whole_study::{RunFault, names_line};
 
 /// The status of a refused dump or baseline.
 fn dump_status(fault: DumpFault) -> u8
@@ -55,23 +53,6 @@ fn dump_line(alloc: Global, what: &str, fault: DumpFault) -> Result<Vec<u8>, All
 {
     let line = dump_text(alloc, what, fault)?;
     Vec::from_slice(alloc, line.as_bytes())
-}
-
-/// The line of a refused names file: its name, the line, the fault, and the word.
-fn names_line(alloc: Global, file: &str, refusal: &NamesRefusal) -> Result<Vec<u8>, AllocError>
-    ensures { IfOk result (λ line. line.items ≡ names_text file.now refusal.now) }
-{
-    let mut line = Vec::from_slice(alloc, file.as_bytes())?;
-    line.push(b':')?;
-    push_number(&mut line, refusal.line as u64)?;
-    line.extend_from_slice(b": ")?;
-    line.extend_from_slice(refusal.kind.code().as_bytes())?;
-    line.push(b' ')?;
-    line.extend_from_slice(refusal.kind.name().as_bytes())?;
-    line.push(b' ')?;
-    push_escaped(&mut line, &refusal.word)?;
-    line.push(b'\n')?;
-    Ok(line)
 }
 
 fn run_line(alloc: Global, names: &str, fault: &RunFault) -> Result<Vec<u8>, AllocError>

@@ -1,13 +1,11 @@
 //! A run over bytes in memory.
 
-ghost use Rattle.std.specs.Prelude.{◌≡◌, ◌<◌, ◌⊎◌, [], IfErr, IfOk, IfSome, Some, false, is_some, length, true};
+ghost use Rattle.std.specs.Prelude.{◌≡◌, [], IfErr, IfOk, IfSome, Some, false, is_some};
 ghost use Rattle.host_io.specs.Watched.{inner_of};
 ghost use Rattle.whole_run.specs.Streams.{has_any_failed};
 ghost use Rattle.whole_run.specs.WholeRun.{MayEndRun};
-ghost use Rattle.plan_slices.specs.Room.{IsCopied};
 ghost use Rattle.plan_slices.specs.Texts.{AreTextsOf, text_if};
 
-use crate::room::put;
 use host_io::Watched;
 use std::alloc::{Allocator, Global};
 use whole_run::{RunFault, Summary, run};
@@ -102,33 +100,4 @@ fn text_in<A: Allocator + Copy>(alloc: A, writer: Option<Watched<Vec<u8, A>>>) -
         Some(writer) => writer.into_inner(),
         None => Vec::new(alloc),
     }
-}
-
-/// Copies the texts of a run to the front of the room for each, and leaves the bytes after them as
-/// they were. Returns whether there is room for all; without it nothing is copied.
-pub fn copy_texts<A: Allocator>(
-    texts: &PlanTexts<A>,
-    replies: &mut [u8],
-    dump: &mut [u8],
-    session: &mut [u8],
-) -> bool
-    ensures replies { result ≡ true → IsCopied texts.now.replies.items replies.old replies.new }
-    ensures dump { result ≡ true → IsCopied texts.now.dump.items dump.old dump.new }
-    ensures session { result ≡ true → IsCopied texts.now.session.items session.old session.new }
-    ensures kept { result ≡ false
-        → (replies.new ≡ replies.old) × ((dump.new ≡ dump.old) × (session.new ≡ session.old)) }
-    ensures short { result ≡ false → (length replies.old < length texts.now.replies.items)
-        ⊎ ((length dump.old < length texts.now.dump.items)
-        ⊎ (length session.old < length texts.now.session.items)) }
-{
-    if texts.replies.len() > replies.len()
-        || texts.dump.len() > dump.len()
-        || texts.session.len() > session.len()
-    {
-        return false;
-    }
-    put(&texts.replies, replies);
-    put(&texts.dump, dump);
-    put(&texts.session, session);
-    true
 }

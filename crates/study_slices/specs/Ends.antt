@@ -1,10 +1,8 @@
 -- The line of a run of a study that ended early.
-use Rattle.std.specs.Prelude.{ℕ, List, ◌++◌, codes, decimal}
+use Rattle.std.specs.Prelude.{ℕ, List, ◌++◌, codes}
 use Rattle.lsdb.specs.declared.fault.DumpFault.{DumpFault}
 use Rattle.lsdb.specs.Faults.{fault_text as dump_fault_text}
-use Rattle.network_names.specs.Fault.{code_of, name_of}
-use Rattle.study_hints.specs.Escaped.{escaped}
-use Rattle.whole_study.specs.declared.fault.NamesRefusal.{NamesRefusal}
+use Rattle.whole_study.specs.Refusals.{names_text}
 use Rattle.whole_study.specs.declared.fault.RunFault.{RunFault}
 use Rattle.whole_study.specs.declared.fault.RunFault.TheVariants.{Dump, Baseline, Names, Read, Write, TooLarge, OutOfMemory}
 
@@ -12,17 +10,11 @@ use Rattle.whole_study.specs.declared.fault.RunFault.TheVariants.{Dump, Baseline
 abbrev pub dump_line : List ℕ → DumpFault → List ℕ
 dump_line what fault = what ++ codes ": " ++ dump_fault_text fault ++ codes "\n"
 
--- `names:7: H3 BadName r!`
-abbrev pub names_line : {A : Type 0} → NamesRefusal A → List ℕ
-names_line refusal =
-    codes "names:" ++ decimal refusal.line ++ codes ": " ++ code_of refusal.kind ++ codes " " ++ name_of refusal.kind
-    ++ codes " " ++ escaped refusal.word.items ++ codes "\n"
-
 -- the line for a run that ended early, as `ospf-study` has it on standard error; a write to memory fails for want of it
 abbrev pub end_text : {A : Type 0} → RunFault A → List ℕ
 end_text (Dump fault) = dump_line (codes "dump") fault
 end_text (Baseline fault) = dump_line (codes "baseline") fault
-end_text (Names refusal) = names_line refusal
+end_text (Names refusal) = names_text (codes "names") refusal
 end_text Read = codes "file: Read\n"
 end_text Write = codes "memory: OutOfMemory\n"
 end_text TooLarge = codes "file: TooLarge\n"

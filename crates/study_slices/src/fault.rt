@@ -1,13 +1,11 @@
 //! The line of a run that ended early.
 
 ghost use Rattle.std.specs.Prelude.{◌≡◌, IfOk};
-ghost use Rattle.study_slices.specs.Ends.{dump_line, end_text, names_line};
+ghost use Rattle.study_slices.specs.Ends.{dump_line, end_text};
 
 use lsdb::DumpFault;
 use std::alloc::{AllocError, Allocator};
-use study_hints::push_escaped;
-use study_text::push_number;
-use whole_study::{NamesRefusal, RunFault};
+use whole_study::{RunFault, names_line};
 
 /// The line for a run that ended early, its line feed included, as `ospf-study` writes it to
 /// standard error, for a names file named `names`: `baseline: L4 TrailingBytes at 99`,
@@ -25,7 +23,7 @@ pub fn fault_text<A: Allocator + Copy>(
     match fault {
         RunFault::Dump(fault) => dump_line(alloc, "dump", *fault),
         RunFault::Baseline(fault) => dump_line(alloc, "baseline", *fault),
-        RunFault::Names(refusal) => names_line(alloc, refusal),
+        RunFault::Names(refusal) => names_line(alloc, "names", refusal),
         RunFault::Read => Vec::from_slice(alloc, b"file: Read\n"),
         RunFault::TooLarge => Vec::from_slice(alloc, b"file: TooLarge\n"),
         RunFault::Write | RunFault::OutOfMemory => Vec::from_slice(alloc, b"memory: OutOfMemory\n"),
@@ -42,23 +40,4 @@ fn dump_line<A: Allocator + Copy>(
 {
     let line = format!(in alloc; "{what}: {fault}\n")?;
     Vec::from_slice(alloc, line.as_bytes())
-}
-
-/// The line of a refused names file.
-fn names_line<A: Allocator + Copy>(
-    alloc: A,
-    refusal: &NamesRefusal<A>,
-) -> Result<Vec<u8, A>, AllocError>
-    ensures { IfOk result (λ line. line.items ≡ names_line refusal.now) }
-{
-    let mut line = Vec::from_slice(alloc, b"names:")?;
-    push_number(&mut line, refusal.line as u64)?;
-    line.extend_from_slice(b": ")?;
-    line.extend_from_slice(refusal.kind.code().as_bytes())?;
-    line.push(b' ')?;
-    line.extend_from_slice(refusal.kind.name().as_bytes())?;
-    line.push(b' ')?;
-    push_escaped(&mut line, &refusal.word)?;
-    line.push(b'\n')?;
-    Ok(line)
 }

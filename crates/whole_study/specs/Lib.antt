@@ -1,6 +1,7 @@
 pub mod Given
 pub mod Lines
 pub mod Run
+pub mod Refusals
 pub mod Begin
 pub mod Streams
 pub mod Calls

@@ -12,6 +12,7 @@ mod loading;
 
 // What it writes.
 mod output;
+mod refusal;
 mod summary;
 
 // A run.
@@ -26,6 +27,7 @@ pub use dialog::converse;
 pub use fault::{NamesRefusal, RunFault};
 pub use inputs::{RunFiles, StudyFile};
 pub use output::Output;
+pub use refusal::names_line;
 pub use running::{Ended, Manner, run};
 pub use summary::Summary;
 pub use typing::Terminal;
