@@ -1,10 +1,13 @@
 -- Pairs of names and what they name, one after another.
-use Rattle.std.proofs.Common.{◌≡◌, ◌∙◌, sym, ap, subst, ℕ, ◌+◌, ◌<◌, min, List, [], ◌∷◌, ◌++◌, take, map, length, get_or, arith}
+use Rattle.std.proofs.Common.{◌≡◌, ◌∙◌, refl, sym, ap, true, false, Result, Ok, Err, OnOk, subst, ℕ, ◌+◌, ◌<◌, min, List, [], ◌∷◌, ◌++◌, take, map, length, get_or, arith}
 use Rattle.std.specs.Borrow.{Bor}
 use Rattle.std.specs.List.{AllZip, flat_map, zip}
 use Rattle.std.proofs.lemmas.List.{flat_map_more, get_or-map, length-map, take_all, take_more}
 use Rattle.std.proofs.lemmas.Slice.Zip.{all_zipped_more, get_or-zip, length-zip}
-use Rattle.capture_lines.specs.Reports.{AddsFile, AreFileTexts, AreListTexts, HaveFileTexts, HaveListTexts}
+use Rattle.capture_lines.specs.Reports.{AddsFile, AreFileTexts, AreListTexts, HaveFileTexts, HaveListTexts, lines_of}
+use Rattle.capture_report.specs.FileFindings.{AreFileFindings}
+use Rattle.capture_report.specs.FileLines.{IsLine}
+use Rattle.findings.specs.declared.finding.Finding.{Finding}
 use Rattle.lsdb.specs.Lists.{Lists}
 use Rattle.lsdb_listing.specs.declared.list.PrintedList.{PrintedList}
 use Rattle.network_files.specs.declared.parsed_file.ParsedFile.{ParsedFile}
@@ -61,3 +64,18 @@ list_more db before after name list lines new_lines text more have are pushed = 
       (all_zipped_more (AreListTexts db) before have.texts (name, list) text have.each are);
   lines_are = pushed ∙ ap (λ one. one ++ text) have.lines_are ∙ flat_map_more (λ one. one) [] have.texts text;
 }
+
+-- a file adds its line and the lines of its findings, unless memory runs out
+pub adds : {A F : Type 0} (result : Result (Unit {0}) F) (name : List ℕ) (file : ParsedFile A) (findings : List Finding)
+    (line lines with_line new_lines notices new_notices warnings new_warnings : List ℕ) → OnOk result (new_lines ≡ with_line)
+    → OnOk result (new_notices ≡ notices ++ lines_of true name findings) → OnOk result (new_warnings ≡ warnings ++ lines_of false name findings)
+    → with_line ≡ lines ++ line → IsLine name file line → AreFileFindings file findings
+    → OnOk result (AddsFile name file lines new_lines notices new_notices warnings new_warnings)
+adds (Ok x) name file findings line lines with_line new_lines notices new_notices warnings new_warnings same noticed warned put is found = record {
+  texts = record { line = line; notices = lines_of true name findings; warnings = lines_of false name findings };
+  are_texts = record { findings = findings; found = found; line_is = is; notices_are = refl; warnings_are = refl };
+  lines_are = same ∙ put;
+  notices_are = noticed;
+  warnings_are = warned;
+}
+adds (Err e) name file findings line lines with_line new_lines notices new_notices warnings new_warnings same noticed warned put is found = tt

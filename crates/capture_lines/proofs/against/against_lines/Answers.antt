@@ -13,7 +13,7 @@ loop-name-preserved g c =
     let lists = c.args.lists.now in
     let seen = c.loop-name.yielded in
     let turn =
-    zip_turn names lists seen _ _ _ c.next.result (search rules) (search rules) c.loop-name.yielded_by
+    zip_turn names lists seen c.into_iter-name-iterator.result c.loop-name.name-iterator c.next.new.self c.next.result (search rules) (search rules) c.loop-name.yielded_by
     (c.in-Some.name, c.in-Some.list) c.in-Some.is c.next.ensures.steps in
     let db = lists_of c.args.database.now in
     let P : ℕ → Type 0 = λ n. HaveListTexts db (take n (pairs names lists)) (string_bytes c.push_str.new.self) in
@@ -27,7 +27,7 @@ returns g c =
     let names = c.args.names.now in
     let lists = c.args.lists.now in
     let all =
-    zip_end names lists c.loop-name.yielded _ _ _ c.next.result (search rules) (search rules) c.loop-name.yielded_by c.in-None.is
+    zip_end names lists c.loop-name.yielded c.into_iter-name-iterator.result c.loop-name.name-iterator c.next.new.self c.next.result (search rules) (search rules) c.loop-name.yielded_by c.in-None.is
     c.next.ensures.steps in
     subst (λ given. HaveListTexts (lists_of c.args.database.now) given (string_bytes c.loop-name.lines))
     (pairs_all names lists (length c.loop-name.yielded) all) c.loop-name.invariant

@@ -12,7 +12,7 @@ loop-name-preserved g c =
     let files = c.args.files.now in
     let seen = c.loop-name.yielded in
     let turn =
-    zip_turn names files seen _ _ _ c.next.result (search rules) (search rules) c.loop-name.yielded_by
+    zip_turn names files seen c.into_iter-name-iterator.result c.loop-name.name-iterator c.next.new.self c.next.result (search rules) (search rules) c.loop-name.yielded_by
     (c.in-Some.name, c.in-Some.file) c.in-Some.is c.next.ensures.steps in
     let new = c.put_file.new.self in
     let P : ℕ → Type 0 = λ n. HaveFileTexts (take n (pairs names files)) (string_bytes new.files) (string_bytes new.notices) (string_bytes new.warnings) in
@@ -26,7 +26,7 @@ returns g c =
     let names = c.args.names.now in
     let files = c.args.files.now in
     let all =
-    zip_end names files c.loop-name.yielded _ _ _ c.next.result (search rules) (search rules) c.loop-name.yielded_by c.in-None.is
+    zip_end names files c.loop-name.yielded c.into_iter-name-iterator.result c.loop-name.name-iterator c.next.new.self c.next.result (search rules) (search rules) c.loop-name.yielded_by c.in-None.is
     c.next.ensures.steps in
     let report = c.loop-name.report in
     subst (λ given. HaveFileTexts given (string_bytes report.files) (string_bytes report.notices) (string_bytes report.warnings))
