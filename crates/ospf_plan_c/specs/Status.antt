@@ -1,10 +1,6 @@
--- How calls end, and what they leave in their rooms.
-use Rattle.std.specs.Prelude.{◌≡◌, ◌⊎◌, ℕ, List, Some}
+-- How calls end, and the line of a run that ended early in the room for it.
+use Rattle.std.specs.Prelude.{◌≡◌, ◌<◌, ◌⊎◌, ℕ, List, length}
 use Rattle.plan_slices.specs.Room.{IsCopied}
-use Rattle.plan_slices.specs.Texts.{end_text}
-use Rattle.whole_run.specs.WholeRun.{MayEndRun}
-use Rattle.whole_run.specs.declared.fault.RunFault.{RunFault}
-use Rattle.whole_run.specs.declared.fault.RunFault.TheVariants.{Dump, Read, Write, TooLarge, OutOfMemory}
 
 -- the texts are in their rooms
 abbrev pub done : ℕ
@@ -30,17 +26,9 @@ no_memory = 5
 abbrev pub no_room : ℕ
 no_room = 6
 
--- the status of a run that ended early, the one of the program for the same fault; a write to memory fails for want of it
-abbrev pub status_of : RunFault → ℕ
-status_of (Dump fault) = refused
-status_of Read = too_large
-status_of Write = no_memory
-status_of TooLarge = too_large
-status_of OutOfMemory = no_memory
-
--- a run of a script ended early, with its status; its line is in the room for it, or that is as it was
-pub record EndsEarly (dump script : List ℕ) (status : ℕ) (room new_room : List ℕ) : Type 0 where
-  pub end : RunFault
-  pub may_end : MayEndRun (Some dump) (Some script) end
-  pub status_is : status ≡ status_of end
-  pub line : (new_room ≡ room) ⊎ IsCopied (end_text end) room new_room
+-- the line of a run that ended early, its reported length, and the room for it: the line is in the room, or the room is too
+-- small and as it was, or there was no memory for the line, whose length is then 0
+abbrev pub IsTold : List ℕ → ℕ → List ℕ → List ℕ → Type 0
+IsTold line told room new_room =
+    ((told ≡ length line) × IsCopied line room new_room)
+    ⊎ (((told ≡ length line) × ((length room < length line) × (new_room ≡ room))) ⊎ ((told ≡ 0) × (new_room ≡ room)))

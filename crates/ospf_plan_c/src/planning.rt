@@ -1,14 +1,14 @@
 //! A run of a script.
 
 ghost use Rattle.std.specs.Prelude.{◌≡◌, ◌≢◌, ◌⊎◌, length};
-ghost use Rattle.whole_run.specs.Run.{run_text, final_dump, final_session};
-ghost use Rattle.plan_slices.specs.Room.{IsCopied};
-ghost use Rattle.plan_slices.specs.Texts.{end_text, text_if};
-ghost use Rattle.ospf_plan_c.specs.Status.{EndsEarly, done, no_room, status_of};
+ghost use Rattle.plan_slices.specs.Texts.{end_text};
+ghost use Rattle.ospf_plan_c.specs.Plans.{AreInRooms, EndsEarly, LacksRoom, no_texts, status_of};
+ghost use Rattle.ospf_plan_c.specs.Status.{IsTold, done, no_room};
 
+use crate::line::put_line;
 use crate::status::{DONE, NO_MEMORY, NO_ROOM, REFUSED, TOO_LARGE};
 use host_heap::{HostHeap, HostMemory};
-use plan_slices::{PlanTexts, Wanted, copy_text, copy_texts, fault_text, plan};
+use plan_slices::{PlanTexts, Wanted, copy_texts, fault_text, plan};
 use std::alloc::Allocator;
 use whole_run::RunFault;
 
@@ -59,22 +59,13 @@ pub extern "C" fn ospf_plan_run(
     fault: &mut [u8],
     report: &mut PlanReport,
 ) -> u32
-    ensures replies { result ≡ done → IsCopied
-        (text_if wanted.now.replies (run_text dump.now script.now)) replies.old replies.new }
-    ensures out { result ≡ done → IsCopied
-        (text_if wanted.now.dump (final_dump dump.now script.now)) out.old out.new }
-    ensures session { result ≡ done → IsCopied
-        (text_if wanted.now.session (final_session dump.now script.now)) session.old session.new }
-    ensures lengths { result ≡ done
-        → (report.new.replies
-        ≡ length (text_if wanted.now.replies (run_text dump.now script.now)))
-        × ((report.new.dump ≡ length (text_if wanted.now.dump (final_dump dump.now script.now)))
-        × (report.new.session
-        ≡ length (text_if wanted.now.session (final_session dump.now script.now)))) }
+    ensures ended { AreInRooms wanted.now dump.now script.now replies.old replies.new
+        out.old out.new session.old session.new report.new result
+        ⊎ (LacksRoom wanted.now dump.now script.now replies.old out.old session.old report.new result
+        ⊎ EndsEarly dump.now script.now fault.old fault.new report.new result) }
     ensures kept { result ≢ done → (replies.new ≡ replies.old)
         × ((out.new ≡ out.old) × (session.new ≡ session.old)) }
-    ensures ended { (result ≡ done) ⊎ ((result ≡ no_room)
-        ⊎ EndsEarly dump.now script.now result fault.old fault.new) }
+    ensures fault_kept { (result ≡ done) ⊎ (result ≡ no_room) → fault.new ≡ fault.old }
 {
     let heap = HostHeap::new(memory);
     let wanted = Wanted {
@@ -110,6 +101,7 @@ fn report_of<A: Allocator>(texts: &PlanTexts<A>) -> PlanReport
     ensures replies { result.replies ≡ length texts.now.replies.items }
     ensures dump { result.dump ≡ length texts.now.dump.items }
     ensures session { result.session ≡ length texts.now.session.items }
+    ensures fault { result.fault ≡ 0 }
     ensures commands { result.commands ≡ texts.now.summary.commands }
     ensures refused { result.refused ≡ texts.now.summary.refused }
 {
@@ -125,7 +117,7 @@ fn report_of<A: Allocator>(texts: &PlanTexts<A>) -> PlanReport
 
 /// The report of a run that ended early, whose line has this length in bytes.
 fn no_texts(fault: usize) -> PlanReport
-    ensures { result.fault ≡ fault }
+    ensures { result ≡ no_texts fault }
 {
     PlanReport {
         replies: 0,
@@ -140,20 +132,18 @@ fn no_texts(fault: usize) -> PlanReport
 /// Copies the line of a run that ended early to the room for it, where there is enough. Returns the
 /// length of the line in bytes; 0 where there is no memory for it.
 fn copy_fault<A: Allocator + Copy>(alloc: A, end: RunFault, room: &mut [u8]) -> usize
-    ensures { (room.new ≡ room.old) ⊎ IsCopied (end_text end) room.old room.new }
+    ensures { IsTold (end_text end) result room.old room.new }
 {
-    let Ok(line) = fault_text(alloc, end) else {
-        return 0;
-    };
-    // Without the room nothing is copied, and the length says what would do.
-    let _ = copy_text(line.as_bytes(), room);
-    line.len()
+    match fault_text(alloc, end) {
+        Ok(line) => put_line(line.as_bytes(), room),
+        Err(_) => 0,
+    }
 }
 
 /// The status of a run that ended early.
 fn status_of(end: RunFault) -> u32
     ensures status { result ≡ status_of end }
-    ensures early { result ≢ done }
+    ensures early { (result ≢ done) × (result ≢ no_room) }
 {
     match end {
         RunFault::Dump(_) => REFUSED,

@@ -1,15 +1,18 @@
 //! A run of a study.
 
-ghost use Rattle.std.specs.Prelude.{◌≡◌, ◌<◌, ◌⊎◌, length, if◌then◌else◌, option_map};
+ghost use Rattle.std.specs.Borrow.{Bor};
+ghost use Rattle.std.specs.Prelude.{◌≡◌, ◌≢◌, ◌<◌, ◌⊎◌, length, if◌then◌else◌, option_map};
+ghost use Rattle.host_heap.specs.declared.heap.HostHeap.{HostHeap as AnyHeap};
+ghost use Rattle.study_slices.specs.Ends.{end_text};
 ghost use Rattle.study_slices.specs.Studied.{given_of};
-ghost use Rattle.whole_study.specs.Begin.{AreAccepted};
 ghost use Rattle.whole_study.specs.Run.{has_passed};
-ghost use Rattle.ospf_plan_c.specs.Status.{done, not_accepted, refused};
-ghost use Rattle.ospf_plan_c.specs.Studies.{AreInRooms, format_if, given_if, manner_of, study_status};
+ghost use Rattle.ospf_plan_c.specs.Status.{IsTold, done, no_room, not_accepted};
+ghost use Rattle.ospf_plan_c.specs.Studies.{AreInRooms, EndsEarly, LacksRoom, format_if, given_if, manner_of, no_texts, report_of, study_status};
 
+use crate::line::put_line;
 use crate::status::{DONE, NO_MEMORY, NO_ROOM, NOT_ACCEPTED, REFUSED, TOO_LARGE};
 use host_heap::{HostHeap, HostMemory};
-use plan_slices::{copy_text, copy_texts};
+use plan_slices::copy_texts;
 use std::alloc::Allocator;
 use study_session::Format;
 use study_slices::{StudyTexts, fault_text, study};
@@ -70,13 +73,17 @@ pub extern "C" fn ospf_study_run(
     left: &mut [u8],
     report: &mut StudyReport,
 ) -> u32
-    ensures texts { (result ≡ done) ⊎ (result ≡ not_accepted) → AreInRooms (manner_of manner.now)
+    ensures ended { AreInRooms (manner_of manner.now)
         (given_of dump.now (given_if manner.now.has_baseline baseline.now) names.now lines.now)
-        replies.old replies.new errors.old errors.new left.old left.new report.new result }
+        replies.old replies.new errors.old errors.new left.old left.new report.new result
+        ⊎ (LacksRoom (manner_of manner.now)
+        (given_of dump.now (given_if manner.now.has_baseline baseline.now) names.now lines.now)
+        replies.old errors.old left.old report.new result
+        ⊎ EndsEarly (Bor AnyHeap)
+        (given_of dump.now (given_if manner.now.has_baseline baseline.now) names.now lines.now)
+        errors.old errors.new report.new result) }
     ensures kept { 1 < result → (replies.new ≡ replies.old) × (left.new ≡ left.old) }
-    ensures refused { result ≡ refused → AreAccepted
-        (given_of dump.now (given_if manner.now.has_baseline baseline.now) names.now lines.now)
-        → ⊥ }
+    ensures errors_kept { result ≡ no_room → errors.new ≡ errors.old }
 {
     let heap = HostHeap::new(memory);
     let baseline = baseline_of(manner, baseline);
@@ -147,15 +154,8 @@ fn status_of(summary: &Summary) -> u32
 
 /// The report of a study with these texts.
 fn report_of<A: Allocator>(texts: &StudyTexts<A>) -> StudyReport
-    ensures { result ≡ record {
-      replies = length texts.now.replies.items;
-      errors = length texts.now.errors.items;
-      dump = length texts.now.dump.items;
-      lines = texts.now.summary.lines;
-      refused = texts.now.summary.refused;
-      expectations = texts.now.summary.expectations;
-      failed = texts.now.summary.failed;
-    } }
+    ensures { result ≡ report_of (length texts.now.replies.items) (length texts.now.errors.items)
+        (length texts.now.dump.items) texts.now.summary }
 {
     StudyReport {
         replies: texts.replies.len(),
@@ -170,7 +170,7 @@ fn report_of<A: Allocator>(texts: &StudyTexts<A>) -> StudyReport
 
 /// The report of a study that ended early, whose line has this length in bytes.
 fn no_texts(errors: usize) -> StudyReport
-    ensures { result.errors ≡ errors }
+    ensures { result ≡ no_texts errors }
 {
     StudyReport {
         replies: 0,
@@ -185,19 +185,19 @@ fn no_texts(errors: usize) -> StudyReport
 
 /// Copies the line of a study that ended early to the room for it, where there is enough. Returns
 /// the length of the line in bytes; 0 where there is no memory for it.
-fn copy_fault<A: Allocator + Copy>(alloc: A, end: &RunFault<A>, room: &mut [u8]) -> usize {
-    let Ok(line) = fault_text(alloc, end) else {
-        return 0;
-    };
-    // Without the room nothing is copied, and the length says what would do.
-    let _ = copy_text(&line, room);
-    line.len()
+fn copy_fault<A: Allocator + Copy>(alloc: A, end: &RunFault<A>, room: &mut [u8]) -> usize
+    ensures { IsTold (end_text end.now) result room.old room.new }
+{
+    match fault_text(alloc, end) {
+        Ok(line) => put_line(&line, room),
+        Err(_) => 0,
+    }
 }
 
 /// The status of a study that ended early.
 fn end_status<A: Allocator>(end: &RunFault<A>) -> u32
     ensures status { result ≡ study_status end.now }
-    ensures early { 1 < result }
+    ensures early { (1 < result) × (result ≢ no_room) }
 {
     match end {
         RunFault::Dump(_) | RunFault::Baseline(_) | RunFault::Names(_) => REFUSED,
