@@ -17,7 +17,7 @@ LEAST_MEMORY = 1 << 24
 MOST_MEMORY = 1 << 33
 """The greatest memory of a call, in bytes."""
 
-DONE, NOT_ACCEPTED, NOT_TEXT, NO_MEMORY, NO_ROOM = 0, 1, 2, 5, 6
+DONE, NOT_ACCEPTED, NOT_TEXT, NO_MEMORY = 0, 1, 2, 5
 
 
 class HostMemory(ctypes.Structure):
@@ -152,7 +152,7 @@ def _attempts(call: Callable[[HostMemory, list], int], lengths: Callable[[], lis
             del start
         if status == NO_MEMORY and sizes < MOST_MEMORY:
             sizes *= 4
-        elif status == NO_ROOM:
+        elif any(length > room for room, length in zip(rooms, lengths())):
             rooms = [max(room, length) for room, length in zip(rooms, lengths())]
         else:
             return status, [buffer.raw[:length] for buffer, length in zip(buffers, lengths())]

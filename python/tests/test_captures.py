@@ -94,6 +94,12 @@ def test_files_that_are_not_there(tmp_path):
         capture([tmp_path / "none"])
 
 
+def test_long_names():
+    with pytest.raises(FileRefused) as caught:
+        call([(b"n" * 70000, b"What is this?\n")])
+    assert (caught.value.file, caught.value.name, caught.value.offset) == ("n" * 70000, "UnknownKind", 0)
+
+
 def test_names_that_are_not_text():
     with pytest.raises(ValueError, match="not text"):
         call([(b"\xff", WALK)])

@@ -1,9 +1,17 @@
 -- Pairs of names and what they name, one after another.
-use Rattle.std.proofs.Common.{◌≡◌, ◌∙◌, refl, sym, ap, true, false, Result, Ok, Err, OnOk, subst, ℕ, ◌+◌, ◌<◌, min, List, [], ◌∷◌, ◌++◌, take, map, length, get_or, arith}
+use Rattle.std.proofs.Common.{◌≡◌, ◌∙◌, refl, sym, ap, true, false, Option, None, Some, Result, Ok, Err, OnOk, subst, ℕ, ◌+◌, ◌<◌, min}
+use Rattle.std.proofs.Common.{List, [], ◌∷◌, ◌++◌, take, map, length, get_or, arith}
 use Rattle.std.specs.Borrow.{Bor}
+use Rattle.std.specs.Iterator.{Yields}
+use Rattle.std.specs.Iterator.Adapters.{zip_first, zip_second}
 use Rattle.std.specs.List.{AllZip, flat_map, zip}
-use Rattle.std.proofs.lemmas.List.{flat_map_more, get_or-map, length-map, take_all, take_more}
-use Rattle.std.proofs.lemmas.Slice.Zip.{all_zipped_more, get_or-zip, length-zip}
+use Rattle.std.specs.Slice.Iter.{iter_rest}
+use Rattle.std.specs.declared.iter.adapters.Zip.{Zip}
+use Rattle.std.specs.declared.iter.slices.Iter.{Iter}
+use Rattle.std.proofs.lemmas.Fn.{fronts}
+use Rattle.std.proofs.lemmas.Iterator.{zips}
+use Rattle.std.proofs.lemmas.List.{flat_map_more, get_or-map, length-append, length-map, take_all, take_more}
+use Rattle.std.proofs.lemmas.Slice.Zip.{all_zipped_more, get_or-zip, length-zip, zip_end, zip_turn}
 use Rattle.capture_lines.specs.Reports.{AddsFile, AreFileTexts, AreListTexts, HaveFileTexts, HaveListTexts, lines_of}
 use Rattle.capture_report.specs.FileFindings.{AreFileFindings}
 use Rattle.capture_report.specs.FileLines.{IsLine}
@@ -20,7 +28,7 @@ module _ {V : Type 0} (names : List (Bor (List ℕ))) (values : List V) where
   pairs = zip texts values
 
   -- the next pair
-  pub pairs_more : (i : ℕ) (name : Bor (List ℕ)) (value : V) → i < length names → i < length values → name ≡ get_or names i name
+  pairs_more : (i : ℕ) (name : Bor (List ℕ)) (value : V) → i < length names → i < length values → name ≡ get_or names i name
       → value ≡ get_or values i value → take (i + 1) pairs ≡ take i pairs ++ (name.now, value) ∷ []
   pairs_more i name value in_names in_values is_name is_value =
       let long : length texts ≡ length names = length-map names (λ name. name.now) in
@@ -33,8 +41,25 @@ module _ {V : Type 0} (names : List (Bor (List ℕ))) (values : List V) where
       ∙ ap (λ pair. take i pairs ++ pair ∷ []) here
 
   -- all of them
-  pub pairs_all : (n : ℕ) → n ≡ min (length names) (length values) → take n pairs ≡ pairs
+  pairs_all : (n : ℕ) → n ≡ min (length names) (length values) → take n pairs ≡ pairs
   pairs_all n all = take_all n pairs (omega (arith, all, length-zip texts values, length-map names (λ name. name.now)))
+
+  -- ---- a loop over both lists
+
+  module _ (seen : List (Bor (Bor (List ℕ)) × Bor V)) (s t u : Zip (Iter (Bor (List ℕ))) (Iter V)) (r : Option (Bor (Bor (List ℕ)) × Bor V))
+      (first : iter_rest (zip_first s) ≡ names) (second : iter_rest (zip_second s) ≡ values) (so_far : Yields (zips fronts fronts) s seen t)
+      (step : zips fronts fronts t r u) where
+    -- it has one more pair
+    pub next_pair : (name : Bor (Bor (List ℕ))) (value : Bor V) → r ≡ Some (name, value)
+        → take (length (seen ++ (name, value) ∷ [])) pairs ≡ take (length seen) pairs ++ (name.now.now, value.now) ∷ []
+    next_pair name value is =
+        let turn = zip_turn names values seen s t u r first second so_far (name, value) is step in
+        ap (λ n. take n pairs) (length-append seen ((name, value) ∷ []))
+        ∙ pairs_more (length seen) name.now value.now turn.0 turn.1 (turn.2 _) (turn.3 _)
+
+    -- it had all of them
+    pub no_pair : r ≡ None → take (length seen) pairs ≡ pairs
+    no_pair is = pairs_all (length seen) (zip_end names values seen s t u r first second so_far is step)
 
 -- what is written of files, and of one more
 pub file_more : {A : Type 0} (before after : List (List ℕ × ParsedFile A)) (name : List ℕ) (file : ParsedFile A)

@@ -14,6 +14,8 @@ use Rattle.capture_report.specs.declared.fault.RunFault.{RunFault}
 use Rattle.capture_slices.specs.declared.capturing.CaptureTexts.{CaptureTexts}
 use Rattle.capture_slices.specs.declared.fault.CaptureEnd.{CaptureEnd}
 use Rattle.capture_slices.specs.declared.fault.CaptureEnd.TheVariants.{Fault, NotText}
+use Rattle.capture_slices.specs.declared.files.GivenFile.{GivenFile}
+use Rattle.capture_slices.specs.declared.files.NamedFile.{NamedFile}
 use Rattle.findings.specs.Contents.{content_of}
 use Rattle.lsa_instances.specs.declared.keeping.FlushedLsas.{FlushedLsas}
 use Rattle.lsdb.specs.Lists.{Lists}
@@ -30,13 +32,24 @@ pub record Given : Type 0 where
   pub list_names : List (List ℕ)
   pub list_bytes : List (List ℕ)
 
-abbrev pub given_of : List (List ℕ) → List (List ℕ) → List (List ℕ) → List (List ℕ) → Given
+abbrev given_of : List (List ℕ) → List (List ℕ) → List (List ℕ) → List (List ℕ) → Given
 given_of names bytes list_names list_bytes = record {
   names = names;
   bytes = bytes;
   list_names = list_names;
   list_bytes = list_bytes;
 }
+
+abbrev pub given_in : List GivenFile → List GivenFile → Given
+given_in files lists =
+    given_of (map (λ file. file.name.now) files) (map (λ file. file.bytes.now) files)
+    (map (λ file. file.name.now) lists) (map (λ file. file.bytes.now) lists)
+
+-- the same of files whose names are known to be text
+abbrev pub given_named : List NamedFile → List NamedFile → Given
+given_named files lists =
+    given_of (map (λ file. file.name.now) files) (map (λ file. file.bytes.now) files)
+    (map (λ file. file.name.now) lists) (map (λ file. file.bytes.now) lists)
 
 -- ---- names
 

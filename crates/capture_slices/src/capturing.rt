@@ -5,7 +5,7 @@ ghost use Rattle.std.specs.List.{zip};
 ghost use Rattle.std.specs.String.{string_bytes};
 ghost use Rattle.capture_lines.specs.Reports.{AreReported};
 ghost use Rattle.capture_lines.specs.declared.fault.ExitFault.TheVariants.{Memory};
-ghost use Rattle.capture_slices.specs.Captured.{AreTextsOf, IsEnd, IsMadeOf, IsNamed, IsRunEnd, MayEndCapture, given_of};
+ghost use Rattle.capture_slices.specs.Captured.{AreTextsOf, IsEnd, IsMadeOf, IsNamed, IsRunEnd, MayEndCapture, given_in, given_named};
 ghost use Rattle.lsdb.specs.Slots.{lists_of as lists_of_database};
 
 use crate::fault::CaptureEnd;
@@ -126,12 +126,8 @@ fn capture_named<'a, A: Allocator + Copy>(
     files: &[NamedFile<'a>],
     lists: &[NamedFile<'a>],
 ) -> Result<CaptureTexts<A>, ExitFault<'a>>
-    ensures texts { IfOk result (AreTextsOf flushed (given_of
-        (map (λ file. file.name.now) files.now) (map (λ file. file.bytes.now) files.now)
-        (map (λ file. file.name.now) lists.now) (map (λ file. file.bytes.now) lists.now))) }
-    ensures fault { IfErr result (MayEndCapture A flushed (given_of
-        (map (λ file. file.name.now) files.now) (map (λ file. file.bytes.now) files.now)
-        (map (λ file. file.name.now) lists.now) (map (λ file. file.bytes.now) lists.now))) }
+    ensures texts { IfOk result (AreTextsOf flushed (given_named files.now lists.now)) }
+    ensures fault { IfErr result (MayEndCapture A flushed (given_named files.now lists.now)) }
 {
     let read = lists_of(alloc, lists)?;
     let Made { contents, dump } = made_of(alloc, flushed, files)?;
@@ -153,12 +149,8 @@ pub fn capture<'a, A: Allocator + Copy>(
     files: &[GivenFile<'a>],
     lists: &[GivenFile<'a>],
 ) -> Result<CaptureTexts<A>, CaptureEnd<'a>>
-    ensures texts { IfOk result (AreTextsOf flushed (given_of
-        (map (λ file. file.name.now) files.now) (map (λ file. file.bytes.now) files.now)
-        (map (λ file. file.name.now) lists.now) (map (λ file. file.bytes.now) lists.now))) }
-    ensures fault { IfErr result (IsEnd A flushed (given_of
-        (map (λ file. file.name.now) files.now) (map (λ file. file.bytes.now) files.now)
-        (map (λ file. file.name.now) lists.now) (map (λ file. file.bytes.now) lists.now))) }
+    ensures texts { IfOk result (AreTextsOf flushed (given_in files.now lists.now)) }
+    ensures fault { IfErr result (IsEnd A flushed (given_in files.now lists.now)) }
 {
     let files = named_files(alloc, files)?;
     let lists = named_files(alloc, lists)?;

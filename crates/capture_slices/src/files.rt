@@ -82,7 +82,8 @@ pub(crate) fn readers_of<'a, A: Allocator + Copy>(
     alloc: A,
     files: &[NamedFile<'a>],
 ) -> Result<Vec<Watched<&'a [u8]>, A>, AllocError>
-    ensures open { IfOk result (λ readers. All (λ reader. has_failed reader ≡ false) readers.items) }
+    ensures open { IfOk result
+        (λ readers. All (λ reader. has_failed reader ≡ false) readers.items) }
     ensures bytes { IfOk result (λ readers. known (λ bytes. Some bytes.now) readers.items
         ≡ map (λ file. Some file.bytes.now) files.now) }
 {

@@ -1,11 +1,13 @@
 -- How a run over files ends, and what it leaves in the rooms of a host.
-use Rattle.std.specs.Prelude.{◌≡◌, ◌==◌, ℕ, Bool, true, false, if◌then◌else◌, List, ◌++◌, length, map}
-use Rattle.capture_slices.specs.Captured.{AreCaptured, Given, given_of}
-use Rattle.capture_slices.specs.declared.files.GivenFile.{GivenFile}
+use Rattle.std.specs.Prelude.{◌≡◌, ◌⊎◌, ◌<◌, ◌==◌, ℕ, Bool, true, false, if◌then◌else◌, List, [], ◌++◌, length}
+use Rattle.capture_lines.specs.Endings.{exit_status, exit_text}
+use Rattle.capture_slices.specs.Captured.{AreCaptured, Given, IsEnd}
+use Rattle.capture_slices.specs.declared.fault.CaptureEnd.{CaptureEnd}
+use Rattle.capture_slices.specs.declared.fault.CaptureEnd.TheVariants.{Fault, NotText}
 use Rattle.lsa_instances.specs.declared.keeping.FlushedLsas.{FlushedLsas}
 use Rattle.lsa_instances.specs.declared.keeping.FlushedLsas.TheVariants.{Kept, LeftOut}
 use Rattle.plan_slices.specs.Room.{IsCopied}
-use Rattle.ospf_plan_c.specs.Status.{done, not_accepted}
+use Rattle.ospf_plan_c.specs.Status.{done, not_accepted, not_text}
 use Rattle.ospf_plan_c.specs.declared.capturing.CaptureReport.{CaptureReport}
 
 -- what becomes of flushed LSAs
@@ -13,18 +15,21 @@ abbrev pub flushed_if : Bool → FlushedLsas
 flushed_if true = Kept
 flushed_if false = LeftOut
 
--- the files and the lists of a host: their names and their bytes
-abbrev pub given_in : List GivenFile → List GivenFile → Given
-given_in files lists =
-    given_of (map (λ file. file.name.now) files) (map (λ file. file.bytes.now) files)
-    (map (λ file. file.name.now) lists) (map (λ file. file.bytes.now) lists)
-
 -- the status of a run with these warnings
 abbrev pub verdict_of : List ℕ → ℕ
 verdict_of warnings = if length warnings == 0 then done else not_accepted
 
+-- the report of a run with these texts: the lengths of the lines of files and of notices, of the warnings, and of the dump
+abbrev pub report_of : List ℕ → List ℕ → List ℕ → List ℕ → CaptureReport
+report_of lines notices warnings dump = record {
+  output = length (lines ++ notices);
+  contents = length lines;
+  warnings = length warnings;
+  dump = length dump;
+}
+
 -- the texts of a run are in their rooms, and the report has their lengths
-pub record AreInRooms {A : Type 0} (flushed : FlushedLsas) (given : Given) (output new_output warnings new_warnings dump new_dump : List ℕ)
+pub record AreInRooms (A : Type 0) (flushed : FlushedLsas) (given : Given) (output new_output warnings new_warnings dump new_dump : List ℕ)
     (report : CaptureReport) (status : ℕ) : Type 0 where
   pub lines_text : List ℕ
   pub notices_text : List ℕ
@@ -34,10 +39,43 @@ pub record AreInRooms {A : Type 0} (flushed : FlushedLsas) (given : Given) (outp
   pub in_output : IsCopied (lines_text ++ notices_text) output new_output
   pub in_warnings : IsCopied warnings_text warnings new_warnings
   pub in_dump : IsCopied dump_text dump new_dump
-  pub report_is : report ≡ record {
-    output = length (lines_text ++ notices_text);
-    contents = length lines_text;
-    warnings = length warnings_text;
-    dump = length dump_text;
-  }
+  pub report_is : report ≡ report_of lines_text notices_text warnings_text dump_text
   pub verdict : status ≡ verdict_of warnings_text
+
+-- a room is too small for a text of a run, and the report has the lengths
+pub record NeedsRoom (A : Type 0) (flushed : FlushedLsas) (given : Given) (output warnings dump : List ℕ) (report : CaptureReport) : Type 0 where
+  pub lines_text : List ℕ
+  pub notices_text : List ℕ
+  pub warnings_text : List ℕ
+  pub dump_text : List ℕ
+  pub captured : AreCaptured A flushed given lines_text notices_text warnings_text dump_text
+  pub short : (length output < length (lines_text ++ notices_text))
+      ⊎ ((length warnings < length warnings_text) ⊎ (length dump < length dump_text))
+  pub report_is : report ≡ report_of lines_text notices_text warnings_text dump_text
+
+-- ---- runs that end early
+
+-- the status of a run that ended early, that of the program for the same fault
+abbrev pub end_status : CaptureEnd → ℕ
+end_status NotText = not_text
+end_status (Fault fault) = exit_status fault
+
+-- its line, the one of the program; there is none for a name that is not text
+abbrev pub end_text : CaptureEnd → List ℕ
+end_text NotText = []
+end_text (Fault fault) = exit_text fault
+
+-- a line is in the room for it, where it fits, and this is its length; or there is no memory for it, and this is 0
+abbrev pub IsLineCopied : List ℕ → ℕ → List ℕ → List ℕ → Type 0
+IsLineCopied line reported room new_room =
+    ((reported ≡ 0) × (new_room ≡ room))
+    ⊎ ((reported ≡ length line) × (IsCopied line room new_room ⊎ ((length room < length line) × (new_room ≡ room))))
+
+-- a run over files ended early: its status, the report, and its line in the room for it
+pub record EndsEarly (A : Type 0) (flushed : FlushedLsas) (given : Given) (status : ℕ) (report : CaptureReport) (room new_room : List ℕ) :
+    Type 0 where
+  pub end : CaptureEnd
+  pub may_end : IsEnd A flushed given end
+  pub status_is : status ≡ end_status end
+  pub line : IsLineCopied (end_text end) report.warnings room new_room
+  pub report_is : report ≡ record { output = 0; contents = 0; warnings = report.warnings; dump = 0 }

@@ -3,9 +3,10 @@
 ghost use Rattle.std.specs.Borrow.{Bor};
 ghost use Rattle.std.specs.Prelude.{◌≡◌, ◌<◌, ◌⊎◌, length};
 ghost use Rattle.std.specs.String.{string_bytes};
+ghost use Rattle.capture_slices.specs.Captured.{given_in};
 ghost use Rattle.host_heap.specs.declared.heap.HostHeap.{HostHeap as AnyHeap};
-ghost use Rattle.ospf_plan_c.specs.Captures.{AreInRooms, flushed_if, given_in, verdict_of};
-ghost use Rattle.ospf_plan_c.specs.Status.{done, not_accepted};
+ghost use Rattle.ospf_plan_c.specs.Captures.{AreInRooms, EndsEarly, IsLineCopied, NeedsRoom, end_status, end_text, flushed_if, verdict_of};
+ghost use Rattle.ospf_plan_c.specs.Status.{done, no_room, not_accepted};
 
 use crate::status::{DONE, NO_ROOM, NOT_ACCEPTED, NOT_TEXT};
 use capture_lines::exit_line;
@@ -55,10 +56,16 @@ pub extern "C" fn ospf_capture_run(
     report: &mut CaptureReport,
 ) -> u32
     ensures texts { (result ≡ done) ⊎ (result ≡ not_accepted)
-        → AreInRooms {A = Bor AnyHeap} (flushed_if manner.now.keep_flushed)
+        → AreInRooms (Bor AnyHeap) (flushed_if manner.now.keep_flushed)
         (given_in files.now lists.now) output.old output.new warnings.old warnings.new
         dump.old dump.new report.new result }
     ensures kept { 1 < result → (output.new ≡ output.old) × (dump.new ≡ dump.old) }
+    ensures short { result ≡ no_room → (warnings.new ≡ warnings.old)
+        × NeedsRoom (Bor AnyHeap) (flushed_if manner.now.keep_flushed)
+        (given_in files.now lists.now) output.old warnings.old dump.old report.new }
+    ensures ended { (result ≡ done) ⊎ ((result ≡ not_accepted) ⊎ ((result ≡ no_room)
+        ⊎ EndsEarly (Bor AnyHeap) (flushed_if manner.now.keep_flushed)
+        (given_in files.now lists.now) result report.new warnings.old warnings.new)) }
 {
     let heap = HostHeap::new(memory);
     match capture(&heap, flushed_if(manner.keep_flushed), files, lists) {
@@ -120,7 +127,7 @@ fn report_of<A: Allocator>(texts: &CaptureTexts<A>) -> CaptureReport
 
 /// The report of a run that ended early, whose line has this length in bytes.
 fn no_texts(warnings: usize) -> CaptureReport
-    ensures { result.warnings ≡ warnings }
+    ensures { result ≡ record { output = 0; contents = 0; warnings = warnings; dump = 0 } }
 {
     CaptureReport {
         output: 0,
@@ -134,19 +141,21 @@ fn no_texts(warnings: usize) -> CaptureReport
 /// the room for it, where there is enough. The length is 0 where there is no line, or no memory for
 /// it.
 fn copy_end<A: Allocator + Copy>(alloc: A, end: CaptureEnd<'_>, room: &mut [u8]) -> (u32, usize)
+    ensures status { result.0 ≡ end_status end.entry }
     ensures early { 1 < result.0 }
+    ensures line { IsLineCopied (end_text end.entry) result.1 room.old room.new }
 {
     let CaptureEnd::Fault(fault) = end else {
         return (NOT_TEXT, 0);
     };
     let (status, line) = exit_line(alloc, fault);
-    let length = match line {
+    let status = u32::from(status);
+    match line {
         Ok(line) => {
             // Without the room nothing is copied, and the length says what would do.
             let _ = copy_text(line.as_bytes(), room);
-            line.len()
+            (status, line.len())
         }
-        Err(_) => 0,
-    };
-    (u32::from(status), length)
+        Err(_) => (status, 0),
+    }
 }
