@@ -1,3 +1,4 @@
+pub mod Captures
 pub mod Plans
 pub mod Status
 pub mod Studies
