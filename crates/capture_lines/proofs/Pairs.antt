@@ -4,10 +4,10 @@ use Rattle.std.proofs.Common.{List, [], ◌∷◌, ◌++◌, take, map, length, 
 use Rattle.std.specs.Borrow.{Bor}
 use Rattle.std.specs.Iterator.{Yields}
 use Rattle.std.specs.Iterator.Adapters.{zip_first, zip_second}
-use Rattle.std.specs.List.{AllZip, flat_map, zip}
+use Rattle.std.specs.List.{AllZip, zip}
 use Rattle.std.specs.Slice.Iter.{iter_rest}
-use Rattle.std.specs.declared.iter.adapters.Zip.{Zip}
-use Rattle.std.specs.declared.iter.slices.Iter.{Iter}
+use Rattle.std.specs.declared.iter.Zip.{Zip}
+use Rattle.std.specs.declared.slice.Iter.{Iter}
 use Rattle.std.proofs.lemmas.Fn.{fronts}
 use Rattle.std.proofs.lemmas.Iterator.{zips}
 use Rattle.std.proofs.lemmas.List.{flat_map_more, get_or-map, length-append, length-map, take_all, take_more}

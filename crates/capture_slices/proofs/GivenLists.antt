@@ -1,5 +1,6 @@
 -- Files and lists in memory, one after another.
-use Rattle.std.proofs.Common.{◌≡◌, ◌∙◌, sym, ap, subst, ℕ, ◌+◌, ◌<◌, List, [], ◌∷◌, ◌++◌, take, map, length, get_or, Some, Result, Ok, Err, IfErr, IsErrAnd, inr, arith}
+use Rattle.std.proofs.Common.{◌≡◌, ◌∙◌, sym, ap, subst, ℕ, ◌+◌, ◌<◌, Some, Result, Ok, Err, IfErr, IsErrAnd, inr, arith}
+use Rattle.std.proofs.Common.{List, [], ◌∷◌, ◌++◌, take, map, length, get_or}
 use Rattle.std.specs.Borrow.{Bor}
 use Rattle.std.specs.Prelude.{option_map}
 use Rattle.std.specs.List.{AllZip, slice_get}

@@ -122,9 +122,9 @@ fn texts_of<A: Allocator + Copy>(
 /// Makes the dump of files with names, and compares it with lists.
 fn capture_named<'a, A: Allocator + Copy>(
     alloc: A,
-    flushed: FlushedLsas,
     files: &[NamedFile<'a>],
     lists: &[NamedFile<'a>],
+    flushed: FlushedLsas,
 ) -> Result<CaptureTexts<A>, ExitFault<'a>>
     ensures texts { IfOk result (AreTextsOf flushed (given_named files.now lists.now)) }
     ensures fault { IfErr result (MayEndCapture A flushed (given_named files.now lists.now)) }
@@ -154,5 +154,5 @@ pub fn capture<'a, A: Allocator + Copy>(
 {
     let files = named_files(alloc, files)?;
     let lists = named_files(alloc, lists)?;
-    Ok(capture_named(alloc, flushed, &files, &lists)?)
+    Ok(capture_named(alloc, &files, &lists, flushed)?)
 }
