@@ -130,6 +130,8 @@ function addEdge(nodes, edges, link, present) {
 
 const edgeFailed = (edge) => edge.ends.every((end) => end.now === null);
 const edgeChanged = (edge) => edge.ends.some((end) => end.now !== null && end.now !== end.was);
+// A link that one end alone has, or had.
+const edgeOneWay = (edge) => edge.kind === 'link' && edge.ends.filter((end) => end.now !== null).length === 1;
 const edgeTitle = (edge, nodes) => `${nodes.get(edge.a).label} – ${nodes.get(edge.b).label}`;
 
 // The changes of each router, counted by kind.

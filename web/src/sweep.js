@@ -32,7 +32,20 @@ async function sweep() {
 // What a failure does by itself: its counts without those of before.
 function sweepRow(line, key, first, [, changes, loops]) {
   const counts = Object.fromEntries(['lost', 'gone', 'dearer', 'moved'].map((kind) => [kind, Math.max(0, changes.counts[kind] - first[kind])]));
-  return { line, key, ...counts, loops: loops.loops.length };
+  return { line, key, ...counts, loops: loops.loops.length, lostInAll: changes.counts.lost };
+}
+
+// More failures than this are not written into the study.
+const MOST_WRITTEN = 60;
+
+// A sweep as lines of the study: each failure, what it may lose, and that it is taken back.
+function sweepExpectations(rows) {
+  return rows.flatMap(({ line, lostInAll }) => [line, `expect lost ${lostInAll ? `<= ${lostInAll}` : 'none'}`, 'undo 1']).map(inBranch);
+}
+
+// Shows in the picture what a row is about, while the pointer or the keys are at it.
+function pointAt(key) {
+  return { onpointerenter: () => picture.hover(key), onpointerleave: () => picture.hover(null), onfocus: () => picture.hover(key), onblur: () => picture.hover(null) };
 }
 
 // What is drawn on links while a sweep is shown.
@@ -59,8 +72,10 @@ function showSweep() {
   const said = run.isDone ? [element('span', { class: 'dim' }, `${rows.length} failures: `, element('b', { class: losing ? 'lost' : '' }, `${losing} lose routes`))]
     : [element('progress', { max: run.count, value: rows.length, 'aria-label': 'Progress' }), element('span', { class: 'dim' }, `${rows.length} of ${run.count}`), button('Stop', () => { run.isStopped = true; showTabs(); })];
   const cell = (count, kind) => element('span', { class: count ? kind : 'faint' }, String(count));
-  return [chips(kinds, run.isDone || run.isStopped ? start : null, ...said), scroll(table(['Failure', 'What it does', 'Lost', 'Gone', 'Dearer', 'Moved', 'Loops'], rows.map((one) => row(
+  const write = run.isDone && rows.length <= MOST_WRITTEN
+    ? [element('span', { class: 'grow' }), button('Expect this', () => add(...sweepExpectations(rows)), { title: 'Adds each failure, what it may lose, and that it is taken back' })] : [];
+  return [chips(kinds, run.isDone || run.isStopped ? start : null, ...said, ...write), scroll(table(['Failure', 'What it does', 'Lost', 'Gone', 'Dearer', 'Moved', 'Loops'], rows.map((one) => row(
     [element('span', { class: 'mono' }, one.line), bar(one, most), cell(one.lost, 'lost'), cell(one.gone, 'lost'), cell(one.dearer, 'dearer'), cell(one.moved, 'moved'), cell(one.loops, 'lost')],
-    () => { add(inBranch(one.line)); }, { 'data-line': one.line },
+    () => { add(inBranch(one.line)); }, { 'data-line': one.line, ...pointAt(one.key) },
   ))))];
 }
