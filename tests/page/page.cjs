@@ -1,14 +1,15 @@
-// Opens the page in Chromium, and does what a person does: node page.cjs PAGE STUDY PLAN FOLDER
+// Opens the page in Chromium, and does what a person does: node page.cjs PAGE STUDY PLAN FOLDER [PART..]
 //
 // STUDY is ospf-study, whose answers are those that the page must show, and PLAN ospf-plan, which saves a session. Pictures of
-// the page go to FOLDER. The last line is `N passed, M failed`.
+// the page go to FOLDER. A PART is the name of a function below; without one all are done. The last line is `N passed, M failed`.
 'use strict';
 const { execFileSync, spawnSync } = require('node:child_process');
 const fs = require('node:fs');
 const path = require('node:path');
 const { begin, open } = require('./browser.cjs');
 
-const [page, program, plan, folder] = process.argv.slice(2).map((word) => path.resolve(word));
+const [page, program, plan, folder] = process.argv.slice(2, 6).map((word) => path.resolve(word));
+const chosen = process.argv.slice(6);
 const examples = path.join(__dirname, '..', '..', 'examples');
 const [dump, hosts, study] = ['two-areas.oswp', 'hosts', 'maintenance.study'].map((name) => path.join(examples, name));
 let passed = 0, failed = 0;
@@ -69,7 +70,7 @@ async function openFiles(tab) {
   check('its names', JSON.stringify(await tab.evaluate('[...state.graph.nodes.values()].map((node) => node.label)')) === JSON.stringify(['r1', 'r2', 'r3', 'r4', 'r5', '10.1.0.0/24']));
 }
 
-async function cutByMouse(tab) {
+async function cutByMouse(_browser, tab) {
   const key = await tab.evaluate('[...state.graph.edges.values()].find((edge) => edge.a === "1.1.1.1" && edge.b === "2.2.2.2").key');
   await tab.clickAt(...await middleOf(tab, key));
   check('a link is selected by a click', (await textOf(tab, '#card h2')) === 'r1 – r2', await textOf(tab, '#card h2'));
@@ -81,7 +82,7 @@ async function cutByMouse(tab) {
   await tab.picture(path.join(folder, 'cut.png'));
 }
 
-async function useKeys(tab) {
+async function useKeys(_browser, tab) {
   await tab.evaluate('document.activeElement.blur()');
   await tab.evaluate('select("4.4.4.4")');
   await tab.key('f');
@@ -104,7 +105,7 @@ async function setText(tab, lines) {
   await tab.settle();
 }
 
-async function editStudy(tab) {
+async function editStudy(_browser, tab) {
   const lines = ['fail-link 0.0.0.0 r1 r2', 'expect lost none', 'nonsense', 'cost 0.0.0.9 r1 1 1', 'expect gone none'];
   await setText(tab, lines);
   const wanted = answers(lines);
@@ -132,7 +133,7 @@ const marksOf = (tab) => tab.evaluate('[...document.querySelectorAll("#gutter .m
 const suggested = (tab, selector = '.suggestions:not([hidden])') => tab.evaluate(`[...document.querySelectorAll('${selector} li b')].map((word) => word.textContent)`);
 
 // A strict study ends where ospf-study ends: the lines after it are not run, and the network is shown as it was there.
-async function endEarly(tab) {
+async function endEarly(_browser, tab) {
   const lines = ['fail-link 0.0.0.0 r1 r2', 'expect lost none', 'fail-router r4', '', '# at the end', 'expect gone none'];
   await setText(tab, lines);
   await tab.click('#strict');
@@ -150,7 +151,7 @@ async function endEarly(tab) {
 }
 
 // The shown line stays with its text while lines come above it, which keep their answers.
-async function typeAbove(tab) {
+async function typeAbove(_browser, tab) {
   await setText(tab, ['expect loops none', 'fail-link 0.0.0.0 r1 r2', 'fail-router r4']);
   await tab.evaluate('showAfter(2)');
   await tab.settle();
@@ -174,7 +175,7 @@ async function typeAbove(tab) {
 }
 
 // Words are suggested by the words of help, and by what the network has.
-async function complete(tab) {
+async function complete(_browser, tab) {
   await setText(tab, ['']);
   await tab.evaluate('editor.reveal(1)');
   await tab.type('fail-l');
@@ -198,7 +199,7 @@ async function complete(tab) {
 }
 
 // What is typed above the picture is found, or done; what it would change is said beforehand.
-async function findAndDo(tab) {
+async function findAndDo(_browser, tab) {
   await setText(tab, ['']);
   await tab.key('/', 191);
   await tab.type('r4');
@@ -217,7 +218,7 @@ async function findAndDo(tab) {
 }
 
 // Dropped files: names and a study for what is open, a baseline to the right, several databases, and what is none.
-async function dropFiles(browser, tab) {
+async function dropFiles(_browser, tab) {
   const other = path.join(folder, 'plan.study'), before = path.join(folder, 'before.oswp');
   fs.writeFileSync(other, 'fail-router r5\n');
   await tab.drop(300, other);
@@ -268,7 +269,7 @@ async function openCaptures(browser, tab) {
   check('a refused file', (await textOf(other, '#status')) === 'refused.txt: UnknownKind at 0', await textOf(other, '#status'));
 }
 
-async function showPaths(tab) {
+async function showPaths(_browser, tab) {
   await tab.click('#tab-Path');
   await tab.evaluate('{ const form = document.querySelector("#pane form"); form.elements.from.value = "r1"; form.elements.to.value = "10.1.5.1"; form.requestSubmit(); }');
   await tab.settle();
@@ -281,7 +282,7 @@ async function showPaths(tab) {
   await tab.picture(path.join(folder, 'path.png'));
 }
 
-async function sweepAll(tab) {
+async function sweepAll(_browser, tab) {
   await setText(tab, ['']);
   await tab.click('#tab-Sweep');
   await tab.click('#sweep');
@@ -338,7 +339,7 @@ async function openSession(browser) {
 }
 
 // What the card says that an action would change is what it changes.
-async function foresee(tab) {
+async function foresee(_browser, tab) {
   await setText(tab, ['']);
   await tab.evaluate('select("4.4.4.4")');
   await tab.until('/\\d/.test(document.querySelector("#card [data-key=f] .forecast").textContent)');
@@ -349,7 +350,7 @@ async function foresee(tab) {
   await tab.evaluate('select(null)');
 }
 
-async function print(tab) {
+async function print(_browser, tab) {
   await setText(tab, ['cost 0.0.0.0 r1 r2 40', 'expect lost none', 'fail-link 0.0.0.0 r1 r2', 'fail-router r4', 'expect lost none']);
   await tab.evaluate('makeReport().then(() => 0)');
   check('a picture for each change', JSON.stringify(await tab.evaluate('[...document.querySelectorAll("#report [data-step]")].map((one) => Number(one.dataset.step))')) === '[1,4]');
@@ -364,7 +365,7 @@ async function print(tab) {
   check('the picture is printed', await tab.evaluate('document.querySelector("#report canvas").getContext("2d").getImageData(0, 0, 2000, 1000).data.some((byte) => byte)'));
 }
 
-async function refuse(tab) {
+async function refuse(_browser, tab) {
   const bad = path.join(folder, 'bad.oswp');
   fs.writeFileSync(bad, fs.readFileSync(dump).subarray(0, 100));
   const about = await textOf(tab, '#about');
@@ -376,7 +377,7 @@ async function refuse(tab) {
 }
 
 // Each button and field has a name, and what is drawn is listed too.
-async function readOut(tab) {
+async function readOut(_browser, tab) {
   const unnamed = await tab.evaluate(`[...document.querySelectorAll('button, input:not([hidden]), textarea')]
     .filter((one) => one.offsetParent && !one.textContent.trim() && !one.ariaLabel && !one.labels?.length && !one.getAttribute('aria-label')).map((one) => one.outerHTML)`);
   check('each control has a name', unnamed.length === 0, unnamed.join(' '));
@@ -391,7 +392,7 @@ async function readOut(tab) {
 }
 
 // Requests that the page's policy forbids, and which part of it does.
-async function beForbidden(tab) {
+async function beForbidden(_browser, tab) {
   await tab.evaluate("window.violated = []; document.addEventListener('securitypolicyviolation', (event) => violated.push(event.effectiveDirective)); 0");
   const said = await tab.evaluate('fetch("https://example.com/").then(() => "asked", (error) => String(error))');
   const image = await tab.evaluate('new Promise((done) => { const one = new Image(); one.onload = () => done("asked"); one.onerror = () => done("no"); one.src = "https://example.com/a.png"; })');
@@ -449,6 +450,18 @@ async function listThousands(browser) {
   await tab.picture(path.join(folder, 'large.png'));
 }
 
+// Nothing was printed, and nothing was asked for, in all that was done before.
+async function beQuiet(_browser, tab) {
+  check('the page says nothing', tab.printed.length === 0, tab.printed.join('; '));
+  check('the page asks for nothing', tab.requests.every((url) => /^(file|blob):/.test(url)), tab.requests.join(' '));
+}
+
+// What is done, in this order: in a page in which the files are open, and with others beside it.
+const PARTS = [
+  cutByMouse, useKeys, editStudy, showPaths, sweepAll, foresee, endEarly, typeAbove, complete, findAndDo, saveAll, print, dropFiles, openCaptures, openSession, refuse,
+  readOut, beQuiet, beForbidden, moveThousand, listThousands,
+];
+
 async function main() {
   fs.mkdirSync(folder, { recursive: true });
   const browser = begin();
@@ -456,28 +469,7 @@ async function main() {
     const tab = await open(browser, `file://${page}`);
     await tab.settle();
     await openFiles(tab);
-    await cutByMouse(tab);
-    await useKeys(tab);
-    await editStudy(tab);
-    await showPaths(tab);
-    await sweepAll(tab);
-    await foresee(tab);
-    await endEarly(tab);
-    await typeAbove(tab);
-    await complete(tab);
-    await findAndDo(tab);
-    await saveAll(browser, tab);
-    await print(tab);
-    await dropFiles(browser, tab);
-    await openCaptures(browser, tab);
-    await openSession(browser);
-    await refuse(tab);
-    await readOut(tab);
-    check('the page says nothing', tab.printed.length === 0, tab.printed.join('; '));
-    check('the page asks for nothing', tab.requests.every((url) => /^(file|blob):/.test(url)), tab.requests.join(' '));
-    await beForbidden(tab);
-    await moveThousand(browser);
-    await listThousands(browser);
+    for (const part of PARTS) if (!chosen.length || chosen.includes(part.name)) await part(browser, tab);
   } catch (error) {
     failed++;
     console.log(error);

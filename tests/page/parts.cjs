@@ -8,8 +8,8 @@ const vm = require('node:vm');
 
 const source = path.join(__dirname, '..', '..', 'web', 'src'), read = (name) => fs.readFileSync(path.join(source, name), 'utf8');
 const scripts = ['model.js', 'grammar.js', 'editor.js', 'files.js'].map(read).join('\n');
-const { Grammar, lineMoves, kindOf, topology, edgeOneWay } = vm.runInThisContext(
-  `'use strict'; (() => { const text = (array) => new TextDecoder().decode(array); ${scripts}; return { Grammar, lineMoves, kindOf, topology, edgeOneWay }; })()`,
+const { Grammar, lineMoves, kindOf, topology, edgeOneWay, edgeFailed } = vm.runInThisContext(
+  `'use strict'; (() => { const text = (array) => new TextDecoder().decode(array); ${scripts}; return { Grammar, lineMoves, kindOf, topology, edgeOneWay, edgeFailed }; })()`,
 );
 let passed = 0, failed = 0;
 
@@ -60,14 +60,15 @@ function checkKinds() {
   check('a packet capture', kind('a.pcap', [0xd4, 0xc3, 0xb2, 0xa1, 2, 0, 4, 0]), 'capture');
 }
 
-// A link of which one end is gone is a one-way link, and one of which both are is none.
+// A link of which one end is gone is one-way; it failed where both are gone, or a router.
 function checkLinks() {
   const router = (id) => ({ router: id, name: null, areas: ['0.0.0.0'], roles: [] });
   const end = (from, to, data, peer) => ({ router: from, area: '0.0.0.0', number: 1, type: 'point-to-point', cost: 10, to, data, peers: [peer] });
   const links = [end('1.1.1.1', '2.2.2.2', '10.0.0.1', '10.0.0.2'), end('2.2.2.2', '1.1.1.1', '10.0.0.2', '10.0.0.1')];
   const before = { routers: { routers: ['1.1.1.1', '2.2.2.2'].map(router) }, links: { links }, networks: { networks: [] } };
-  const isOneWay = (left) => [...topology(before, { links: { links: left } }).edges.values()].map(edgeOneWay);
-  check('one-way links', [isOneWay(links), isOneWay(links.slice(1)), isOneWay([])], [[false], [true], [false]]);
+  const stateOf = (now) => [...topology(before, now).edges.values()].map((edge) => edgeFailed(edge) ? 'failed' : edgeOneWay(edge) ? 'one way' : 'plain').join(' ');
+  check('links', [links, links.slice(1), []].map((left) => stateOf({ links: { links: left } })), ['plain', 'one way', 'failed']);
+  check('a link of a failed router', stateOf({ links: { links: links.slice(1) }, routers: { routers: [router('2.2.2.2')] } }), 'failed');
 }
 
 // The colors of texts on what they stand on, in both themes: 4.5 to 1, as WCAG 2.1 has it for texts.

@@ -498,7 +498,10 @@ function listenToLines() {
   $('find').onfocus = () => $('find').dispatchEvent(new Event('input'));
   $('find').onkeydown = (event) => {
     if (event.key === 'Enter') findOrDo(event.target.value.trim());
-    else if (event.key === 'Escape') $('picture').focus();
+    else if (event.key === 'Escape') {
+      event.target.value = '';
+      $('picture').focus();
+    }
   };
   $('add').onsubmit = (event) => {
     event.preventDefault();
