@@ -1,5 +1,5 @@
 // Checks parts of the page that need no browser: the grammar of lines, what becomes of lines as others come and go, what files
-// are, and the contrast of the colors. node parts.cjs HELP, where HELP has the reply of ospf-study to `help`, in JSON.
+// are, which lines let links fail, and the contrast of the colors. node parts.cjs HELP, where HELP has the reply of ospf-study to `help`, in JSON.
 // The last line is `N passed, M failed`.
 'use strict';
 const fs = require('node:fs');
@@ -7,10 +7,10 @@ const path = require('node:path');
 const vm = require('node:vm');
 
 const source = path.join(__dirname, '..', '..', 'web', 'src'), read = (name) => fs.readFileSync(path.join(source, name), 'utf8');
-const scripts = ['model.js', 'grammar.js', 'editor.js', 'files.js'].map(read).join('\n');
-const { Grammar, lineMoves, kindOf, topology, edgeOneWay, edgeFailed } = vm.runInThisContext(
-  `'use strict'; (() => { const text = (array) => new TextDecoder().decode(array); ${scripts}; return { Grammar, lineMoves, kindOf, topology, edgeOneWay, edgeFailed }; })()`,
-);
+const scripts = ['model.js', 'grammar.js', 'editor.js', 'files.js', 'card.js', 'sweep.js'].map(read).join('\n');
+const page = 'const text = (array) => new TextDecoder().decode(array), state = {}, nameOf = (router) => router;';
+const names = ['Grammar', 'lineMoves', 'kindOf', 'topology', 'edgeOneWay', 'edgeFailed', 'sweepLines', 'cutLines', 'state'];
+const { Grammar, lineMoves, kindOf, topology, edgeOneWay, edgeFailed, sweepLines, cutLines, state } = vm.runInThisContext(`'use strict'; (() => { ${page} ${scripts}; return { ${names} }; })()`);
 let passed = 0, failed = 0;
 
 function check(name, got, wanted) {
@@ -60,15 +60,32 @@ function checkKinds() {
   check('a packet capture', kind('a.pcap', [0xd4, 0xc3, 0xb2, 0xa1, 2, 0, 4, 0]), 'capture');
 }
 
+const router = (id) => ({ router: id, name: null, areas: ['0.0.0.0'], roles: [] });
+const end = (from, to, data, peer) => ({ router: from, area: '0.0.0.0', number: 1, type: 'point-to-point', cost: 10, to, data, peers: [peer] });
+const LINK = [end('1.1.1.1', '2.2.2.2', '10.0.0.1', '10.0.0.2'), end('2.2.2.2', '1.1.1.1', '10.0.0.2', '10.0.0.1')];
+const PARALLEL = [end('1.1.1.1', '2.2.2.2', '10.0.1.1', '10.0.1.2'), end('2.2.2.2', '1.1.1.1', '10.0.1.2', '10.0.1.1')];
+const networkOf = (links) => ({ routers: { routers: ['1.1.1.1', '2.2.2.2'].map(router) }, links: { links }, networks: { networks: [] } });
+
 // A link of which one end is gone is one-way; it failed where both are gone, or a router.
 function checkLinks() {
-  const router = (id) => ({ router: id, name: null, areas: ['0.0.0.0'], roles: [] });
-  const end = (from, to, data, peer) => ({ router: from, area: '0.0.0.0', number: 1, type: 'point-to-point', cost: 10, to, data, peers: [peer] });
-  const links = [end('1.1.1.1', '2.2.2.2', '10.0.0.1', '10.0.0.2'), end('2.2.2.2', '1.1.1.1', '10.0.0.2', '10.0.0.1')];
-  const before = { routers: { routers: ['1.1.1.1', '2.2.2.2'].map(router) }, links: { links }, networks: { networks: [] } };
-  const stateOf = (now) => [...topology(before, now).edges.values()].map((edge) => edgeFailed(edge) ? 'failed' : edgeOneWay(edge) ? 'one way' : 'plain').join(' ');
-  check('links', [links, links.slice(1), []].map((left) => stateOf({ links: { links: left } })), ['plain', 'one way', 'failed']);
-  check('a link of a failed router', stateOf({ links: { links: links.slice(1) }, routers: { routers: [router('2.2.2.2')] } }), 'failed');
+  const before = networkOf(LINK), stateOf = (now) => [...topology(before, now).edges.values()].map((edge) => edgeFailed(edge) ? 'failed' : edgeOneWay(edge) ? 'one way' : 'plain').join(' ');
+  check('links', [LINK, LINK.slice(1), []].map((left) => stateOf({ links: { links: left } })), ['plain', 'one way', 'failed']);
+  check('a link of a failed router', stateOf({ links: { links: LINK.slice(1) }, routers: { routers: [router('2.2.2.2')] } }), 'failed');
+}
+
+// The lines that let links and routers fail: none for what has failed, and one of two parallel links by its ends.
+function checkFailures() {
+  const failures = (before, now) => {
+    state.graph = topology(before, now);
+    return sweepLines('all').map(([line]) => line);
+  };
+  const routers = ['fail-router 1.1.1.1', 'fail-router 2.2.2.2'];
+  check('failures', failures(networkOf(LINK), {}), ['fail-link 0.0.0.0 1.1.1.1 2.2.2.2', ...routers]);
+  check('after a failure', failures(networkOf(LINK), { links: { links: LINK.slice(1) }, routers: { routers: [router('2.2.2.2')] } }), routers.slice(1));
+  check('of a one-way link', failures(networkOf(LINK), { links: { links: LINK.slice(1) } }), ['drop-link 0.0.0.0 2.2.2.2 10.0.0.2', ...routers]);
+  check('of parallel links', failures(networkOf([...LINK, ...PARALLEL]), {}), ['fail-link 0.0.0.0 1.1.1.1 2.2.2.2', ...routers]);
+  const cuts = [...state.graph.edges.values()].map(cutLines);
+  check('one of them', cuts, [['drop-link 0.0.0.0 1.1.1.1 10.0.0.1', 'drop-link 0.0.0.0 2.2.2.2 10.0.0.2'], ['drop-link 0.0.0.0 1.1.1.1 10.0.1.1', 'drop-link 0.0.0.0 2.2.2.2 10.0.1.2']]);
 }
 
 // The colors of texts on what they stand on, in both themes: 4.5 to 1, as WCAG 2.1 has it for texts.
@@ -97,6 +114,7 @@ checkGrammar(JSON.parse(fs.readFileSync(process.argv[2], 'utf8').split('\n')[0])
 checkLines();
 checkKinds();
 checkLinks();
+checkFailures();
 checkContrast();
 console.log(`the parts: ${passed} passed, ${failed} failed`);
 process.exit(failed || !passed ? 1 : 0);

@@ -493,7 +493,7 @@ function listenToLines() {
   const first = { part: '', options: FIRST_LINES.map((word) => ({ word, about: state.grammar?.lines.find((one) => one.word === word.split(' ')[0])?.meaning ?? '' })) };
   const line = new Suggestions($('line'), { offer: (front) => front ? completions(front) : first });
   new Suggestions($('text'), { offer: completeStudy, corner: () => caretPlace(editor) });
-  new Suggestions($('find'), { offer: findOptions, isEager: true, shown: foretell });
+  new Suggestions($('find'), { offer: findOptions, isEager: true, shown: showForecasts });
   $('line').onclick = () => line.open(true);
   $('find').onfocus = () => $('find').dispatchEvent(new Event('input'));
   $('find').onkeydown = (event) => {

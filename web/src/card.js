@@ -32,10 +32,10 @@ const CUTS = {
   transit: (edge) => `drop-link ${edge.area} ${nameOf(edge.a)} ${edge.ends[0].data}`,
 };
 
-// The lines that cut one link: both its ends where parallel links stay.
+// The lines that cut one link: each of its ends where parallel links stay, or where it has only one.
 function cutLines(edge) {
   const isOnly = ({ key, kind, a, b }) => key === edge.key || kind !== 'link' || ![a, b].includes(edge.a) || ![a, b].includes(edge.b);
-  if (edge.kind === 'transit' || state.graph.nodes.get(edge.a).edges.every(isOnly)) return [CUTS[edge.kind](edge)];
+  if (edge.kind === 'transit' || (!edgeOneWay(edge) && state.graph.nodes.get(edge.a).edges.every(isOnly))) return [CUTS[edge.kind](edge)];
   return edge.ends.filter(({ now }) => now !== null).map((end) => `drop-link ${edge.area} ${nameOf(end.router)} ${end.data}`);
 }
 
@@ -118,13 +118,14 @@ async function forecast(actions) {
   if (state.selected === id) places.forEach((one, k) => { one.textContent = texts[k] ?? ''; });
 }
 
-// What each of some lists of lines would change by itself, in words; nothing in a large network.
+// What each of some lists of lines would change by itself, in words; nothing in a large network, and nothing of what is refused.
 async function forecasts(lists) {
   if (state.isLarge || state.routerCount > MOST_FORECAST) return [];
   const before = editor.lines().slice(0, state.shown), now = state.answers.now.changes?.counts ?? {};
   const lines = lists.flatMap((edits) => [...edits, 'changes', `undo ${edits.length}`]).map(inBranch);
-  const documents = documentsOf(await calculator.study(asked([...before, ...lines].join('\n'))));
-  const found = documents.filter(({ line, word, counts }) => line > before.length && word === 'changes' && counts);
+  const documents = documentsOf(await calculator.study(asked([...before, ...lines].join('\n')))).filter(({ line }) => line > before.length);
+  // Where one is refused, what takes it back takes back something else.
+  if (documents.some(({ answer }) => WRONG.has(answer))) return lists.length === 1 ? [''] : (await Promise.all(lists.map((one) => forecasts([one])))).flat();
   const added = ({ counts }) => Object.fromEntries(Object.keys(counts).map((kind) => [kind, Math.max(0, counts[kind] - (now[kind] ?? 0))]));
-  return found.length === lists.length ? found.map((one) => countsText(added(one)) || 'no change') : [];
+  return documents.filter(({ word, counts }) => word === 'changes' && counts).map((one) => countsText(added(one)) || 'no change');
 }

@@ -135,7 +135,7 @@ function findOptions(query) {
 }
 
 // Says beside what is suggested what its lines would change.
-async function foretell(options, places) {
+async function showForecasts(options, places) {
   const edits = options.map(({ lines }, k) => [lines, places[k]]).filter(([lines]) => lines && EDITS.has(wordOf(lines[0])));
   if (!edits.length) return;
   const texts = await forecasts(edits.map(([lines]) => lines));

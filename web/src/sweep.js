@@ -5,14 +5,16 @@ const AT_A_TIME = 8;
 
 function sweepLines(kind) {
   const { nodes, edges } = state.graph, present = [...nodes.values()].filter((node) => !node.failed);
-  const links = new Map([...edges.values()].filter((edge) => edge.kind === 'link' && !edgeFailed(edge)).map((edge) => [CUTS.link(edge), edge.key]));
+  const cut = (edge) => edgeOneWay(edge) ? cutLines(edge)[0] : CUTS.link(edge);
+  const links = new Map([...edges.values()].filter((edge) => edge.kind === 'link' && !edgeFailed(edge)).map((edge) => [cut(edge), edge.key]));
   const networks = present.filter((node) => node.kind === 'network').map((node) => [`fail-net ${node.area} ${node.address}`, node.id]);
   const routers = present.filter((node) => node.kind === 'router').map((node) => [`fail-router ${nameOf(node.id)}`, node.id]);
   return { links: [...links], networks, routers, all: [...links, ...networks, ...routers] }[kind];
 }
 
 async function sweep() {
-  const lines = sweepLines(state.sweepKind), before = editor.lines().slice(0, state.shown);
+  const before = editor.lines().slice(0, state.shown);
+  let lines = sweepLines(state.sweepKind);
   const run = { rows: [], count: lines.length, worker: new Calculator(parts) };
   state.sweep = run;
   picture.mode = 'sweep';
@@ -20,6 +22,14 @@ async function sweep() {
     const some = lines.slice(at, at + AT_A_TIME);
     const study = [...before, inBranch('changes'), ...some.flatMap(([line]) => [line, 'changes', 'loops', 'undo 1'].map(inBranch))];
     const documents = documentsOf(await run.worker.study(asked(study.join('\n')))).filter(({ line }) => line > before.length);
+    const refused = some.filter((_, k) => documents[4 * k + 1]?.answer !== 'ok');
+    // What is refused is left out, and the others are asked for again: what took it back took back something else.
+    if (refused.length) {
+      lines = lines.filter((line) => !refused.includes(line));
+      run.count = lines.length;
+      at -= AT_A_TIME;
+      continue;
+    }
     run.rows.push(...some.map(([line, key], k) => sweepRow(line, key, documents[0].counts, documents.slice(4 * k + 1, 4 * k + 5))));
     if (state.sweep === run && state.tab === 'Sweep') showTabs();
     if (state.sweep === run) showPicture();
