@@ -10,6 +10,9 @@ const ARGUMENTS = [
   '--force-device-scale-factor=1',
 ];
 
+// How often the time that is waited for something, for a machine that has other work: of the variable PAGE_PATIENCE.
+const PATIENCE = Number(process.env.PAGE_PATIENCE ?? 1);
+
 // A browser, with `send` for its commands. Its folder is gone once it is closed.
 function begin() {
   const folder = fs.mkdtempSync(path.join(os.tmpdir(), 'page-'));
@@ -65,7 +68,7 @@ async function open(browser, url, width = 1280, height = 800) {
     return result.value;
   };
   const until = async (expression, seconds = 60) => {
-    for (const end = Date.now() + 1000 * seconds; Date.now() < end; await new Promise((done) => setTimeout(done, 40))) {
+    for (const end = Date.now() + 1000 * seconds * PATIENCE; Date.now() < end; await new Promise((done) => setTimeout(done, 40))) {
       if (await evaluate(expression).catch(() => false)) return;
     }
     throw new Error(`never: ${expression}; ${printed.join('; ')}`);
@@ -90,10 +93,23 @@ async function open(browser, url, width = 1280, height = 800) {
     await send('Input.dispatchMouseEvent', { type: 'mouseMoved', x, y });
     for (const type of ['mousePressed', 'mouseReleased']) await send('Input.dispatchMouseEvent', { type, x, y, button: 'left', clickCount: 1 });
   };
-  const key = async (name, code = 0) => {
-    const what = { key: name, text: name.length === 1 ? name : name === 'Enter' ? '\r' : undefined, windowsVirtualKeyCode: code || name.toUpperCase().charCodeAt(0) };
+  // `modifiers` are 1 for Alt, 2 for Control and 8 for Shift, added.
+  const key = async (name, code = 0, modifiers = 0) => {
+    const isPlain = modifiers === 0 || modifiers === 8, typed = name.length === 1 ? name : name === 'Enter' ? '\r' : undefined;
+    const what = { key: name, text: isPlain ? typed : undefined, windowsVirtualKeyCode: code || name.toUpperCase().charCodeAt(0), modifiers };
     await send('Input.dispatchKeyEvent', { type: 'keyDown', ...what });
     await send('Input.dispatchKeyEvent', { type: 'keyUp', ...what });
+  };
+  const type = (text) => send('Input.insertText', { text });
+  // Drops files, as a person does who drags them to a place of the page.
+  const drop = async (x, ...files) => {
+    const given = files.map((file) => [path.basename(file), fs.readFileSync(file).toString('base64')]);
+    await evaluate(`{
+      document.body.dataset.state = 'busy';
+      const data = new DataTransfer();
+      for (const [name, encoded] of ${JSON.stringify(given)}) data.items.add(new File([fromBase64(encoded)], name));
+      for (const type of ['dragover', 'drop']) document.dispatchEvent(new DragEvent(type, { dataTransfer: data, clientX: ${x}, clientY: 300, bubbles: true, cancelable: true }));
+    }`);
   };
   // Gives files to the page's picker, as a person does.
   const pick = async (...files) => {
@@ -102,7 +118,7 @@ async function open(browser, url, width = 1280, height = 800) {
     await send('DOM.setFileInputFiles', { objectId: result.objectId, files });
   };
   const picture = async (file) => fs.writeFileSync(file, Buffer.from((await send('Page.captureScreenshot', { format: 'png' })).data, 'base64'));
-  return { send, evaluate, until, settle, click, clickAt, key, pick, picture, requests, printed };
+  return { send, evaluate, until, settle, click, clickAt, key, type, drop, pick, picture, requests, printed };
 }
 
 module.exports = { begin, open };

@@ -1,12 +1,16 @@
 #!/usr/bin/python3
 """Writes the cases of tests/cases as calls of the module, a JSON text on each line: tests/page/module_cases.py
 
+The runs of tests/generated/capture are calls too, where tests/library has the script that makes calls of them.
 Bytes are in base64. `given` is what the module is handed, and `wanted` what it must write, by the case.
 """
 import base64
+import importlib
+import importlib.util
 import json
 import pathlib
 import sys
+from collections.abc import Iterable
 
 TESTS = pathlib.Path(__file__).resolve().parent.parent
 sys.path.append(str(TESTS / "library"))
@@ -42,6 +46,27 @@ def study_of(case: StudyCase) -> dict:
     return {"given": encoded(given), "wanted": encoded({names[name]: value for name, value in wanted.items()})}
 
 
+def captures() -> Iterable[dict]:
+    """The runs of captures as calls, if there is a script that makes calls of them."""
+    if importlib.util.find_spec("called_captures") is None:
+        return
+    module = importlib.import_module("called_captures")
+    for call in map(module.Call, module.runs_module().RUNS):
+        if not call.is_call():
+            continue
+        files, lists = (
+            [(name.decode(), base64.b64encode(data).decode()) for name, data in call.given(names)]
+            for names in (call.names, call.lists)
+        )
+        wanted = call.wanted()
+        names = {"status": "status", "stdout": "output", "stderr": "warnings", "out": "dump"}
+        yield {
+            "name": f"capture: {call.run.name}", "call": "runCapture",
+            "given": {"files": files, "lists": lists, "keepFlushed": call.keeps},
+            "wanted": encoded({names[name]: value for name, value in wanted.items()}),
+        }
+
+
 def main() -> None:
     for path in sorted((TESTS / "cases").glob("*/*.case")):
         print(json.dumps({"name": f"{path.parent.name}/{path.stem}", "call": "runScript", **run_of(path)}))
@@ -49,6 +74,8 @@ def main() -> None:
         case = StudyCase(path)
         if case.is_call():
             print(json.dumps({"name": f"study/{path.parent.name}/{path.stem}", "call": "runStudy", **study_of(case)}))
+    for call in captures():
+        print(json.dumps(call))
 
 
 main()

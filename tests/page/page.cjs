@@ -1,14 +1,15 @@
-// Opens the page in Chromium, and does what a person does: node page.cjs PAGE STUDY PLAN FOLDER
+// Opens the page in Chromium, and does what a person does: node page.cjs PAGE STUDY PLAN FOLDER [PART..]
 //
 // STUDY is ospf-study, whose answers are those that the page must show, and PLAN ospf-plan, which saves a session. Pictures of
-// the page go to FOLDER. The last line is `N passed, M failed`.
+// the page go to FOLDER. A PART is the name of a function below; without one all are done. The last line is `N passed, M failed`.
 'use strict';
 const { execFileSync, spawnSync } = require('node:child_process');
 const fs = require('node:fs');
 const path = require('node:path');
 const { begin, open } = require('./browser.cjs');
 
-const [page, program, plan, folder] = process.argv.slice(2).map((word) => path.resolve(word));
+const [page, program, plan, folder] = process.argv.slice(2, 6).map((word) => path.resolve(word));
+const chosen = process.argv.slice(6);
 const examples = path.join(__dirname, '..', '..', 'examples');
 const [dump, hosts, study] = ['two-areas.oswp', 'hosts', 'maintenance.study'].map((name) => path.join(examples, name));
 let passed = 0, failed = 0;
@@ -23,7 +24,11 @@ function check(name, holds, about = '') {
 
 // What ospf-study answers to lines, as documents.
 function answers(lines, ...words) {
-  const ended = spawnSync(program, ['--dump', dump, '--names', hosts, '--keep-going', '--format', 'json', ...words], { input: lines.join('\n'), encoding: 'utf8' });
+  return strictAnswers(lines, '--keep-going', ...words);
+}
+
+function strictAnswers(lines, ...words) {
+  const ended = spawnSync(program, ['--dump', dump, '--names', hosts, '--format', 'json', ...words], { input: lines.join('\n'), encoding: 'utf8' });
   return ended.stdout.trim().split('\n').map((line) => JSON.parse(line));
 }
 
@@ -38,8 +43,8 @@ function changeRows({ changes }) {
   return changes.map(({ change, router, prefix, was, now }) => [change, `r${router[0]}`, prefix ?? '', cost(was), cost(now)]);
 }
 
-async function compareChanges(tab, name, lines) {
-  const [changes, loops] = answers([...lines, 'changes', 'loops']).slice(lines.length);
+async function compareChanges(tab, name, lines, ...words) {
+  const [changes, loops] = answers([...lines, 'changes', 'loops'], ...words).slice(lines.length);
   const counts = await countsOf(tab);
   const wanted = { lost: changes.counts.lost, gone: changes.counts.gone, dearer: changes.counts.dearer, moved: changes.counts.moved + changes.counts.type, loops: loops.loops.length, blackholes: loops.blackholes.length };
   check(`${name}: counts`, JSON.stringify(counts) === JSON.stringify(wanted), JSON.stringify([counts, wanted]));
@@ -61,11 +66,11 @@ async function openFiles(tab) {
   await tab.picture(path.join(folder, 'empty.png'));
   await tab.pick(dump, hosts);
   await tab.settle();
-  check('the dump is open', (await textOf(tab, '#about')).startsWith('two-areas.oswp: 5 routers, 9 links, 1 LAN, 2 areas, 22 LSAs'), await textOf(tab, '#about'));
+  check('the dump is open', (await textOf(tab, '#about')).startsWith('two-areas.oswp: 5 routers, 3 links, 1 LAN, 2 areas, 22 LSAs'), await textOf(tab, '#about'));
   check('its names', JSON.stringify(await tab.evaluate('[...state.graph.nodes.values()].map((node) => node.label)')) === JSON.stringify(['r1', 'r2', 'r3', 'r4', 'r5', '10.1.0.0/24']));
 }
 
-async function cutByMouse(tab) {
+async function cutByMouse(_browser, tab) {
   const key = await tab.evaluate('[...state.graph.edges.values()].find((edge) => edge.a === "1.1.1.1" && edge.b === "2.2.2.2").key');
   await tab.clickAt(...await middleOf(tab, key));
   check('a link is selected by a click', (await textOf(tab, '#card h2')) === 'r1 – r2', await textOf(tab, '#card h2'));
@@ -77,7 +82,7 @@ async function cutByMouse(tab) {
   await tab.picture(path.join(folder, 'cut.png'));
 }
 
-async function useKeys(tab) {
+async function useKeys(_browser, tab) {
   await tab.evaluate('document.activeElement.blur()');
   await tab.evaluate('select("4.4.4.4")');
   await tab.key('f');
@@ -96,11 +101,11 @@ async function useKeys(tab) {
 }
 
 async function setText(tab, lines) {
-  await tab.evaluate(`{ const text = document.getElementById('text'); text.value = ${JSON.stringify(lines.join('\n'))}; text.dispatchEvent(new Event('input')); state.chosen = null; }`);
+  await tab.evaluate(`{ const text = document.getElementById('text'); text.value = ${JSON.stringify(lines.join('\n'))}; state.chosen = null; text.dispatchEvent(new Event('input')); }`);
   await tab.settle();
 }
 
-async function editStudy(tab) {
+async function editStudy(_browser, tab) {
   const lines = ['fail-link 0.0.0.0 r1 r2', 'expect lost none', 'nonsense', 'cost 0.0.0.9 r1 1 1', 'expect gone none'];
   await setText(tab, lines);
   const wanted = answers(lines);
@@ -124,7 +129,147 @@ async function editStudy(tab) {
   await compareChanges(tab, 'the line before the edits are undone', maintenance.slice(0, shown).filter((line) => line && !line.startsWith('#')));
 }
 
-async function showPaths(tab) {
+const marksOf = (tab) => tab.evaluate('[...document.querySelectorAll("#gutter .mark")].map((mark) => mark.className.split(" ")[1]).join(" ")');
+const suggested = (tab, selector = '.suggestions:not([hidden])') => tab.evaluate(`[...document.querySelectorAll('${selector} li b')].map((word) => word.textContent)`);
+
+// A strict study ends where ospf-study ends: the lines after it are not run, and the network is shown as it was there.
+async function endEarly(_browser, tab) {
+  const lines = ['fail-link 0.0.0.0 r1 r2', 'expect lost none', 'fail-router r4', '', '# at the end', 'expect gone none'];
+  await setText(tab, lines);
+  await tab.click('#strict');
+  await tab.settle();
+  const answered = strictAnswers(lines).filter(({ line }) => line);
+  check('a strict study answers what ospf-study answers', JSON.stringify(await tab.evaluate('[...state.answers.study.keys()]')) === JSON.stringify(answered.map(({ line }) => line)));
+  check('what is not run is marked', (await marksOf(tab)).trim() === 'edit failed skipped   skipped', await marksOf(tab));
+  check('it is said', (await tab.evaluate('outcomeText()')) === 'Study fails: 0 of 1 expectations hold · 2 not run', await tab.evaluate('outcomeText()'));
+  await compareChanges(tab, 'the line at which the study ends', lines.slice(0, 1));
+  check('that line is shown', (await tab.evaluate('state.shown')) === 2);
+  await tab.picture(path.join(folder, 'strict.png'));
+  await tab.click('#strict');
+  await tab.settle();
+  check('the others are run again', (await marksOf(tab)).trim() === 'edit failed edit   failed', await marksOf(tab));
+}
+
+// The shown line stays with its text while lines come above it, which keep their answers.
+async function typeAbove(_browser, tab) {
+  await setText(tab, ['expect loops none', 'fail-link 0.0.0.0 r1 r2', 'fail-router r4']);
+  await tab.evaluate('showAfter(2)');
+  await tab.settle();
+  await tab.evaluate('editor.reveal(1)');
+  await tab.type('# above\n');
+  check('lines keep their answers', (await marksOf(tab)) === ' ok edit edit', await marksOf(tab));
+  await tab.settle();
+  check('the shown line moves along', (await tab.evaluate('state.shown')) === 3);
+  await compareChanges(tab, 'the shown line', ['fail-link 0.0.0.0 r1 r2']);
+  await tab.evaluate('editor.reveal(4)');
+  await tab.key('ArrowUp', 38, 1);
+  await tab.settle();
+  check('a line moves', (await valueOf(tab, 'text')) === '# above\nexpect loops none\nfail-router r4\nfail-link 0.0.0.0 r1 r2', await valueOf(tab, 'text'));
+  await tab.key('/', 191, 2);
+  await tab.settle();
+  check('a line is made a comment', (await valueOf(tab, 'text')).includes('\n# fail-router r4\n'), await valueOf(tab, 'text'));
+  await tab.evaluate('document.getElementById("picture").focus()');
+  await tab.key('z', 90, 2);
+  await tab.settle();
+  check('it is taken back from the picture', !(await valueOf(tab, 'text')).includes('# fail-router'), await valueOf(tab, 'text'));
+}
+
+// Words are suggested by the words of help, and by what the network has.
+async function complete(_browser, tab) {
+  await setText(tab, ['']);
+  await tab.evaluate('editor.reveal(1)');
+  await tab.type('fail-l');
+  check('a command is suggested', JSON.stringify(await suggested(tab)) === '["fail-link"]', JSON.stringify(await suggested(tab)));
+  await tab.key('Tab', 9);
+  await tab.key('Tab', 9);
+  await tab.type('r1 ');
+  check('neighbors are suggested', JSON.stringify(await suggested(tab)) === '["r2","r3"]', JSON.stringify(await suggested(tab)));
+  await tab.picture(path.join(folder, 'suggestions.png'));
+  await tab.key('ArrowDown', 40);
+  await tab.key('ArrowDown', 40);
+  check('the chosen one is announced', await tab.evaluate('document.getElementById(document.activeElement.getAttribute("aria-activedescendant")).textContent.startsWith("r3")'));
+  await tab.key('Enter', 13);
+  check('what is chosen is written', (await valueOf(tab, 'text')) === 'fail-link 0.0.0.0 r1 r3 ', await valueOf(tab, 'text'));
+  await tab.type('\nexpect lost ');
+  check('conditions are suggested', JSON.stringify(await suggested(tab)) === '["none","<=","only"]', JSON.stringify(await suggested(tab)));
+  await tab.key('Escape', 27);
+  check('the list closes', (await suggested(tab)).length === 0 && (await tab.evaluate('document.activeElement.id')) === 'text');
+  await tab.key('Escape', 27);
+  check('a text is left by Escape', (await tab.evaluate('document.activeElement.id')) === 'picture');
+}
+
+// What is typed above the picture is found, or done; what it would change is said beforehand.
+async function findAndDo(_browser, tab) {
+  await setText(tab, ['']);
+  await tab.key('/', 191);
+  await tab.type('r4');
+  await tab.key('Enter', 13);
+  check('a router is found', (await textOf(tab, '#card h2')) === 'r4', await textOf(tab, '#card h2'));
+  await tab.key('l', 76);
+  check('its links are walked', (await textOf(tab, '#card h2')) === 'r2 – r4', await textOf(tab, '#card h2'));
+  await tab.key('/', 191);
+  await tab.type('cut r1 r2');
+  await tab.until('/lost/.test(document.querySelector(".suggestions:not([hidden]) li span").textContent)');
+  const { counts } = answers(['fail-link 0.0.0.0 r1 r2', 'changes'])[1], said = await textOf(tab, '.suggestions:not([hidden]) li span');
+  check('what a line would change', said === `${counts.lost} lost · ${counts.dearer} dearer`, said);
+  await tab.key('Enter', 13);
+  await tab.settle();
+  check('it is done', (await valueOf(tab, 'text')) === 'fail-link 0.0.0.0 r1 r2\n', await valueOf(tab, 'text'));
+}
+
+// Dropped files: names and a study for what is open, a baseline to the right, several databases, and what is none.
+async function dropFiles(_browser, tab) {
+  const other = path.join(folder, 'plan.study'), before = path.join(folder, 'before.oswp');
+  fs.writeFileSync(other, 'fail-router r5\n');
+  await tab.drop(300, other);
+  await tab.settle();
+  check('a study is dropped', (await valueOf(tab, 'text')) === 'fail-router r5\n' && (await valueOf(tab, 'study-name')) === 'plan.study');
+  spawnSync(program, ['--dump', dump, '--names', hosts, '--out', before], { input: 'cost 0.0.0.0 r1 r2 40\n' });
+  await tab.drop(1000, before);
+  await tab.settle();
+  check('a baseline is dropped', (await textOf(tab, '#about')).endsWith('compared with before.oswp'), await textOf(tab, '#about'));
+  await compareChanges(tab, 'against a baseline', ['fail-router r5'], '--baseline', before);
+  await tab.evaluate('compareWith(null)');
+  await tab.settle();
+  await compareChanges(tab, 'against the loaded database', ['fail-router r5']);
+  await tab.drop(300, before);
+  await tab.settle();
+  check('another database is shown', (await textOf(tab, '#about')).startsWith('before.oswp'), await textOf(tab, '#about'));
+  await tab.click('#open');
+  const listed = await tab.evaluate('[...document.querySelectorAll("#networks [data-network]")].map((one) => one.dataset.network)');
+  check('the others are listed', JSON.stringify(listed) === '["two-areas.oswp"]', JSON.stringify(listed));
+  await tab.click('#networks [data-network]');
+  await tab.settle();
+  check('the first is shown again', (await textOf(tab, '#about')).startsWith('two-areas.oswp') && (await valueOf(tab, 'text')) === 'fail-router r5\n', await textOf(tab, '#about'));
+}
+
+// Captures and prints: a dump is made of them where the module can, and it is said how to make one where it cannot.
+async function openCaptures(browser, tab) {
+  const print = path.join(folder, 'r1.txt'), list = path.join(folder, 'r2.list');
+  fs.writeFileSync(print, Buffer.concat([Buffer.from('       OSPF Router with ID (1.1.1.1)\n'), fs.readFileSync(dump)]));
+  fs.writeFileSync(list, 'Router Link States (Area 0.0.0.0)\nLink ID  ADV Router  Age Seq# CkSum\n');
+  if (!(await tab.evaluate('calculator.opened')).readsCaptures) {
+    await tab.drop(300, print);
+    await tab.settle();
+    check('no dump is made of a print', (await textOf(tab, '#status')).endsWith('ospf-capture --out net.oswp r1.txt'), await textOf(tab, '#status'));
+  }
+  const stub = fs.readFileSync(path.join(__dirname, 'capture_stub.js'), 'utf8'), stubbed = path.join(folder, 'stubbed.html');
+  fs.writeFileSync(stubbed, fs.readFileSync(page, 'utf8').replace(/"worker": "/, () => `"worker": ${JSON.stringify(`${stub}\nstubCaptures();\n`).replaceAll('<', '\\u003c').slice(0, -1)}`));
+  const other = await open(browser, `file://${stubbed}`);
+  await other.settle();
+  await other.drop(300, print, list, hosts);
+  await other.settle();
+  check('a dump is made of a print', (await textOf(other, '#about')).startsWith('r1.txt: 5 routers'), `${await textOf(other, '#about')} ${await textOf(other, '#fault')}`);
+  const files = (await rowsOf(other)).map((cells) => cells.slice(0, 2).join(' '));
+  check('what was found in it', files.length === 3 && files[0] === 'warning r2.list: Missing area 0.0.0.0 type 1 id 3.3.3.3 adv 3.3.3.3' && files[1] === 'notice database: Opaque 2', files.join('; '));
+  const refused = path.join(folder, 'refused.txt');
+  fs.writeFileSync(refused, 'REFUSED\n');
+  await other.drop(300, refused);
+  await other.settle();
+  check('a refused file', (await textOf(other, '#status')) === 'refused.txt: UnknownKind at 0', await textOf(other, '#status'));
+}
+
+async function showPaths(_browser, tab) {
   await tab.click('#tab-Path');
   await tab.evaluate('{ const form = document.querySelector("#pane form"); form.elements.from.value = "r1"; form.elements.to.value = "10.1.5.1"; form.requestSubmit(); }');
   await tab.settle();
@@ -137,7 +282,7 @@ async function showPaths(tab) {
   await tab.picture(path.join(folder, 'path.png'));
 }
 
-async function sweepAll(tab) {
+async function sweepAll(_browser, tab) {
   await setText(tab, ['']);
   await tab.click('#tab-Sweep');
   await tab.click('#sweep');
@@ -146,11 +291,21 @@ async function sweepAll(tab) {
   const documents = answers(rows.flatMap(({ line }) => [line, 'changes', 'loops', 'undo 1']));
   const wanted = rows.map(({ line, key }, k) => {
     const { lost, gone, dearer, moved } = documents[4 * k + 1].counts;
-    return { line, key, lost, gone, dearer, moved, loops: documents[4 * k + 2].loops.length };
+    return { line, key, lost, gone, dearer, moved, loops: documents[4 * k + 2].loops.length, lostInAll: lost };
   });
   check('a sweep', rows.length === 9 && JSON.stringify(rows) === JSON.stringify(wanted), JSON.stringify(rows));
   check('it is drawn', await tab.evaluate('picture.mode === "sweep" && picture.heat.size === 9'));
   await tab.picture(path.join(folder, 'sweep.png'));
+}
+
+// A saved page in which somebody put another dump says that its outcome is another one.
+async function changeSaved(browser, html) {
+  const other = path.join(folder, 'other.oswp'), changed = path.join(folder, 'changed.html');
+  spawnSync(program, ['--dump', dump, '--names', hosts, '--out', other], { input: 'fail-link 0.0.0.0 r1 r3\n' });
+  fs.writeFileSync(changed, fs.readFileSync(html, 'utf8').replace(/(id="saved">\{"dump":")[^"]*/, (_all, front) => front + fs.readFileSync(other).toString('base64')));
+  const tab = await open(browser, `file://${changed}`);
+  await tab.settle();
+  check('another dump in a saved page is reported', (await textOf(tab, '#saved-note')).startsWith('✕'), await textOf(tab, '#saved-note'));
 }
 
 async function saveAll(browser, tab) {
@@ -163,6 +318,7 @@ async function saveAll(browser, tab) {
   check('it calculates again, and has the same outcome', (await textOf(again, '#saved-note')).startsWith('✓'), await textOf(again, '#saved-note'));
   await setText(again, ['fail-link 0.0.0.0 r1 r2']);
   check('another outcome is reported', (await textOf(again, '#saved-note')).startsWith('✕'));
+  await changeSaved(browser, html);
   check('a saved page says nothing', again.printed.length === 0, again.printed.join('; '));
   check('a saved page asks for nothing', again.requests.every((url) => /^(file|blob):/.test(url)), again.requests.join(' '));
   const left = path.join(folder, 'left.oswp');
@@ -183,7 +339,7 @@ async function openSession(browser) {
 }
 
 // What the card says that an action would change is what it changes.
-async function foresee(tab) {
+async function foresee(_browser, tab) {
   await setText(tab, ['']);
   await tab.evaluate('select("4.4.4.4")');
   await tab.until('/\\d/.test(document.querySelector("#card [data-key=f] .forecast").textContent)');
@@ -194,16 +350,22 @@ async function foresee(tab) {
   await tab.evaluate('select(null)');
 }
 
-async function print(tab) {
+async function print(_browser, tab) {
+  await setText(tab, ['cost 0.0.0.0 r1 r2 40', 'expect lost none', 'fail-link 0.0.0.0 r1 r2', 'fail-router r4', 'expect lost none']);
+  await tab.evaluate('makeReport().then(() => 0)');
+  check('a picture for each change', JSON.stringify(await tab.evaluate('[...document.querySelectorAll("#report [data-step]")].map((one) => Number(one.dataset.step))')) === '[1,4]');
+  const steps = await tab.evaluate('[...document.querySelectorAll("#report figure p")].map((one) => one.textContent.split(";")[0])');
+  const wanted = [['cost 0.0.0.0 r1 r2 40'], ['cost 0.0.0.0 r1 r2 40', 'fail-link 0.0.0.0 r1 r2', 'fail-router r4']].map((lines) => answers([...lines, 'changes'])[lines.length].counts.dearer);
+  check('with what changed', steps.every((said, k) => said.includes(`${wanted[k]} dearer`)), JSON.stringify([steps, wanted]));
   const { data } = await tab.send('Page.printToPDF', { preferCSSPageSize: true });
   const pdf = Buffer.from(data, 'base64');
   fs.writeFileSync(path.join(folder, 'printed.pdf'), pdf);
   const pages = pdf.toString('latin1').match(/\/Type\s*\/Page\b/g)?.length;
   check('it is printed on one page or two', pages === 1 || pages === 2, String(pages));
-  check('the picture is printed', await tab.evaluate('document.getElementById("printed").getContext("2d").getImageData(0, 0, 2000, 1100).data.some((byte) => byte)'));
+  check('the picture is printed', await tab.evaluate('document.querySelector("#report canvas").getContext("2d").getImageData(0, 0, 2000, 1000).data.some((byte) => byte)'));
 }
 
-async function refuse(tab) {
+async function refuse(_browser, tab) {
   const bad = path.join(folder, 'bad.oswp');
   fs.writeFileSync(bad, fs.readFileSync(dump).subarray(0, 100));
   const about = await textOf(tab, '#about');
@@ -215,7 +377,7 @@ async function refuse(tab) {
 }
 
 // Each button and field has a name, and what is drawn is listed too.
-async function readOut(tab) {
+async function readOut(_browser, tab) {
   const unnamed = await tab.evaluate(`[...document.querySelectorAll('button, input:not([hidden]), textarea')]
     .filter((one) => one.offsetParent && !one.textContent.trim() && !one.ariaLabel && !one.labels?.length && !one.getAttribute('aria-label')).map((one) => one.outerHTML)`);
   check('each control has a name', unnamed.length === 0, unnamed.join(' '));
@@ -230,7 +392,7 @@ async function readOut(tab) {
 }
 
 // Requests that the page's policy forbids, and which part of it does.
-async function beForbidden(tab) {
+async function beForbidden(_browser, tab) {
   await tab.evaluate("window.violated = []; document.addEventListener('securitypolicyviolation', (event) => violated.push(event.effectiveDirective)); 0");
   const said = await tab.evaluate('fetch("https://example.com/").then(() => "asked", (error) => String(error))');
   const image = await tab.evaluate('new Promise((done) => { const one = new Image(); one.onload = () => done("asked"); one.onerror = () => done("no"); one.src = "https://example.com/a.png"; })');
@@ -288,6 +450,18 @@ async function listThousands(browser) {
   await tab.picture(path.join(folder, 'large.png'));
 }
 
+// Nothing was printed, and nothing was asked for, in all that was done before.
+async function beQuiet(_browser, tab) {
+  check('the page says nothing', tab.printed.length === 0, tab.printed.join('; '));
+  check('the page asks for nothing', tab.requests.every((url) => /^(file|blob):/.test(url)), tab.requests.join(' '));
+}
+
+// What is done, in this order: in a page in which the files are open, and with others beside it.
+const PARTS = [
+  cutByMouse, useKeys, editStudy, showPaths, sweepAll, foresee, endEarly, typeAbove, complete, findAndDo, saveAll, print, dropFiles, openCaptures, openSession, refuse,
+  readOut, beQuiet, beForbidden, moveThousand, listThousands,
+];
+
 async function main() {
   fs.mkdirSync(folder, { recursive: true });
   const browser = begin();
@@ -295,22 +469,7 @@ async function main() {
     const tab = await open(browser, `file://${page}`);
     await tab.settle();
     await openFiles(tab);
-    await cutByMouse(tab);
-    await useKeys(tab);
-    await editStudy(tab);
-    await showPaths(tab);
-    await sweepAll(tab);
-    await foresee(tab);
-    await saveAll(browser, tab);
-    await print(tab);
-    await openSession(browser);
-    await refuse(tab);
-    await readOut(tab);
-    check('the page says nothing', tab.printed.length === 0, tab.printed.join('; '));
-    check('the page asks for nothing', tab.requests.every((url) => /^(file|blob):/.test(url)), tab.requests.join(' '));
-    await beForbidden(tab);
-    await moveThousand(browser);
-    await listThousands(browser);
+    for (const part of PARTS) if (!chosen.length || chosen.includes(part.name)) await part(browser, tab);
   } catch (error) {
     failed++;
     console.log(error);

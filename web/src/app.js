@@ -1,5 +1,4 @@
-// The page: what is open, what was answered, and what is shown of it. The study's text is the only state of a plan; all else
-// follows from it.
+// The page: what was answered, and what is shown of it. The study's text is the only state of a plan; all else follows from it.
 
 const MOST_DRAWN = 4000;
 // With more routers, the tables of a chosen router alone are calculated.
@@ -43,46 +42,32 @@ function switched(label, options, chosen, choose, key) {
 const state = {
   dump: null, dumpName: '', names: new Uint8Array(), shown: null, chosen: null, selected: null, tab: 'Changes', kind: null, group: 'router',
   filter: '', folded: new Set(), path: null, table: null, answers: null, graph: null, audit: null, sweep: null, sweepKind: 'all',
-  found: null, asked: 0, done: 0, readsCaptures: false, savedVerdict: null,
+  found: null, asked: 0, done: 0, savedVerdict: null, networks: [], network: null, baseline: null, picksBaseline: false, isStrict: false,
+  stopped: 0, grammar: null, differences: null, audited: 'findings', sort: { column: null, isDown: false }, places: null,
 };
 const calculator = new Calculator(parts);
 let timer = null;
 
 const picture = new Picture($('picture'), { select: (id) => select(id) });
 const editor = new Editor({ text: $('text'), gutter: $('gutter'), drawn: $('drawn') }, {
-  change: () => changed(),
-  show: (number) => { state.chosen = { number }; changed(); },
+  change: (nearest) => {
+    if (state.chosen) state.chosen.number = nearest(state.chosen.number);
+    changed();
+  },
+  show: (number) => showAfter(number),
+  leave: () => $('picture').focus(),
 });
 
 const nameOf = (router) => state.graph?.nodes.get(router)?.label ?? router;
-const isBusy = (busy) => { document.body.dataset.state = busy ? 'busy' : 'ready'; };
-const asked = (study, more = {}) => ({ dump: state.dump, names: state.names, study: bytes(study), json: true, keepGoing: true, ...more });
-const documentsOf = (answer) => text(answer.replies).trim().split('\n').map((line) => JSON.parse(line));
+const baselineName = () => state.baseline?.name ?? 'the loaded database';
 
-// ---- a database is opened
-
-async function open(dump, name, { names = null, study = null, studyName = null, found: findings = null } = {}) {
-  isBusy(true);
-  const given = { ...asked('routers\ninfo\n'), dump, names: names ?? state.names };
-  const answer = await calculator.study(given);
-  if (answer.status > 1) {
-    report(`${name}: ${text(answer.errors).trim() || 'memory ran out'}`);
-    isBusy(false);
-    return;
-  }
-  const [{ routers }, { done }] = documentsOf(answer);
-  Object.assign(state, {
-    dump, dumpName: name, names: given.names, done, chosen: null, selected: null, path: null, audit: null, sweep: null, found: findings,
-    folded: new Set(), filter: '', kind: null, table: routers[0]?.router ?? null, routerCount: routers.length, isLarge: routers.length > MOST_CALCULATED,
-  });
-  if (study !== null) editor.text.value = study;
-  if (studyName) $('study-name').value = studyName;
-  if (findings) state.tab = 'Files';
-  else if (state.tab === 'Files') state.tab = 'Changes';
-  $('empty').hidden = true;
-  $('fault').textContent = '';
-  await calculate(true);
+function isBusy(busy) {
+  document.body.dataset.state = busy ? 'busy' : 'ready';
+  $('outcome').classList.toggle('running', busy);
 }
+
+const asked = (study, more = {}) => ({ dump: state.dump, names: state.names, baseline: state.baseline?.dump ?? null, study: bytes(study), json: true, keepGoing: true, ...more });
+const documentsOf = (answer) => text(answer.replies).trim().split('\n').map((line) => JSON.parse(line));
 
 function report(fault) {
   $('fault').textContent = fault;
@@ -90,63 +75,9 @@ function report(fault) {
   if (state.graph) toast(fault);
 }
 
-const isNames = (content) => /^\s*(#|\d+\.\d+\.\d+\.\d+\s)/m.test(content);
-
-// What a file is: a dump or a session begins with OSWP; a study and names are short texts; all else is for ospf-capture.
-function kindOf(name, content) {
-  if (text(content.subarray(0, 4)) === 'OSWP') return 'dump';
-  if (/\.study$/.test(name)) return 'study';
-  if (content.length > 1 << 20 || content.subarray(0, 4096).includes(0)) return 'capture';
-  const lines = text(content);
-  if (/\.hosts$|^hosts$/.test(name) || (isNames(lines) && lines.split('\n').every((line) => /^\s*(#.*|\d+\.\d+\.\d+\.\d+\s.*|\S*:.*)?$/.test(line)))) return 'names';
-  return lines.split('\n').some((line) => EDITS.has(wordOf(line)) || QUESTIONS.has(wordOf(line))) ? 'study' : 'capture';
-}
-
-// Files that were picked or dropped.
-async function take(files) {
-  if (!files.length) return;
-  isBusy(true);
-  const taken = { dump: [], names: [], study: [], capture: [] };
-  for (const file of files) {
-    const content = new Uint8Array(await file.arrayBuffer());
-    taken[kindOf(file.name, content)].push({ name: file.name, bytes: content });
-  }
-  const [dump] = taken.dump, names = taken.names[0]?.bytes ?? null, [study] = taken.study;
-  const more = { names, study: study ? text(study.bytes) : null, studyName: study?.name ?? null };
-  if (dump) await open(dump.bytes, dump.name, more);
-  else if (taken.capture.length && state.readsCaptures) await capture(taken.capture, more);
-  else if (names && state.dump) await open(state.dump, state.dumpName, more);
-  else if (study && state.dump) {
-    editor.text.value = more.study;
-    $('study-name').value = study.name;
-    changed();
-  } else {
-    report('none of these files is a dump: one begins with OSWP');
-    isBusy(false);
-  }
-}
-
-// A dump made of files that are none, and what was found in them.
-async function capture(files, more) {
-  isBusy(true);
-  const answer = await calculator.ask('capture', { files });
-  const findings = {
-    contents: text(answer.contents ?? new Uint8Array()).split('\n').filter(Boolean),
-    notices: text(answer.notices ?? new Uint8Array()).split('\n').filter(Boolean),
-    warnings: text(answer.warnings ?? new Uint8Array()).split('\n').filter(Boolean),
-  };
-  if (answer.status > 1) {
-    report(findings.warnings.at(-1) ?? 'these files make no database');
-    isBusy(false);
-    return;
-  }
-  await open(answer.dump, `${files[0].name}${files.length > 1 ? ` and ${files.length - 1} more` : ''}`, { ...more, found: findings });
-}
-
 // ---- the study is carried out
 
 function changed() {
-  editor.show(state.answers?.study ?? new Map(), state.shown ?? 0);
   if (state.sweep) state.sweep.isStopped = true;
   state.sweep = null;
   isBusy(true);
@@ -160,25 +91,46 @@ function shownLine(lines) {
   return Math.max(0, Math.min(lines.length, state.chosen.number));
 }
 
-async function calculate(isNew) {
-  if (!state.dump) return;
-  const turn = ++state.asked, begun = performance.now();
-  isBusy(true);
-  const lines = editor.lines(), shown = shownLine(lines), routers = state.routerCount;
-  const isSmall = !state.isLarge && routers <= MOST_FORECAST;
+const WRONG = new Set(['failed', 'refused', 'fault']);
+
+// The first line that is not accepted, at which a strict study ends; 0 where there is none.
+function stoppingLine({ study }) {
+  return state.isStrict ? [...study].find(([, { answer }]) => WRONG.has(answer))?.[0] ?? 0 : 0;
+}
+
+// The study with the questions of the page about the state after line `shown`; null where another calculation has begun since,
+// or where it was refused.
+async function answersAfter(lines, shown, turn) {
+  const routers = state.routerCount, isSmall = !state.isLarge && routers <= MOST_FORECAST;
   const { text: study, all } = withQuestions(lines, shown, {
-    path: state.path, table: state.table, isLarge: state.isLarge, isSmall, isChanged: state.done > 0 || lines.slice(0, shown).some(isEdit), counts: isSmall && lines.filter(isEdit).length * routers <= 1000,
+    path: state.path, table: state.table, isLarge: state.isLarge, isSmall, isChanged: state.done > 0 || state.baseline !== null || lines.slice(0, shown).some(isEdit),
+    counts: isSmall && lines.filter(isEdit).length * routers <= 1000,
   });
   const answer = await calculator.study(asked(study));
-  if (turn !== state.asked) return;
+  if (turn !== state.asked) return null;
   if (answer.status > 1) {
     report(text(answer.errors).trim() || 'memory ran out');
     isBusy(false);
-    return;
+    return null;
   }
-  state.answers = readAnswers(text(answer.replies), all);
-  state.shown = shown;
-  state.graph = topology(state.answers.before, state.answers.now);
+  return readAnswers(text(answer.replies), all);
+}
+
+async function calculate(isNew) {
+  if (!state.dump) return;
+  const turn = ++state.asked, begun = performance.now(), lines = editor.lines();
+  isBusy(true);
+  let shown = shownLine(lines), answers = await answersAfter(lines, shown, turn);
+  if (!answers) return;
+  const stopped = stoppingLine(answers);
+  if (stopped && shown > stopped) {
+    shown = stopped;
+    answers = await answersAfter(lines, shown, turn);
+    if (!answers) return;
+  }
+  if (stopped) for (const number of [...answers.study.keys()]) if (number > stopped) answers.study.delete(number);
+  Object.assign(state, { answers, shown, stopped, differences: null });
+  state.graph = topology(answers.before, answers.now);
   spreadParallels(state.graph.edges);
   if (isNew || !picture.places.size) await place();
   if (turn !== state.asked) return;
@@ -193,7 +145,7 @@ async function place() {
   $('without').hidden = isDrawn;
   $('picture').hidden = $('modes').hidden = $('zoom').hidden = $('legend').hidden = !isDrawn;
   if (!isDrawn) return;
-  const { places } = await calculator.ask('place', placing(state.graph));
+  const places = nodes.every(({ id }) => state.places?.[id]) ? nodes.map(({ id }) => state.places[id]) : (await calculator.ask('place', placing(state.graph))).places;
   picture.nodes = state.graph.nodes;
   picture.put(nodes.map((node) => node.id), places);
 }
@@ -208,26 +160,28 @@ function placing({ nodes, edges }) {
 
 function show() {
   const { answers, graph } = state;
-  const { info, routers, links, networks } = answers.before;
+  const { info, routers, networks } = answers.before;
   const of = (count, word) => `${count} ${word}${count === 1 ? '' : 's'}`;
-  $('about').textContent = `${state.dumpName}: ${[of(routers.routers.length, 'router'), of(links.links.filter((link) => link.type !== 'stub').length, 'link'), of(networks.networks.length, 'LAN'), of(info.areas, 'area'), of(info.lsas, 'LSA')].join(', ')}`;
-  editor.show(answers.study, state.shown, answers.counts, new Set([...graph.nodes.values()].flatMap((node) => [node.label, node.id])));
+  $('about').textContent = `${state.dumpName}: ${[of(routers.routers.length, 'router'), of([...graph.edges.values()].filter(({ kind, isNew }) => kind === 'link' && !isNew).length, 'link'), of(networks.networks.length, 'LAN'), of(info.areas, 'area'), of(info.lsas, 'LSA')].join(', ')}${state.baseline ? `; compared with ${state.baseline.name}` : ''}`;
+  const names = new Set([...graph.nodes.values()].flatMap((node) => [node.label, node.id]));
+  editor.show(answers.study, { shown: state.shown, counts: answers.counts, names, stopped: state.stopped });
   showVerdict();
   showTicks();
   showFaults();
   showPicture();
   showCard();
   showTabs();
+  $('report').replaceChildren();
   $('found').replaceChildren(...[...graph.nodes.values()].slice(0, 10000).map((node) => element('option', { value: node.label }, node.id === node.label ? '' : node.id)));
-  showReport();
 }
 
 function showPicture() {
   const { answers, graph } = state;
   picture.impact = changesByRouter(answers.now.changes);
-  picture.routeCount = Math.max(1, ...[...picture.impact.values()].map((counts) => Object.values(counts).reduce((sum, count) => sum + count, 0)));
+  picture.routeCount = routeCount(answers.now.changes);
   const isPath = state.tab === 'Path';
   picture.paths = isPath ? { before: stepsOf(answers.before.path), now: stepsOf(answers.now.path) } : { before: [], now: [] };
+  picture.ends = isPath ? endsOf(answers.now.path) : [];
   picture.heat = heatOf(state.sweep);
   picture.selected = state.selected;
   picture.show(graph);
@@ -242,11 +196,24 @@ function showLegend() {
   const drawn = [
     [true, '○ router'], [has('abr'), '□ ABR'], [has('asbr'), '⬡ ASBR'], [has('abr', 'asbr'), '⯃ ABR and ASBR'], [nodes.size > routers.length, '▭ LAN'],
     [[...edges.values()].some(edgeFailed) || routers.some((node) => node.failed), '┅ failed', 'down'], [routers.some((node) => node.drained), '▨ drained', 'dearer'],
-    [[...edges.values()].some(edgeChanged), '10→40 cost set', 'dearer'], [picture.paths.before.length, '┅ path before'], [picture.paths.now.length, '━ path after', 'now'],
+    [[...edges.values()].some(edgeChanged), '10→40 cost set', 'dearer'], [[...edges.values()].some((edge) => edgeOneWay(edge) && !edge.isNew), '┄ one way', 'down'], [[...edges.values()].some(({ isNew }) => isNew), '━ new', 'better'], [picture.paths.before.length, '┅ path before'], [picture.paths.now.length, '━ path after', 'now'],
   ].filter(([is]) => is).map(([, label, kind]) => element('span', { class: kind }, label));
+  if (picture.mode === 'impact' && [...picture.impact.values()].some(({ lost }) => lost)) drawn.push(element('span', {}, element('b', { class: 'badge' }, 'n'), ' routes lost'));
   if (picture.mode === 'impact' && picture.impact.size) drawn.push(element('span', {}, '◌ share of routes ', element('b', { class: 'lost' }, 'lost '), element('b', { class: 'dearer' }, 'dearer '), element('b', { class: 'moved' }, 'moved')));
   if (picture.mode === 'sweep') drawn.push(element('span', {}, 'if it fails: ', element('b', { class: 'lost' }, '━ loses routes '), element('b', { class: 'dearer' }, '━ dearer '), element('b', { class: 'moved' }, '━ moved')));
   $('legend').replaceChildren(...drawn);
+}
+
+// The number of routes of a router, on the average, of which its ring shows shares.
+function routeCount(changes) {
+  const total = Object.entries(changes?.counts ?? {}).reduce((sum, [kind, count]) => kind.startsWith('router-') ? sum : sum + count, 0);
+  return Math.max(1, total / Math.max(1, state.graph ? routersNow().length : 1));
+}
+
+// How a path ends, at the routers where it does.
+function endsOf(path) {
+  const ends = (path?.steps ?? []).filter(({ to }) => !to).map(({ router, end }) => ({ id: router, label: end, isBad: end === 'blackhole' }));
+  return [...ends, ...(path?.loops ?? []).map(([router]) => ({ id: router, label: 'loop', isBad: true }))];
 }
 
 // The steps of a path on the picture: over a LAN in two.
@@ -265,20 +232,21 @@ function stepsOf(path) {
 // What the study says without the questions of the page.
 function verdict() {
   const answers = [...state.answers.study.values()];
-  const wrong = answers.filter(({ answer }) => answer === 'failed' || answer === 'refused' || answer === 'fault');
+  const wrong = answers.filter(({ answer }) => WRONG.has(answer));
   const expectations = answers.filter(({ word }) => word === 'expect');
   const held = expectations.filter(({ answer }) => answer === 'ok').length;
-  return { wrong, expectations, held, refused: wrong.filter(({ answer }) => answer !== 'failed').length };
+  const skipped = state.stopped ? editor.lines().slice(state.stopped).filter(hasWords).length : 0;
+  return { wrong, expectations, held, skipped, refused: wrong.filter(({ answer }) => answer !== 'failed').length };
 }
 
 function showVerdict() {
-  const { wrong, expectations, held, refused } = verdict();
+  const { wrong, expectations, held, refused, skipped } = verdict();
   const kind = wrong.length ? 'failed' : expectations.length ? 'ok' : '';
   $('outcome').className = kind;
   $('outcome').querySelector('i').textContent = { failed: '✕', ok: '✓' }[kind] ?? '·';
   $('verdict').textContent = { failed: 'Study fails', ok: 'Study holds' }[kind] ?? 'Nothing expected yet';
   const holding = expectations.length ? `${held} of ${expectations.length} expectations hold` : 'add an expectation to test it';
-  $('held').textContent = `${holding}${refused ? ` · ${refused} refused` : ''}`;
+  $('held').textContent = `${holding}${refused ? ` · ${refused} refused` : ''}${skipped ? ` · ${skipped} not run` : ''}`;
   showCounts();
   const line = state.shown ? editor.lines()[state.shown - 1] : '';
   $('at').replaceChildren(state.shown ? `after line ${state.shown} of ${editor.lines().length}` : 'as loaded', element('b', { title: line }, line || ' '));
@@ -307,7 +275,7 @@ function filterBy(kind) {
 
 function showTicks() {
   const lines = editor.lines();
-  $('ticks').replaceChildren(...(lines.length > 60 ? [] : lines.flatMap((line, k) => state.answers.study.has(k + 1) ? [element('button', {
+  $('ticks').replaceChildren(...(lines.length > 60 ? [] : lines.flatMap((line, k) => editor.stateOf(k + 1) ? [element('button', {
     type: 'button', tabindex: -1, class: `${editor.stateOf(k + 1)}${k + 1 === state.shown ? ' shown' : k + 1 > state.shown ? ' after' : ''}`, title: `${k + 1}  ${line}`,
     'aria-label': `line ${k + 1}: ${line}`, onclick: () => showAfter(k + 1),
   }, element('i'))] : [])));
@@ -318,9 +286,15 @@ function showSaved() {
   const { savedVerdict } = state;
   $('saved-note').hidden = !savedVerdict;
   if (!savedVerdict) return;
-  const isSame = savedVerdict === outcomeText();
+  const isSame = savedVerdict === saidNow();
   $('saved-note').className = isSame ? 'ok' : 'failed';
   $('saved-note').textContent = isSame ? '✓ calculated again: the same outcome as was saved' : `✕ another outcome than was saved, which was: ${savedVerdict}`;
+}
+
+// The outcome, and what changed after the shown line.
+function saidNow() {
+  const { changes } = state.answers.now;
+  return [outcomeText(), changes && countsText(changes.counts)].filter(Boolean).join('; ');
 }
 
 const outcomeText = () => `${$('verdict').textContent}: ${$('held').textContent}`;
@@ -330,7 +304,7 @@ const named = (said) => said.replace(/\b\d+\.\d+\.\d+\.\d+\b(?!\/)/g, (address) 
 
 function showFaults() {
   const lines = editor.lines();
-  const wrong = [...state.answers.study].filter(([, { answer }]) => ['failed', 'refused', 'fault'].includes(answer));
+  const wrong = [...state.answers.study].filter(([, { answer }]) => WRONG.has(answer));
   $('faults').replaceChildren(...wrong.map(([number, answer]) => {
     const line = lines[number - 1], mended = mend(line, answer);
     return element('p', { class: answer.answer }, element('b', {}, `${number} ${line.trim()}: `), answer.found ? named(found(answer)) : found(answer), ' ',
@@ -349,11 +323,11 @@ function mend(line, { at, hint, expected, found: said }) {
   return { word: count[0], line: `${/^\s*(@[0-7]\s+)?/.exec(line)[0]}expect ${count[1]} <= ${count[2]}` };
 }
 
-// To the next line that is not accepted.
-function nextWrong() {
-  const wrong = [...state.answers.study].filter(([, { answer }]) => ['failed', 'refused', 'fault'].includes(answer)).map(([number]) => number);
+// To the next line that is not accepted, or to the one before.
+function nextWrong(by) {
+  const wrong = [...state.answers.study].filter(([, { answer }]) => WRONG.has(answer)).map(([number]) => number), at = editor.lineOfCaret();
   if (!wrong.length) return;
-  const number = wrong.find((one) => one > editor.lineOfCaret()) ?? wrong[0];
+  const number = by > 0 ? wrong.find((one) => one > at) ?? wrong[0] : wrong.findLast((one) => one < at) ?? wrong.at(-1);
   editor.reveal(number);
   showAfter(number);
 }
@@ -411,13 +385,25 @@ async function saveDump() {
   else save(state.dumpName.replace(/(\.oswp)?$/, '-after.oswp'), answer.dump, 'application/octet-stream');
 }
 
-// The page with the dump, the names, the study and its outcome in it.
+// The page with the dump, the names, the study and its outcome in it, and with the places of what is drawn.
 function pageWith() {
+  const { dump, dumpName, names, baseline, chosen, isStrict } = state;
   const saved = JSON.stringify({
-    dump: toBase64(state.dump), dumpName: state.dumpName, names: toBase64(state.names), study: editor.text.value, studyName: $('study-name').value,
-    verdict: outcomeText(),
+    dump: toBase64(dump), dumpName, names: toBase64(names), study: editor.text.value, studyName: $('study-name').value, verdict: saidNow(),
+    baseline: baseline && { name: baseline.name, dump: toBase64(baseline.dump) }, chosen, isStrict,
+    places: Object.fromEntries([...picture.places].map(([id, place]) => [id, place.map((part) => Math.round(10 * part) / 10)])),
   }).replaceAll('<', '\\u003c');
   return source.replace(/(<script type="application\/json" id="saved">)[^<]*/, (_all, tag) => tag + saved);
+}
+
+// Opens what a saved page has in it.
+async function openSaved(saved) {
+  state.savedVerdict = saved.verdict;
+  $('strict').checked = state.isStrict = saved.isStrict;
+  const baseline = saved.baseline && { name: saved.baseline.name, dump: fromBase64(saved.baseline.dump) };
+  if (!(await open(fromBase64(saved.dump), saved.dumpName, { ...saved, names: fromBase64(saved.names), baseline }))) return;
+  state.chosen = saved.chosen;
+  await calculate(false);
 }
 
 // ---- keys and buttons
@@ -428,18 +414,42 @@ function step(by) {
   showAfter(Math.max(0, Math.min(editor.lines().length, (state.shown ?? 0) + by)));
 }
 
+// To the next link of the selected router, or of the router whose links were selected before.
+function nextLink() {
+  const { nodes, edges } = state.graph, edge = edges.get(state.selected);
+  if (nodes.has(state.selected)) state.cycled = state.selected;
+  else if (!edge || ![edge.a, edge.b].includes(state.cycled)) state.cycled = edge?.a;
+  const links = nodes.get(state.cycled)?.edges ?? [];
+  if (links.length) select(links[(links.indexOf(edge) + 1) % links.length].key);
+}
+
 const KEYS = {
-  '/': () => $('find').focus(), '[': () => step(-1), ']': () => step(1), '?': () => $('keys').showModal(), F8: () => nextWrong(),
-  '+': () => picture.zoom(1.4), '-': () => picture.zoom(0.7), 0: () => picture.fit(), Escape: () => select(null),
+  '/': () => $('find').focus(), '[': () => step(-1), ']': () => step(1), '?': () => $('keys').showModal(), F8: ({ shiftKey }) => nextWrong(shiftKey ? -1 : 1),
+  '+': () => picture.zoom(1.4), '-': () => picture.zoom(0.7), 0: () => picture.fit(), Escape: () => select(null), l: () => nextLink(), r: () => printReport(),
 };
+const CONTROL_KEYS = { k: () => $('find').focus(), s: () => $('save-study').click(), p: () => printReport() };
+
+function onControlKey(event, isTyped) {
+  const key = event.key.toLowerCase();
+  if (CONTROL_KEYS[key]) CONTROL_KEYS[key]();
+  else if (!isTyped && (key === 'z' || key === 'y')) editor.undo(key === 'y' || event.shiftKey ? 'redo' : 'undo');
+  else return;
+  event.preventDefault();
+}
 
 function onKey(event) {
-  const isTyped = /INPUT|TEXTAREA|SELECT/.test(event.target.tagName) && event.key !== 'F8';
-  if (event.ctrlKey || event.metaKey || event.altKey || isTyped || document.querySelector('dialog[open]') || !state.graph) return;
-  const own = state.selected && [...$('card').querySelectorAll('[data-key]')].find((one) => one.dataset.key === event.key.toLowerCase());
+  const isTyped = /INPUT|TEXTAREA|SELECT/.test(event.target.tagName) && event.target.type !== 'checkbox';
+  if (event.altKey || document.querySelector('dialog[open], [popover]:popover-open') || !state.graph) return;
+  if (event.ctrlKey || event.metaKey) {
+    onControlKey(event, isTyped);
+    return;
+  }
+  if (isTyped && event.key !== 'F8') return;
+  const offered = state.selected ? [...$('card').querySelectorAll('[data-key]')] : [];
+  const own = [event.key, event.key.toLowerCase()].map((key) => offered.find((one) => one.dataset.key === key)).find(Boolean);
   const tab = Object.keys(tabs())[Number(event.key) - 1];
   if (own) own.click();
-  else if (KEYS[event.key]) KEYS[event.key]();
+  else if (KEYS[event.key]) KEYS[event.key](event);
   else if (/^[1-9]$/.test(event.key) && tab) showTab(tab);
   else return;
   event.preventDefault();
@@ -449,7 +459,7 @@ function onKey(event) {
 function findOrDo(word) {
   const id = idOf(word);
   if (state.graph?.nodes.has(id)) select(id);
-  else if (EDITS.has(wordOf(word)) || wordOf(word) === 'expect') add(word);
+  else if (EDITS.has(wordOf(word)) || QUESTIONS.has(wordOf(word))) add(word);
   else if (word) toast(`Neither a router or a network nor a line of the study: ${word}`);
   $('find').value = '';
 }
@@ -458,7 +468,11 @@ function findOrDo(word) {
 function splitter(id, variable, isAcross) {
   const main = document.querySelector('main'), bar = $(id);
   const size = () => parseFloat(getComputedStyle(main).getPropertyValue(variable));
-  const set = (pixels) => main.style.setProperty(variable, `${Math.max(120, Math.min((isAcross ? main.clientWidth : main.clientHeight) - 160, pixels))}px`);
+  const set = (pixels) => {
+    const most = (isAcross ? main.clientWidth : main.clientHeight) - 160, value = Math.round(Math.max(120, Math.min(most, pixels)));
+    main.style.setProperty(variable, `${value}px`);
+    for (const [name, number] of Object.entries({ valuemin: 120, valuemax: most, valuenow: value })) bar.setAttribute(`aria-${name}`, number);
+  };
   bar.addEventListener('pointerdown', (event) => bar.setPointerCapture(event.pointerId));
   bar.addEventListener('pointermove', (event) => {
     if (!bar.hasPointerCapture(event.pointerId)) return;
@@ -469,37 +483,42 @@ function splitter(id, variable, isAcross) {
     const by = { ArrowLeft: 24, ArrowUp: 24, ArrowRight: -24, ArrowDown: -24 }[event.key];
     if (by) set(size() + by);
   });
+  bar.addEventListener('focus', () => set(size()));
 }
 
-function listenToFiles() {
-  $('open').onclick = $('pick').onclick = () => $('files').click();
-  $('files').onchange = async (event) => {
-    await take([...event.target.files]);
-    event.target.value = '';
-  };
-  document.addEventListener('dragover', (event) => {
-    event.preventDefault();
-    $('over').hidden = false;
-  });
-  document.addEventListener('dragleave', (event) => { $('over').hidden = event.relatedTarget === null; });
-  document.addEventListener('drop', (event) => {
-    event.preventDefault();
-    $('over').hidden = true;
-    take([...event.dataTransfer.files]);
-  });
-}
+// What is offered where nothing is typed yet.
+const FIRST_LINES = ['expect lost none', 'expect gone none', 'expect loops none', 'expect blackholes none', 'expect microloops none', 'expect audit clean', 'refresh', 'undo 1', 'expect same'];
 
-function listen() {
-  listenToFiles();
-  document.addEventListener('keydown', onKey);
+function listenToLines() {
+  const first = { part: '', options: FIRST_LINES.map((word) => ({ word, about: state.grammar?.lines.find((one) => one.word === word.split(' ')[0])?.meaning ?? '' })) };
+  const line = new Suggestions($('line'), { offer: (front) => front ? completions(front) : first });
+  new Suggestions($('text'), { offer: completeStudy, corner: () => caretPlace(editor) });
+  new Suggestions($('find'), { offer: findOptions, isEager: true, shown: showForecasts });
+  $('line').onclick = () => line.open(true);
+  $('find').onfocus = () => $('find').dispatchEvent(new Event('input'));
   $('find').onkeydown = (event) => {
     if (event.key === 'Enter') findOrDo(event.target.value.trim());
-    else if (event.key === 'Escape') event.target.blur();
+    else if (event.key === 'Escape') {
+      event.target.value = '';
+      $('picture').focus();
+    }
   };
-  $('find').onchange = (event) => { if (state.graph?.nodes.has(idOf(event.target.value.trim()))) findOrDo(event.target.value.trim()); };
-  $('earlier').onclick = () => step(-1);
-  $('later').onclick = () => step(1);
-  $('outcome').onclick = () => nextWrong();
+  $('add').onsubmit = (event) => {
+    event.preventDefault();
+    if ($('line').value.trim()) add($('line').value.trim());
+    $('line').value = '';
+  };
+  $('adds').onclick = ({ target }) => {
+    const field = target.dataset.find ? $('find') : target.dataset.line ? $('line') : null;
+    if (target.dataset.tab) showTab(target.dataset.tab);
+    if (!field) return;
+    field.value = target.dataset.find ?? target.dataset.line;
+    field.focus();
+    field.dispatchEvent(new Event('input'));
+  };
+}
+
+function listenToPicture() {
   $('modes').onclick = ({ target }) => {
     if (target.dataset.mode) picture.mode = target.dataset.mode;
     if (target.dataset.layer) picture.layers[target.dataset.layer] = !picture.layers[target.dataset.layer];
@@ -507,22 +526,30 @@ function listen() {
     else showPicture();
   };
   $('zoom').onclick = ({ target }) => Number(target.dataset.zoom) ? picture.zoom(Number(target.dataset.zoom)) : target.dataset.zoom && picture.fit();
-  $('save-study').onclick = () => save($('study-name').value || 'plan.study', editor.text.value, 'text/plain');
-  $('save-dump').onclick = saveDump;
-  $('save-page').onclick = () => save(`${($('study-name').value || 'plan').replace(/\.study$/, '')}.html`, pageWith(), 'text/html');
-  $('print').onclick = () => window.print();
-  $('help').onclick = () => $('keys').showModal();
   $('theme').onclick = () => {
     document.documentElement.dataset.theme = document.documentElement.dataset.theme === 'dark' ? 'light' : 'dark';
     picture.draw();
     if (state.graph) showTabs();
   };
-  $('add').onsubmit = (event) => {
-    event.preventDefault();
-    if ($('line').value.trim()) add($('line').value.trim());
-    $('line').value = '';
+}
+
+function listen() {
+  listenToLines();
+  listenToFiles();
+  listenToPicture();
+  document.addEventListener('keydown', onKey);
+  $('earlier').onclick = () => step(-1);
+  $('later').onclick = () => step(1);
+  $('outcome').onclick = () => nextWrong(1);
+  $('strict').onchange = ({ target }) => {
+    state.isStrict = target.checked;
+    calculate(false);
   };
-  $('words').replaceChildren(...['expect lost none', 'expect gone none', 'expect loops none', 'expect blackholes none', 'expect microloops none', 'expect same', 'expect audit clean', 'refresh', 'undo 1', 'redo 1'].map((value) => element('option', { value })));
+  $('save-study').onclick = () => save($('study-name').value || 'plan.study', editor.text.value, 'text/plain');
+  $('save-dump').onclick = saveDump;
+  $('save-page').onclick = () => save(`${($('study-name').value || 'plan').replace(/\.study$/, '')}.html`, pageWith(), 'text/html');
+  $('print').onclick = () => printReport();
+  $('help').onclick = () => $('keys').showModal();
   splitter('wider', '--study', true);
   splitter('higher', '--results', false);
 }
@@ -556,10 +583,8 @@ function begin() {
   showSamples();
   isBusy(false);
   const saved = JSON.parse($('saved').textContent);
-  state.savedVerdict = saved?.verdict ?? null;
-  if (saved) open(fromBase64(saved.dump), saved.dumpName, { names: fromBase64(saved.names), study: saved.study, studyName: saved.studyName });
+  if (saved) openSaved(saved);
   calculator.opened.then(({ readsCaptures }) => {
-    state.readsCaptures = readsCaptures;
     if (readsCaptures) $('kinds').textContent = 'A dump or a saved session (.oswp), or the captures, SNMP walks and prints of a network; with it, if you like, a hosts file for names and a study.';
   }, (error) => report(`this browser cannot run the planner: ${error.message} (it needs WebAssembly with memory64: Chromium 133, Firefox 134)`));
 }

@@ -32,6 +32,13 @@ const CUTS = {
   transit: (edge) => `drop-link ${edge.area} ${nameOf(edge.a)} ${edge.ends[0].data}`,
 };
 
+// The lines that cut one link: each of its ends where parallel links stay, or where it has only one.
+function cutLines(edge) {
+  const isOnly = ({ key, kind, a, b }) => key === edge.key || kind !== 'link' || ![a, b].includes(edge.a) || ![a, b].includes(edge.b);
+  if (edge.kind === 'transit' || (!edgeOneWay(edge) && state.graph.nodes.get(edge.a).edges.every(isOnly))) return [CUTS[edge.kind](edge)];
+  return edge.ends.filter(({ now }) => now !== null).map((end) => `drop-link ${edge.area} ${nameOf(end.router)} ${end.data}`);
+}
+
 async function setCost(edge, end) {
   const cost = await ask(`Cost of ${endTitle(edge, end)}, 0 to 65535`, String(end.now ?? end.was));
   if (cost !== null && cost.trim() !== '') add(inBranch(`cost ${edge.area} ${nameOf(end.router)} ${end.data} ${cost.trim()}`));
@@ -48,13 +55,14 @@ function actionsOf(id) {
     !node.failed && { label: 'Fail', key: 'f', lines: [`fail-router ${nameOf(id)}`] },
     !node.failed && drain.length && { label: 'Drain', key: 'd', lines: drain },
     { label: 'Path from here', key: 'p', act: () => askPath(id) },
+    { label: 'Path to here', key: 'P', act: () => askPathTo(id) },
     { label: 'Routes', key: 't', act: () => { state.table = id; state.tab = 'Routes'; calculate(false); } },
   ].filter(Boolean);
 }
 
 function edgeActions(edge) {
   return [
-    !edgeFailed(edge) && { label: 'Cut', key: 'c', lines: [CUTS[edge.kind](edge)] },
+    !edgeFailed(edge) && { label: 'Cut', key: 'c', lines: cutLines(edge) },
     ...edge.ends.filter((end) => end.now !== null).map((end, k) => ({ label: `Set cost ${endTitle(edge, end)}`, key: k ? null : 's', act: () => setCost(edge, end) })),
   ].filter(Boolean);
 }
@@ -62,6 +70,17 @@ function edgeActions(edge) {
 async function askPath(from) {
   const to = await ask(`Path from ${nameOf(from)} to which address?`, state.path?.to ?? '');
   if (to?.trim()) showPath(from, to.trim());
+}
+
+// An address of a router: in a prefix of its own, or of one of its links.
+function addressAt(router) {
+  const links = state.answers.before.links.links.filter((link) => link.router === router), own = links.find(({ type, of }) => type === 'stub' && of === null);
+  return own ? hostIn(own.prefix) : links.find(({ data }) => data)?.data ?? router;
+}
+
+async function askPathTo(router) {
+  const from = state.path?.from ?? await ask(`Path to ${nameOf(router)} from which router?`, '');
+  if (from?.trim()) showPath(idOf(from.trim()), addressAt(router));
 }
 
 function aboutElement(id) {
@@ -78,7 +97,7 @@ function showCard() {
   const edge = edges.get(id), node = nodes.get(id), actions = actionsOf(id);
   const condition = node?.failed || (edge && edgeFailed(edge)) ? ' (failed)' : node?.drained ? ' (drained)' : '';
   const buttons = actions.map((action) => element('button', { type: 'button', 'data-key': action.key, onclick: action.act ?? (() => add(...action.lines.map(inBranch))) },
-    action.label, action.lines ? element('span', { class: 'forecast' }, '…') : null, action.key ? element('kbd', { class: action.lines ? null : 'forecast' }, action.key.toUpperCase()) : null));
+    action.label, action.lines ? element('span', { class: 'forecast' }, '…') : null, action.key ? element('kbd', { class: action.lines ? null : 'forecast' }, `${action.key === 'P' ? '⇧ ' : ''}${action.key.toUpperCase()}`) : null));
   const culprit = condition ? lineOf(id) : 0;
   if (culprit) buttons.unshift(element('button', { type: 'button', onclick: () => editor.remove(culprit) }, `Remove line ${culprit}`));
   $('card').replaceChildren(element('h2', {}, edge ? edgeTitle(edge, nodes) : node.label, condition), ...aboutElement(id).map((line) => element('div', { class: 'dim' }, line)),
@@ -95,19 +114,18 @@ function lineOf(id) {
 
 // Says beside each action what its lines would change, against what the shown line has left.
 async function forecast(actions) {
-  const places = [...$('card').querySelectorAll('span.forecast')];
-  if (state.isLarge || state.routerCount > MOST_FORECAST) {
-    places.forEach((one) => { one.textContent = ''; });
-    return;
-  }
-  const id = state.selected, before = editor.lines().slice(0, state.shown);
-  const lines = actions.flatMap(({ lines: edits }) => [...edits, 'changes', `undo ${edits.length}`]).map(inBranch);
-  const found = documentsOf(await calculator.study(asked([...before, ...lines].join('\n')))).filter(({ line, word, counts }) => line > before.length && word === 'changes' && counts);
-  if (state.selected !== id) return;
-  const now = state.answers.now.changes?.counts ?? {};
-  places.forEach((one, k) => {
-    const counts = found[k]?.counts;
-    if (!counts) one.textContent = '';
-    else one.textContent = countsText(Object.fromEntries(Object.keys(counts).map((kind) => [kind, Math.max(0, counts[kind] - (now[kind] ?? 0))]))) || 'no change';
-  });
+  const places = [...$('card').querySelectorAll('span.forecast')], id = state.selected, texts = await forecasts(actions.map(({ lines }) => lines));
+  if (state.selected === id) places.forEach((one, k) => { one.textContent = texts[k] ?? ''; });
+}
+
+// What each of some lists of lines would change by itself, in words; nothing in a large network, and nothing of what is refused.
+async function forecasts(lists) {
+  if (state.isLarge || state.routerCount > MOST_FORECAST) return [];
+  const before = editor.lines().slice(0, state.shown), now = state.answers.now.changes?.counts ?? {};
+  const lines = lists.flatMap((edits) => [...edits, 'changes', `undo ${edits.length}`]).map(inBranch);
+  const documents = documentsOf(await calculator.study(asked([...before, ...lines].join('\n')))).filter(({ line }) => line > before.length);
+  // Where one is refused, what takes it back takes back something else.
+  if (documents.some(({ answer }) => WRONG.has(answer))) return lists.length === 1 ? [''] : (await Promise.all(lists.map((one) => forecasts([one])))).flat();
+  const added = ({ counts }) => Object.fromEntries(Object.keys(counts).map((kind) => [kind, Math.max(0, counts[kind] - (now[kind] ?? 0))]));
+  return documents.filter(({ word, counts }) => word === 'changes' && counts).map((one) => countsText(added(one)) || 'no change');
 }

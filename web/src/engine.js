@@ -53,8 +53,9 @@ function fill(memory, { at, bytes: own, files = [] }) {
   });
 }
 
-// One call of an export with a struct of flags, inputs, and rooms for its texts. Its report has `counts` words.
-function callOnce(module, name, flags, inputs, rooms, counts, heap) {
+// One call of an export: `name`, a struct of `flags`, `inputs`, and a report of `counts` words. `lengths` are the places in
+// the report that have the lengths of the texts, for each of which `rooms` has a size.
+function callOnce(module, { name, flags, inputs, counts, lengths }, rooms, heap) {
   const exports = new WebAssembly.Instance(module, {}).exports;
   const room = places(exports);
   const memoryAt = room.take(16), flagsAt = room.take(flags.length), reportAt = room.take(8 * counts);
@@ -70,18 +71,18 @@ function callOnce(module, name, flags, inputs, rooms, counts, heap) {
   ];
   const status = exports[name](...[memoryAt, flagsAt, ...parts, reportAt].map(BigInt));
   const report = [...new BigUint64Array(exports.memory.buffer, reportAt, counts)].map(Number);
-  const after = new Uint8Array(exports.memory.buffer);
-  const text = (k) => after.slice(roomsAt[k], roomsAt[k] + Math.min(report[k], rooms[k]));
-  return { status, report, texts: status === STATUS.noRoom ? [] : rooms.map((_, k) => text(k)) };
+  const after = new Uint8Array(exports.memory.buffer), needed = lengths.map((place) => report[place]);
+  const text = (k) => after.slice(roomsAt[k], roomsAt[k] + Math.min(needed[k], rooms[k]));
+  return { status, report, needed, texts: status === STATUS.noRoom ? [] : rooms.map((_, k) => text(k)) };
 }
 
 // Calls with more memory, and with longer rooms, until there is enough.
-function call(module, name, flags, inputs, roomCount, counts) {
-  let heap = LEAST_MEMORY, rooms = new Array(roomCount).fill(2 ** 18);
+function call(module, form) {
+  let heap = LEAST_MEMORY, rooms = form.lengths.map(() => 2 ** 18);
   for (;;) {
-    const answer = callOnce(module, name, flags, inputs, rooms, counts, heap);
+    const answer = callOnce(module, form, rooms, heap);
     if (answer.status === STATUS.noMemory && heap < MOST_MEMORY) heap *= 4;
-    else if (answer.status === STATUS.noRoom) rooms = rooms.map((size, k) => Math.max(size, answer.report[k]));
+    else if (answer.status === STATUS.noRoom) rooms = rooms.map((size, k) => Math.max(size, answer.needed[k]));
     else return answer;
   }
 }
@@ -89,7 +90,8 @@ function call(module, name, flags, inputs, roomCount, counts) {
 // A script carried out on a dump, as ospf-plan does: its replies, the dump and the session that it leaves, and its fault.
 function runScript(module, dump, script, wanted = { replies: true, dump: false, session: false }) {
   const flags = Uint8Array.from([wanted.replies, wanted.dump, wanted.session], Number);
-  const { status, texts, report } = call(module, 'ospf_plan_run', flags, [dump, script], 4, 6);
+  const form = { name: 'ospf_plan_run', flags, inputs: [dump, script], counts: 6, lengths: [0, 1, 2, 3] };
+  const { status, texts, report } = call(module, form);
   const [replies, left, session, fault] = texts;
   return { status, replies, dump: left, session, fault, commands: report[4], refused: report[5] };
 }
@@ -100,18 +102,23 @@ function runStudy(module, given) {
   const { dump, baseline = null, names = none, study, keepGoing = false, verbose = false, json = true, wantsDump = false } = given;
   const flags = Uint8Array.from([baseline !== null, keepGoing, verbose, json, wantsDump], Number);
   const inputs = [dump, baseline ?? none, names, study];
-  const { status, texts } = call(module, 'ospf_study_run', flags, inputs, 3, 7);
+  const { status, texts } = call(module, { name: 'ospf_study_run', flags, inputs, counts: 7, lengths: [0, 1, 2] });
   const [replies, errors, left] = texts;
   return { status, replies, errors, dump: left };
 }
 
 // Whether a module makes dumps of captures, walks and what routers print.
-const readsCaptures = (module) => WebAssembly.Module.exports(module).some(({ name }) => name === 'ospf_capture_run');
+function readsCaptures(module) {
+  return WebAssembly.Module.exports(module).some(({ name }) => name === 'ospf_capture_run');
+}
 
-// A dump made of files, as ospf-capture makes it: what each contains, notices, warnings, and the dump.
-function runCapture(module, { files, keepFlushed = false }) {
-  const named = files.map(({ name, bytes }) => ({ name: new TextEncoder().encode(name), bytes }));
-  const { status, texts, report } = call(module, 'ospf_capture_run', Uint8Array.of(Number(keepFlushed)), [named, []], 4, 4);
-  const [contents, notices, warnings, dump] = texts;
-  return { status, contents, notices, warnings, dump, report };
+// A dump made of files and compared with lists, as ospf-capture does: the lines of what each file contains, of notices and
+// of warnings, and the dump. A run that ended early has one line of warnings: why.
+function runCapture(module, { files, lists = [], keepFlushed = false }) {
+  const inputs = [files, lists].map((some) => some.map(({ name, bytes }) => ({ name: new TextEncoder().encode(name), bytes })));
+  const flags = Uint8Array.of(Number(keepFlushed));
+  const { status, texts, report } = call(module, { name: 'ospf_capture_run', flags, inputs, counts: 4, lengths: [0, 2, 3] });
+  const [output, warnings, dump] = texts, isMade = status === STATUS.done || status === STATUS.notAccepted;
+  const at = isMade ? report[1] : 0;
+  return { status, output, contents: output.slice(0, at), notices: output.slice(at), warnings, dump };
 }

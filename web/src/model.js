@@ -101,6 +101,7 @@ function topology(before, now) {
   const known = new Map(before.links.links.map((link) => [linkKey(link), link]));
   for (const link of now.links?.links ?? []) if (!known.has(linkKey(link))) known.set(linkKey(link), { ...link, isNew: true });
   for (const link of known.values()) addEdge(nodes, edges, link, present);
+  for (const edge of edges.values()) edge.isDown = nodes.get(edge.a).failed || nodes.get(edge.b).failed;
   for (const node of nodes.values()) node.drained = node.kind === 'router' && !node.failed && isDrained(node);
   return { nodes, edges };
 }
@@ -128,8 +129,10 @@ function addEdge(nodes, edges, link, present) {
   edges.get(key).ends.push(endOf(link, present));
 }
 
-const edgeFailed = (edge) => edge.ends.every((end) => end.now === null);
+const edgeFailed = (edge) => edge.isDown || edge.ends.every((end) => end.now === null);
 const edgeChanged = (edge) => edge.ends.some((end) => end.now !== null && end.now !== end.was);
+// A link that one end alone has, or had.
+const edgeOneWay = (edge) => edge.kind === 'link' && !edge.isDown && edge.ends.filter((end) => end.now !== null).length === 1;
 const edgeTitle = (edge, nodes) => `${nodes.get(edge.a).label} – ${nodes.get(edge.b).label}`;
 
 // The changes of each router, counted by kind.

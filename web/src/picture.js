@@ -20,6 +20,7 @@ class Picture {
     this.selected = null;
     this.hovered = null;
     this.paths = { before: [], now: [] };
+    this.ends = [];
     this.impact = new Map();
     this.mode = 'impact';
     this.layers = { costs: true, areas: true };
@@ -99,7 +100,30 @@ class Picture {
 
   // ---- hands
 
+  // Marks what is under the pointer, or what a row is about.
+  hover(key) {
+    if (key === this.hovered) return;
+    this.hovered = key;
+    this.draw();
+  }
+
   listen() {
+    this.listenToPointer();
+    const { canvas } = this;
+    canvas.addEventListener('pointerleave', () => this.hover(null));
+    canvas.addEventListener('keydown', (event) => {
+      const by = { ArrowLeft: [60, 0], ArrowRight: [-60, 0], ArrowUp: [0, 60], ArrowDown: [0, -60] }[event.key];
+      if (!by) return;
+      event.preventDefault();
+      this.pan(...by);
+    });
+    canvas.addEventListener('wheel', (event) => {
+      event.preventDefault();
+      this.zoom(Math.exp(-event.deltaY / 400), event.offsetX, event.offsetY);
+    }, { passive: false });
+  }
+
+  listenToPointer() {
     const { canvas } = this;
     let drag = null;
     canvas.addEventListener('pointerdown', (event) => {
@@ -108,12 +132,8 @@ class Picture {
     });
     canvas.addEventListener('pointermove', (event) => {
       if (!drag) {
-        const found = this.at(event.offsetX, event.offsetY);
-        if (found !== this.hovered) {
-          this.hovered = found;
-          canvas.style.cursor = found ? 'pointer' : 'grab';
-          this.draw();
-        }
+        this.hover(this.at(event.offsetX, event.offsetY));
+        canvas.style.cursor = this.hovered ? 'pointer' : 'grab';
         return;
       }
       const [dx, dy] = [event.offsetX - drag.x, event.offsetY - drag.y];
@@ -125,20 +145,6 @@ class Picture {
       if (drag && !drag.moved) this.on.select(this.at(event.offsetX, event.offsetY));
       drag = null;
     });
-    canvas.addEventListener('pointerleave', () => {
-      this.hovered = null;
-      this.draw();
-    });
-    canvas.addEventListener('keydown', (event) => {
-      const by = { ArrowLeft: [60, 0], ArrowRight: [-60, 0], ArrowUp: [0, 60], ArrowDown: [0, -60] }[event.key];
-      if (!by) return;
-      event.preventDefault();
-      this.pan(...by);
-    });
-    canvas.addEventListener('wheel', (event) => {
-      event.preventDefault();
-      this.zoom(Math.exp(-event.deltaY / 400), event.offsetX, event.offsetY);
-    }, { passive: false });
   }
 
   // The node or the edge at a place of the screen.
@@ -244,6 +250,7 @@ class Picture {
     if (this.layers.costs && usual > 52) for (const edge of this.edges.values()) if (this.isSeen(edge)) this.drawCosts(context, edge);
     this.drawNodes(context, usual);
     if (usual > 26) this.drawNames(context, usual);
+    if (usual >= 17) this.drawEnds(context, usual);
   }
 
   radius(usual) {
@@ -316,7 +323,7 @@ class Picture {
   }
 
   stateOf(edge) {
-    return edgeFailed(edge) ? 'failed' : edge.isNew ? 'isNew' : edgeChanged(edge) ? 'changed' : 'plain';
+    return edgeFailed(edge) ? 'failed' : edge.isNew ? 'isNew' : edgeChanged(edge) ? 'changed' : edgeOneWay(edge) ? 'oneWay' : 'plain';
   }
 
   drawEdges(context, usual) {
@@ -326,7 +333,8 @@ class Picture {
       if (!groups.has(state)) groups.set(state, []);
       groups.get(state).push(edge);
     }
-    const strokes = { failed: this.colors.down, changed: this.colors.dearer, isNew: this.colors.better, plain: this.colors.link };
+    const strokes = { failed: this.colors.down, changed: this.colors.dearer, isNew: this.colors.better, plain: this.colors.link, oneWay: this.colors.down };
+    const dashes = { failed: [5, 4], oneWay: [1.5, 4], isNew: [9, 3] };
     for (const [state, edges] of groups) {
       context.beginPath();
       for (const edge of edges) {
@@ -335,7 +343,7 @@ class Picture {
       }
       context.strokeStyle = strokes[state];
       context.lineWidth = usual < 17 ? 1 : state === 'plain' ? 1.6 : 2.2;
-      context.setLineDash(state === 'failed' ? [5, 4] : []);
+      context.setLineDash(dashes[state] ?? []);
       context.globalAlpha = state === 'plain' && hasPath ? 0.55 : 1;
       context.stroke();
       context.setLineDash([]);
@@ -503,6 +511,7 @@ class Picture {
       if (node.drained) this.hatch(context, node, x, y, radius);
       if (node.failed) this.drawCross(context, x + radius * 0.95, y - radius * 0.95, 6.4);
       if (counts) this.drawImpact(context, counts, x, y, radius * 1.3 + 3);
+      if (counts && counts.lost) this.drawBadge(context, String(counts.lost), x + radius * 1.25, y - radius * 1.25, this.colors.lost);
     }
     if (node.id === this.selected || node.id === this.hovered) {
       context.beginPath();
@@ -556,6 +565,31 @@ class Picture {
     }
   }
 
+  // A number or a word in a pill, as of the routes that are lost though somebody announces their prefix.
+  drawBadge(context, label, x, y, fill) {
+    context.font = this.colors.badge;
+    context.textAlign = 'center';
+    context.textBaseline = 'middle';
+    const width = Math.max(15, context.measureText(label).width + 8);
+    context.beginPath();
+    context.roundRect(x - width / 2, y - 7, width, 14, 7);
+    context.fillStyle = fill;
+    context.fill();
+    context.strokeStyle = this.colors.map;
+    context.lineWidth = 1.5;
+    context.stroke();
+    context.fillStyle = this.colors.map;
+    context.fillText(label, x, y + 0.5);
+  }
+
+  // How the shown path ends: in red where it does not arrive.
+  drawEnds(context, usual) {
+    for (const { id, label, isBad } of this.ends) {
+      const place = this.places.get(id), [x, y] = place ? this.onScreen(place) : [];
+      if (place) this.drawBadge(context, label, x, y - this.radius(usual) * 1.3 - 14, isBad ? this.colors.lost : this.colors.now);
+    }
+  }
+
   // Names: in the nodes where all fit, else below those where there is room, border routers and what is marked first.
   drawNames(context, usual) {
     const radius = this.radius(usual), fits = this.longest * 7 <= 2 * radius;
@@ -563,13 +597,14 @@ class Picture {
     context.textAlign = 'center';
     for (const node of [...this.nodes.values()].sort((one, other) => weight(other) - weight(one))) {
       const place = this.places.get(node.id), isRouter = node.kind === 'router';
-      if (!place || (!isRouter && usual < 46)) continue;
+      const isMarked = node.id === this.selected || node.failed || node.drained;
+      if (!place || (!isRouter && usual < 70 && !isMarked)) continue;
       const [x, y] = this.onScreen(place);
       if (x < -40 || y < -40 || x > this.width + 40 || y > this.height + 40) continue;
       const isIn = isRouter && fits, below = isIn ? 0 : (isRouter ? radius * 1.3 : radius * 0.5) + 11;
       context.font = isRouter ? this.colors.font : this.colors.small;
       context.textBaseline = 'middle';
-      if (!isIn && !this.takes(x, y + below, context.measureText(node.label).width + 4, 12) && node.id !== this.selected) continue;
+      if (!isIn && !this.takes(x, y + below, context.measureText(node.label).width + 4, 12) && !isMarked) continue;
       context.lineWidth = 3;
       context.lineJoin = 'round';
       context.strokeStyle = this.colors.map;
@@ -630,7 +665,7 @@ function colorsOf(color) {
     link: color('link'), down: color('down'), dearer: color('dearer-fill'), dearerText: color('dearer'), better: color('better-fill'),
     accent: color('accent'), faint: color('faint'), map: color('map'), cost: color('cost'), before: color('before'), now: color('now'),
     node: color('node'), nodeLine: color('node-line'), none: color('none-fill'), lost: color('lost-fill'), moved: color('moved-fill'),
-    text: color('text'), font: `620 12px ${color('sans')}`, small: `500 10.5px ${color('mono')}`, areaFont: `600 11px ${color('sans')}`,
+    text: color('text'), badge: `700 10px ${color('sans')}`, font: `620 12px ${color('sans')}`, small: `500 10.5px ${color('mono')}`, areaFont: `600 11px ${color('sans')}`,
   };
 }
 

@@ -1,41 +1,125 @@
-// What is printed, for an approver: outcome, picture, lines with their answers, what changed, and signatures.
+// What is printed, for an approver: outcome, a picture after each change, lines with their answers, what is lost, what one more
+// failure would do, what the answers rest on, and signatures.
 
-const MOST_PRINTED = 60;
+const MOST_PRINTED = 40;
+const MOST_STEPS = 6;
+const MOST_FAILURES = 8;
+
+// The lines after which the report has a picture: the last of each row of edits, and the shown line in any case.
+function stepLines() {
+  const lines = editor.lines(), isDone = (number) => editor.stateOf(number) === 'edit';
+  const last = lines.map((_, k) => k + 1).filter((number) => isDone(number) && !isDone(number + 1) && !lines.slice(0, number).some((line) => /^\s*(@[0-7]\s+)?undo\s/.test(line)));
+  return last.length > MOST_STEPS ? [...last.slice(0, MOST_STEPS - 1), last.at(-1)] : last;
+}
+
+const STEP_QUESTIONS = ['routers', 'links', 'networks', 'changes', 'loops'];
+
+// The network after each of these lines, with what changed.
+async function stepsAfter(numbers) {
+  const study = editor.lines().slice(0, numbers.at(-1) ?? 0), all = [];
+  study.forEach((line, k) => {
+    all.push({ line });
+    if (numbers.includes(k + 1)) all.push(...STEP_QUESTIONS.map((word) => ({ line: `@${branchOf(line)} ${word}`, number: k + 1, word })));
+  });
+  const answered = new Map(numbers.map((number) => [number, {}]));
+  for (const document of documentsOf(await calculator.study(asked(all.map(({ line }) => line).join('\n'))))) {
+    const { number, word } = all[document.line - 1] ?? {};
+    if (number) answered.get(number)[word] = document;
+  }
+  return numbers.map((number) => ({ number, line: study[number - 1], now: answered.get(number) }));
+}
+
+async function digestOf(content) {
+  const hash = await crypto.subtle.digest('SHA-256', content);
+  return [...new Uint8Array(hash)].map((byte) => byte.toString(16).padStart(2, '0')).join('').slice(0, 16);
+}
 
 function reportLine(line, number) {
-  const answer = state.answers.study.get(number);
+  const answer = state.answers.study.get(number), kind = editor.stateOf(number);
   const counts = state.answers.counts.get(number);
-  const said = !answer ? '' : [answer.answer === 'reply' ? '' : answer.answer, named(found(answer)), counts && answer.answer === 'ok' ? countsText(counts) : ''].filter(Boolean).join(', ');
-  return element('li', { class: answer?.answer ?? '' }, line || ' ', said ? element('span', {}, `   ${said}`) : null);
+  const said = kind === 'skipped' ? 'not run' : !answer ? '' : [answer.answer === 'reply' ? '' : answer.answer, named(found(answer)), counts && answer.answer === 'ok' ? countsText(counts) : ''].filter(Boolean).join(', ');
+  return element('li', { class: answer?.answer ?? kind }, line || ' ', said ? element('span', {}, `   ${said}`) : null);
 }
 
-function showReport() {
-  const { changes, loops } = state.answers.now;
-  const rows = (changes?.changes ?? []).slice(0, MOST_PRINTED).map((change) => row([change.change, nameOf(change.router), change.prefix ?? '', costText(change.was), costText(change.now), waysText(change.was, nameOf), waysText(change.now, nameOf)]));
-  const more = (changes?.changes.length ?? 0) - rows.length;
-  $('report').replaceChildren(
-    element('h1', {}, $('study-name').value), element('p', { class: 'facts' }, $('about').textContent),
-    element('p', { class: 'verdict' }, outcomeText()),
-    element('h2', {}, `The network ${state.shown ? `after line ${state.shown}: ${editor.lines()[state.shown - 1]}` : 'as loaded'}`),
-    element('p', { class: 'facts' }, changes ? countsText(changes.counts) || 'every table is as loaded' : '', loops ? `; loops ${loops.loops.length}, blackholes ${loops.blackholes.length}` : ''),
-    element('canvas', { id: 'printed' }),
-    element('h2', {}, 'The study, and what each line answers'), element('ol', {}, editor.text.value.trimEnd().split('\n').map((line, k) => reportLine(line, k + 1))),
-    ...(rows.length ? [element('h2', {}, 'What changes'), table(['Change', 'Router', 'Prefix', 'Cost was', 'Cost now', 'Next hop was', 'Next hop now'], rows)] : []),
+function changeSection() {
+  const all = state.answers.now.changes?.changes ?? [], losses = all.filter(({ change }) => change === 'lost' || change === 'gone');
+  const listed = (losses.length ? losses : all).slice(0, MOST_PRINTED), more = (losses.length || all.length) - listed.length;
+  if (!listed.length) return [];
+  const rows = listed.map((change) => row([change.change, nameOf(change.router), change.prefix ?? '', costText(change.was), costText(change.now), waysText(change.was, nameOf), waysText(change.now, nameOf)]));
+  return [
+    element('h2', {}, losses.length ? 'What is lost' : 'What changes'), table(['Change', 'Router', 'Prefix', 'Cost was', 'Cost now', 'Next hop was', 'Next hop now'], rows),
     more > 0 ? element('p', {}, `and ${more} more`) : '',
-    element('p', { class: 'facts' }, `Calculated by RFC 2328, section 16, from the databases as they are in the dump, by the module ${parts.hash.slice(0, 16)}. To check: ospf-study --dump ${state.dumpName}${state.names.length ? ' --names HOSTS' : ''} ${$('study-name').value}`),
+  ];
+}
+
+// What changed, router by router: those that lose most first.
+function routerSection() {
+  const counts = [...changesByRouter(state.answers.now.changes)].sort(([, one], [, other]) => other.lost - one.lost || other.gone - one.gone || other.dearer - one.dearer);
+  const rows = counts.slice(0, 12).map(([router, one]) => row([nameOf(router), ...['lost', 'gone', 'dearer', 'moved'].map((kind) => String(one[kind]))]));
+  return rows.length ? [element('h2', {}, 'By router'), table(['Router', 'Lost', 'Gone', 'Dearer', 'Moved'], rows)] : [];
+}
+
+function sweepSection() {
+  if (!state.sweep?.isDone) return [];
+  const rows = [...state.sweep.rows].sort((a, b) => b.lost - a.lost || b.gone - a.gone || b.dearer - a.dearer), losing = rows.filter(({ lost }) => lost).length;
+  return [
+    element('h2', {}, `One more failure: ${losing} of ${rows.length} lose routes`),
+    table(['Failure', 'Lost', 'Gone', 'Dearer', 'Moved', 'Loops'], rows.slice(0, MOST_FAILURES).map((one) => row([one.line, ...['lost', 'gone', 'dearer', 'moved', 'loops'].map((kind) => String(one[kind]))]))),
+  ];
+}
+
+// What the answers rest on, and the command that checks them.
+function basisSection({ dump, study }) {
+  const { isStrict, dumpName, names, baseline, audit } = state;
+  const wrong = audit?.findings?.filter((finding) => finding.class === 'wrong').map(({ kind, count }) => `${kind} ${count}`) ?? [];
+  const options = [`--dump ${dumpName}`, baseline && `--baseline ${baseline.name}`, names.length && '--names HOSTS', !isStrict && '--keep-going'].filter(Boolean).join(' ');
+  return [
+    element('h2', {}, 'What this rests on'),
+    element('p', { class: 'facts' }, `Calculated by RFC 2328, section 16, from the databases as they are in the dump, by the module ${parts.hash.slice(0, 16)}. `,
+      audit ? (wrong.length ? `The audit of the loaded database finds what may make tables differ from those of the routers: ${wrong.join(', ')}. ` : 'The audit of the loaded database is clean. ') : ''),
+    element('p', { class: 'facts' }, `Dump ${dumpName}, SHA-256 ${dump}; study ${$('study-name').value}, SHA-256 ${study}.`),
+    element('p', { class: 'facts' }, 'To check: ', element('code', {}, `ospf-study ${options} ${$('study-name').value}`)),
+  ];
+}
+
+function stepFigure({ number, line, now }) {
+  const { changes, loops } = now;
+  const said = changes?.counts ? `${countsText(changes.counts) || 'every table is as before'}; loops ${loops.loops.length}, blackholes ${loops.blackholes.length}` : '';
+  return element('figure', {}, element('figcaption', {}, `after line ${number}`, element('code', {}, line.trim())), element('canvas', { 'data-step': number }), element('p', {}, said));
+}
+
+// Writes the report and draws its pictures.
+async function makeReport() {
+  const steps = state.isLarge || $('picture').hidden ? [] : await stepsAfter(stepLines());
+  if (!state.audit) await askFor('audit', 'audit', []);
+  const sums = { dump: await digestOf(state.dump), study: await digestOf(bytes(editor.text.value)) };
+  const { changes, loops } = state.answers.now;
+  $('report').replaceChildren(
+    element('h1', {}, $('study-name').value), element('p', { class: 'facts' }, `${$('about').textContent}; ${new Date().toISOString().slice(0, 16).replace('T', ' ')} UTC`),
+    element('p', { class: `verdict ${$('outcome').className}` }, outcomeText()),
+    element('p', { class: 'facts' }, `${state.shown ? `After line ${state.shown}, ${editor.lines()[state.shown - 1].trim()}` : 'As loaded'}: `,
+      changes ? countsText(changes.counts) || `every table is as in ${baselineName()}` : 'nothing is edited', loops ? `; loops ${loops.loops.length}, blackholes ${loops.blackholes.length}` : ''),
+    element('div', { class: 'steps' }, steps.map(stepFigure)), steps.length ? '' : element('canvas', { id: 'printed' }),
+    element('h2', {}, 'The study, and what each line answers'), element('ol', {}, editor.text.value.trimEnd().split('\n').map((line, k) => reportLine(line, k + 1))),
+    ...changeSection(), ...routerSection(), ...sweepSection(), ...basisSection(sums),
     element('div', { class: 'sign' }, element('div', {}, 'Planned by, date'), element('div', {}, 'Approved by, date')),
   );
+  for (const step of steps) {
+    const graph = topology(state.answers.before, step.now);
+    spreadParallels(graph.edges);
+    drawPrinted($('report').querySelector(`[data-step="${step.number}"]`), { ...graph, impact: changesByRouter(step.now.changes), routeCount: routeCount(step.now.changes), height: 620 });
+  }
+  if (!steps.length && !$('picture').hidden) drawPrinted($('printed'), { height: 550 });
 }
 
-// The picture of the report: in light colors, as large as the paper.
-function drawPrinted() {
-  const canvas = $('printed');
-  if (!canvas || !picture.places.size || $('picture').hidden) return;
-  const { theme } = document.documentElement.dataset, own = ['canvas', 'view', 'width', 'height', 'ratio', 'selected', 'hovered', 'colors'];
+// A picture of the report, in light colors, of the network that is shown or of another one with the same places.
+function drawPrinted(canvas, { height, ...shown }) {
+  const { theme } = document.documentElement.dataset;
+  const own = ['canvas', 'view', 'width', 'height', 'ratio', 'selected', 'hovered', 'colors', 'nodes', 'edges', 'impact', 'routeCount', 'paths', 'ends', 'mode'];
   const kept = Object.fromEntries(own.map((name) => [name, picture[name]]));
   document.documentElement.dataset.theme = 'light';
-  [canvas.width, canvas.height] = [2000, 1100];
-  Object.assign(picture, { width: 1000, height: 550, ratio: 2, selected: null, hovered: null, colors: null });
+  [canvas.width, canvas.height] = [2000, 2 * height];
+  Object.assign(picture, { width: 1000, height, ratio: 2, selected: null, hovered: null, colors: null, paths: { before: [], now: [] }, ends: [], mode: 'impact', ...shown });
   picture.fit();
   const context = canvas.getContext('2d');
   context.setTransform(2, 0, 0, 2, 0, 0);
@@ -45,4 +129,8 @@ function drawPrinted() {
   picture.draw();
 }
 
-addEventListener('beforeprint', drawPrinted);
+async function printReport() {
+  if (!state.graph) return;
+  await makeReport();
+  print();
+}

@@ -5,14 +5,16 @@ const AT_A_TIME = 8;
 
 function sweepLines(kind) {
   const { nodes, edges } = state.graph, present = [...nodes.values()].filter((node) => !node.failed);
-  const links = new Map([...edges.values()].filter((edge) => edge.kind === 'link' && !edgeFailed(edge)).map((edge) => [CUTS.link(edge), edge.key]));
+  const cut = (edge) => edgeOneWay(edge) ? cutLines(edge)[0] : CUTS.link(edge);
+  const links = new Map([...edges.values()].filter((edge) => edge.kind === 'link' && !edgeFailed(edge)).map((edge) => [cut(edge), edge.key]));
   const networks = present.filter((node) => node.kind === 'network').map((node) => [`fail-net ${node.area} ${node.address}`, node.id]);
   const routers = present.filter((node) => node.kind === 'router').map((node) => [`fail-router ${nameOf(node.id)}`, node.id]);
   return { links: [...links], networks, routers, all: [...links, ...networks, ...routers] }[kind];
 }
 
 async function sweep() {
-  const lines = sweepLines(state.sweepKind), before = editor.lines().slice(0, state.shown);
+  const before = editor.lines().slice(0, state.shown);
+  let lines = sweepLines(state.sweepKind);
   const run = { rows: [], count: lines.length, worker: new Calculator(parts) };
   state.sweep = run;
   picture.mode = 'sweep';
@@ -20,6 +22,14 @@ async function sweep() {
     const some = lines.slice(at, at + AT_A_TIME);
     const study = [...before, inBranch('changes'), ...some.flatMap(([line]) => [line, 'changes', 'loops', 'undo 1'].map(inBranch))];
     const documents = documentsOf(await run.worker.study(asked(study.join('\n')))).filter(({ line }) => line > before.length);
+    const refused = some.filter((_, k) => documents[4 * k + 1]?.answer !== 'ok');
+    // What is refused is left out, and the others are asked for again: what took it back took back something else.
+    if (refused.length) {
+      lines = lines.filter((line) => !refused.includes(line));
+      run.count = lines.length;
+      at -= AT_A_TIME;
+      continue;
+    }
     run.rows.push(...some.map(([line, key], k) => sweepRow(line, key, documents[0].counts, documents.slice(4 * k + 1, 4 * k + 5))));
     if (state.sweep === run && state.tab === 'Sweep') showTabs();
     if (state.sweep === run) showPicture();
@@ -32,7 +42,20 @@ async function sweep() {
 // What a failure does by itself: its counts without those of before.
 function sweepRow(line, key, first, [, changes, loops]) {
   const counts = Object.fromEntries(['lost', 'gone', 'dearer', 'moved'].map((kind) => [kind, Math.max(0, changes.counts[kind] - first[kind])]));
-  return { line, key, ...counts, loops: loops.loops.length };
+  return { line, key, ...counts, loops: loops.loops.length, lostInAll: changes.counts.lost };
+}
+
+// More failures than this are not written into the study.
+const MOST_WRITTEN = 60;
+
+// A sweep as lines of the study: each failure, what it may lose, and that it is taken back.
+function sweepExpectations(rows) {
+  return rows.flatMap(({ line, lostInAll }) => [line, `expect lost ${lostInAll ? `<= ${lostInAll}` : 'none'}`, 'undo 1']).map(inBranch);
+}
+
+// Shows in the picture what a row is about, while the pointer or the keys are at it.
+function pointAt(key) {
+  return { onpointerenter: () => picture.hover(key), onpointerleave: () => picture.hover(null), onfocus: () => picture.hover(key), onblur: () => picture.hover(null) };
 }
 
 // What is drawn on links while a sweep is shown.
@@ -59,8 +82,10 @@ function showSweep() {
   const said = run.isDone ? [element('span', { class: 'dim' }, `${rows.length} failures: `, element('b', { class: losing ? 'lost' : '' }, `${losing} lose routes`))]
     : [element('progress', { max: run.count, value: rows.length, 'aria-label': 'Progress' }), element('span', { class: 'dim' }, `${rows.length} of ${run.count}`), button('Stop', () => { run.isStopped = true; showTabs(); })];
   const cell = (count, kind) => element('span', { class: count ? kind : 'faint' }, String(count));
-  return [chips(kinds, run.isDone || run.isStopped ? start : null, ...said), scroll(table(['Failure', 'What it does', 'Lost', 'Gone', 'Dearer', 'Moved', 'Loops'], rows.map((one) => row(
+  const write = run.isDone && rows.length <= MOST_WRITTEN
+    ? [element('span', { class: 'grow' }), button('Expect this', () => add(...sweepExpectations(rows)), { title: 'Adds each failure, what it may lose, and that it is taken back' })] : [];
+  return [chips(kinds, run.isDone || run.isStopped ? start : null, ...said, ...write), scroll(table(['Failure', 'What it does', 'Lost', 'Gone', 'Dearer', 'Moved', 'Loops'], rows.map((one) => row(
     [element('span', { class: 'mono' }, one.line), bar(one, most), cell(one.lost, 'lost'), cell(one.gone, 'lost'), cell(one.dearer, 'dearer'), cell(one.moved, 'moved'), cell(one.loops, 'lost')],
-    () => { add(inBranch(one.line)); }, { 'data-line': one.line },
+    () => { add(inBranch(one.line)); }, { 'data-line': one.line, ...pointAt(one.key) },
   ))))];
 }

@@ -64,7 +64,8 @@ function stopOnce(pane) {
 }
 
 function table(heads, rows, attributes = {}) {
-  return element('table', attributes, element('thead', {}, element('tr', {}, heads.map((head) => element('th', { scope: 'col' }, head)))), element('tbody', {}, rows));
+  const headOf = (head) => head instanceof Element ? head : element('th', { scope: 'col' }, head);
+  return element('table', attributes, element('thead', {}, element('tr', {}, heads.map(headOf))), element('tbody', {}, rows));
 }
 
 const scroll = (...children) => element('div', { class: 'scroll' }, children);
@@ -90,8 +91,8 @@ function isShownChange({ change, router, prefix }) {
 function showChanges() {
   const { changes } = state.answers.now;
   if (state.isLarge && !changes && !state.table) return 'Choose a router (/): with this number of routers, its own changes alone are calculated.';
-  if (!changes?.changes.length) return state.isLarge ? `${nameOf(state.table)} uses what it used in the loaded database.` : 'No router uses anything else than in the loaded database.';
-  const kept = changes.changes.filter(isShownChange);
+  if (!changes?.changes.length) return state.isLarge ? `${nameOf(state.table)} uses what it used in ${baselineName()}.` : `No router uses anything else than in ${baselineName()}.`;
+  const kept = inOrder(changes.changes.filter(isShownChange));
   const chosen = KINDS.filter((kind) => changes.counts[kind]).map((kind) => button([`${SIGNS[kind]} ${kind} `, element('b', {}, String(changes.counts[kind]))], () => {
     state.kind = state.kind === kind ? null : kind;
     showCounts();
@@ -104,15 +105,51 @@ function showChanges() {
   return [bar, element('div', { class: 'beside' }, scroll(changeTable(kept)), matrix(changes.changes))];
 }
 
+// A cost as a number, to sort by: a route of type 2 after all others, and none at the end.
+const costNumber = (route) => !route ? Infinity : route.kind === 'own' ? route.metric : route.kind === 'ext2' ? 2 ** 24 * (route.metric + 1) + route.cost : route.cost;
+const addressNumber = (address) => address.split(/[./]/).reduce((sum, part) => 256 * sum + Number(part), 0);
+const added = ({ was, now }) => was && now && was.kind === now.kind ? costNumber(now) - costNumber(was) : 0;
+
+// What the columns of changes are sorted by.
+const COLUMNS = {
+  Change: ({ change }) => KINDS.indexOf(change), Router: ({ router }) => addressNumber(router), Prefix: ({ prefix }) => prefix ? addressNumber(prefix) : -1,
+  'Cost was': ({ was }) => costNumber(was), 'Cost now': ({ now }) => costNumber(now), Added: added,
+};
+
+// The head of a column, whose button sorts by it, and at the second click the other way round.
+function sortedHead(column) {
+  const { sort } = state, isSorted = sort.column === column;
+  const act = () => {
+    state.sort = { column, isDown: isSorted && !sort.isDown };
+    showTabs();
+    $('pane').querySelector(`[data-column="${column}"]`).focus();
+  };
+  return element('th', { scope: 'col', 'aria-sort': isSorted ? (sort.isDown ? 'descending' : 'ascending') : null },
+    element('button', { type: 'button', 'data-column': column, onclick: act }, `${column}${isSorted ? (sort.isDown ? ' ↓' : ' ↑') : ''}`));
+}
+
+function inOrder(changes) {
+  const { column, isDown } = state.sort, key = COLUMNS[column];
+  if (!key) return changes;
+  return [...changes].sort((one, other) => {
+    const [left, right] = [key(one), key(other)];
+    return left === right ? 0 : (left < right ? -1 : 1) * (isDown ? -1 : 1);
+  });
+}
+
+const CHANGE_HEADS = () => [...Object.keys(COLUMNS).map(sortedHead), 'Next hop was', 'Next hop now'];
+
 function changeRow({ change, router, prefix, now, was }) {
+  const more = added({ was, now });
   const cells = [
-    element('b', { class: change }, `${SIGNS[change]} ${change}`), nameOf(router), prefix ?? '', costText(was), costText(now), waysText(was, nameOf), waysText(now, nameOf),
+    element('b', { class: change }, `${SIGNS[change]} ${change}`), nameOf(router), prefix ?? '', costText(was), costText(now), more ? element('span', { class: change }, `${more > 0 ? '+' : '−'}${Math.abs(more)}`) : '',
+    waysText(was, nameOf), waysText(now, nameOf),
   ];
   return row(cells, prefix ? () => showPath(router, addressIn(prefix)) : () => select(router));
 }
 
 function changeTable(kept) {
-  const heads = ['Change', 'Router', 'Prefix', 'Cost was', 'Cost now', 'Next hop was', 'Next hop now'];
+  const heads = CHANGE_HEADS();
   if (state.group === 'flat') return table(heads, [...kept.slice(0, MOST_ROWS).map(changeRow), rest(kept.length, heads.length)]);
   const groups = new Map();
   for (const change of kept) {
@@ -143,14 +180,34 @@ function groupRow(key, list, isOpen, columns) {
 
 const rest = (count, columns) => count > MOST_ROWS ? element('tr', {}, element('td', { colspan: columns, class: 'dim' }, `and ${count - MOST_ROWS} more: filter by router or prefix`)) : null;
 
-// Routers against the prefixes that changed for one of them: the shape of the damage.
+const FILLS = { lost: 'lost-fill', gone: 'lost-fill', dearer: 'dearer-fill', type: 'moved-fill', moved: 'moved-fill', cheaper: 'better-fill', gained: 'better-fill' };
+
+// Routers against the prefixes that changed for one of them: the shape of the damage. A cell shows its path.
 function matrix(changes) {
   const prefixes = [...new Set(changes.map(({ prefix }) => prefix).filter(Boolean))], routers = [...state.graph.nodes.values()].filter((node) => node.kind === 'router');
   if (routers.length > 60 || prefixes.length > 200 || !prefixes.length) return null;
-  const canvas = element('canvas', {}), at = new Map(changes.map((change) => [`${change.router} ${change.prefix}`, change.change]));
+  const at = new Map(changes.map((change) => [`${change.router} ${change.prefix}`, change]));
   const names = Math.min(90, 10 + 6.6 * Math.max(...routers.map(({ label }) => label.length)));
-  const width = Math.max(2, Math.min(20, 300 / prefixes.length)), height = Math.max(3, Math.min(19, 190 / routers.length)), ratio = devicePixelRatio || 1;
-  const style = getComputedStyle(document.documentElement), color = (name) => style.getPropertyValue(`--${name}`).trim();
+  const width = Math.max(2, Math.min(20, 300 / prefixes.length)), height = Math.max(3, Math.min(19, 190 / routers.length));
+  const canvas = element('canvas', {}), form = { routers, prefixes, at, names, width, height };
+  drawMatrix(canvas, form);
+  const cellAt = ({ offsetX, offsetY }) => {
+    const [x, y] = [Math.floor((offsetX - names) / width), Math.floor(offsetY / height)];
+    return prefixes[x] && routers[y] ? { router: routers[y], prefix: prefixes[x] } : null;
+  };
+  canvas.onpointermove = (event) => {
+    const cell = cellAt(event), change = cell && at.get(`${cell.router.id} ${cell.prefix}`);
+    canvas.title = cell ? `${cell.router.label} ${cell.prefix}: ${change ? `${change.change}, cost ${costText(change.was)} → ${costText(change.now)}` : 'unchanged'}` : '';
+  };
+  canvas.onclick = (event) => {
+    const cell = cellAt(event);
+    if (cell) showPath(cell.router.id, addressIn(cell.prefix));
+  };
+  return element('div', { class: 'matrix', 'aria-hidden': 'true' }, element('h3', {}, 'router × changed prefix'), canvas);
+}
+
+function drawMatrix(canvas, { routers, prefixes, at, names, width, height }) {
+  const style = getComputedStyle(document.documentElement), color = (name) => style.getPropertyValue(`--${name}`).trim(), ratio = devicePixelRatio || 1;
   [canvas.width, canvas.height] = [(names + width * prefixes.length) * ratio, height * routers.length * ratio];
   [canvas.style.width, canvas.style.height] = [`${canvas.width / ratio}px`, `${canvas.height / ratio}px`];
   const context = canvas.getContext('2d');
@@ -158,16 +215,26 @@ function matrix(changes) {
   context.font = `500 ${Math.min(11, height)}px ${color('sans')}`;
   context.textAlign = 'right';
   context.textBaseline = 'middle';
-  const fills = { lost: 'lost-fill', gone: 'lost-fill', dearer: 'dearer-fill', type: 'moved-fill', moved: 'moved-fill', cheaper: 'better-fill', gained: 'better-fill' };
   routers.forEach((node, y) => {
     context.fillStyle = color(node.failed ? 'down' : 'dim');
     if (height >= 8) context.fillText(node.label, names - 6, (y + 0.5) * height);
     prefixes.forEach((prefix, x) => {
-      context.fillStyle = color(fills[at.get(`${node.id} ${prefix}`)] ?? 'none-fill');
-      if (!node.failed) context.fillRect(names + x * width, y * height, width - (width > 5), height - (height > 5));
+      const kind = at.get(`${node.id} ${prefix}`)?.change, left = names + x * width, top = y * height;
+      context.fillStyle = color(FILLS[kind] ?? 'none-fill');
+      if (!node.failed) context.fillRect(left, top, width - (width > 5), height - (height > 5));
+      if (width > 8 && height > 8 && (kind === 'lost' || kind === 'gone' || kind === 'moved')) drawSign(context, kind, left + width / 2 - 0.5, top + height / 2 - 0.5, color('panel'));
     });
   });
-  return element('div', { class: 'matrix', 'aria-hidden': 'true' }, element('h3', {}, 'router × changed prefix'), canvas);
+}
+
+// A cross on a cell of a lost route, and a dash on one of a route that moved, so that color is not all.
+function drawSign(context, kind, x, y, stroke) {
+  context.beginPath();
+  if (kind === 'moved') context.moveTo(x - 3.5, y), context.lineTo(x + 3.5, y);
+  else context.moveTo(x - 3, y - 3), context.lineTo(x + 3, y + 3), context.moveTo(x + 3, y - 3), context.lineTo(x - 3, y + 3);
+  context.strokeStyle = stroke;
+  context.lineWidth = 1.5;
+  context.stroke();
 }
 
 // What is seen, as lines that expect it.
@@ -188,7 +255,7 @@ const routeText = (route) => !route ? '' : `${route.prefix} ${route.kind === 'ow
 function pathSide(title, path, other, kind) {
   const seen = new Set((other?.steps ?? []).map((one) => `${one.router} ${one.to}`));
   const rows = (path?.steps ?? []).map((one, k, steps) => row(
-    [nameOf(one.router), one.to ? nameOf(one.to) : one.end, one.out ?? '', one.cost ?? '', costText(one.route ?? null), routeText(one.route)],
+    [k && steps[k - 1].router === one.router ? 'or' : nameOf(one.router), one.to ? nameOf(one.to) : one.end, one.out ?? '', one.cost ?? '', costText(one.route ?? null), routeText(one.route)],
     null,
     { class: `${seen.has(`${one.router} ${one.to}`) ? '' : 'differs'}${k && steps[k - 1].router === one.router ? ' alternative' : ''}${one.to ? '' : ` end${one.end === 'blackhole' ? ' bad' : ''}`}` },
   ));
@@ -206,10 +273,16 @@ function showPathTab() {
     const [from, to] = ['from', 'to'].map((name) => event.target.elements[name].value.trim());
     if (from && to) showPath(idOf(from), to);
   } }, element('label', {}, 'From ', element('input', { name: 'from', list: 'found', size: 12, value: path ? nameOf(path.from) : '' })),
-  element('label', {}, ' to address ', element('input', { name: 'to', size: 16, value: path?.to ?? '' })), element('button', { class: 'button' }, 'Show'), element('span', { class: 'grow' }),
+  element('label', {}, ' to address ', element('input', { name: 'to', size: 16, value: path?.to ?? '' })), element('button', { class: 'button' }, 'Show'), path ? button('⇄ Way back', wayBack) : null, element('span', { class: 'grow' }),
   path ? [button('Expect delivered', () => add(inBranch(`expect path ${nameOf(path.from)} ${path.to} delivered`))), button('Expect this way', () => add(...thisWay(now.path).map(inBranch)))] : null);
   if (!path) return [form, 'Choose a router and an address: the way of a packet before and now, in the picture too.'];
   return [form, element('div', { class: 'beside' }, pathSide('As loaded', before.path, now.path, 'before'), pathSide(state.shown ? `After line ${state.shown}` : 'Now', now.path, before.path, 'now'))];
+}
+
+// The path from the router at which the shown one ends, to where it began.
+function wayBack() {
+  const { now, before } = state.answers, last = [now, before].map(({ path }) => path?.steps?.find(({ to }) => !to)?.router).find(Boolean);
+  if (last) showPath(last, addressAt(state.path.from));
 }
 
 // Lines that expect a packet to pass the routers that it passes.
@@ -268,18 +341,53 @@ function showElements() {
   return [scroll(table(['What', 'Name', 'Area', 'Cost', ''], [...listed.slice(0, MOST_ROWS), listed.length > MOST_ROWS ? element('tr', {}, element('td', { colspan: 5, class: 'dim' }, `and ${listed.length - MOST_ROWS} more: find them by name (/)`)) : null]))];
 }
 
+// What the audit says of the loaded database, or how the network after the shown line differs from it, by meaning.
 function showAudit() {
+  const kinds = [['findings', 'Findings'], ['differences', 'Differences']];
+  const which = switched('What is listed', kinds, state.audited, (value) => { state.audited = value; showTabs(); }, 'audited');
+  return state.audited === 'findings' ? showFindings(which) : showDifferences(which);
+}
+
+function showFindings(which) {
   if (!state.audit) {
-    calculator.study(asked('audit\n')).then((answer) => {
-      [state.audit] = documentsOf(answer);
-      if (state.tab === 'Audit') showTabs();
-    });
-    return 'Calculating.';
+    askFor('audit', 'audit', []);
+    return [chips(which), 'Calculating.'];
   }
-  const bar = chips(element('span', { class: 'dim' }, 'what of the loaded database the answers may not be trusted for'), element('span', { class: 'grow' }), button('Expect an audit without findings', () => add('expect audit clean')));
+  const bar = chips(which, element('span', { class: 'dim' }, 'what of the loaded database the answers may not be trusted for'), element('span', { class: 'grow' }), button('Expect an audit without findings', () => add('expect audit clean')));
   if (!state.audit.findings.length) return [bar, 'Clean: nothing in the database makes a table wrong.'];
-  const rows = state.audit.findings.map((finding) => row([element('b', { class: finding.class === 'wrong' ? 'lost' : 'dim' }, finding.class), finding.kind, finding.count, finding.first, finding.meaning, finding.action]));
-  return [bar, scroll(table(['Class', 'Kind', 'Count', 'First', 'Meaning', 'What to do'], rows))];
+  const sorted = [...state.audit.findings].sort((one, other) => (other.class === 'wrong') - (one.class === 'wrong'));
+  const rows = sorted.map((finding) => {
+    const router = routerIn(finding.first);
+    return row([element('b', { class: finding.class === 'wrong' ? 'lost' : 'dim' }, finding.class), finding.kind, finding.count, named(finding.first), finding.meaning, finding.action], router ? () => select(router) : null);
+  });
+  return [bar, scroll(table(['Class', 'Kind', 'Count', 'First', 'Meaning', 'What to do'], rows, { class: 'wraps' }))];
+}
+
+// The router that a place of the database is about.
+const routerIn = (place) => (place.match(/\d+\.\d+\.\d+\.\d+/g) ?? []).find((one) => state.graph.nodes.has(one)) ?? null;
+
+function showDifferences(which) {
+  if (!state.differences) {
+    askFor('differences', inBranch('differences'), editor.lines().slice(0, state.shown));
+    return [chips(which), 'Calculating.'];
+  }
+  const { differences } = state.differences, bar = chips(which, element('span', { class: 'dim' }, `what the LSAs say after the shown line, and not in ${baselineName()}`));
+  if (!differences?.length) return [bar, `No LSA differs from ${baselineName()}.`];
+  const rows = differences.slice(0, MOST_ROWS).map(({ change, area, lsa, what }) => {
+    const router = lsa && state.graph.nodes.has(lsa.router) ? lsa.router : null;
+    return row([change, area ?? '', lsa ? `${LSA_TYPES[lsa.type] ?? `type ${lsa.type}`} ${lsa.id}` : '', lsa ? nameOf(lsa.router) : '', named(what ?? '')], router ? () => select(router) : null);
+  });
+  return [bar, scroll(table(['Change', 'Area', 'LSA', 'By', 'What'], [...rows, rest(differences.length, 5)], { class: 'wraps' }))];
+}
+
+const LSA_TYPES = { 1: 'router', 2: 'network', 3: 'summary', 4: 'asbr-summary', 5: 'external' };
+
+// Asks a question after some lines, and shows its answer in the tab.
+async function askFor(key, line, lines) {
+  const turn = state.asked, documents = documentsOf(await calculator.study(asked([...lines, line].join('\n'))));
+  if (turn !== state.asked) return;
+  state[key] = documents.findLast(({ word }) => word === key) ?? { findings: [], differences: [] };
+  if (state.tab === 'Audit') showTabs();
 }
 
 // What was found in the files that the dump was made of.

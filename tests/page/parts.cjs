@@ -1,0 +1,120 @@
+// Checks parts of the page that need no browser: the grammar of lines, what becomes of lines as others come and go, what files
+// are, which lines let links fail, and the contrast of the colors. node parts.cjs HELP, where HELP has the reply of ospf-study to `help`, in JSON.
+// The last line is `N passed, M failed`.
+'use strict';
+const fs = require('node:fs');
+const path = require('node:path');
+const vm = require('node:vm');
+
+const source = path.join(__dirname, '..', '..', 'web', 'src'), read = (name) => fs.readFileSync(path.join(source, name), 'utf8');
+const scripts = ['model.js', 'grammar.js', 'editor.js', 'files.js', 'card.js', 'sweep.js'].map(read).join('\n');
+const page = 'const text = (array) => new TextDecoder().decode(array), state = {}, nameOf = (router) => router;';
+const names = ['Grammar', 'lineMoves', 'kindOf', 'topology', 'edgeOneWay', 'edgeFailed', 'sweepLines', 'cutLines', 'state'];
+const { Grammar, lineMoves, kindOf, topology, edgeOneWay, edgeFailed, sweepLines, cutLines, state } = vm.runInThisContext(`'use strict'; (() => { ${page} ${scripts}; return { ${names} }; })()`);
+let passed = 0, failed = 0;
+
+function check(name, got, wanted) {
+  if (JSON.stringify(got) === JSON.stringify(wanted)) passed++;
+  else {
+    failed++;
+    console.log(`${name}: ${JSON.stringify(got)}, and not ${JSON.stringify(wanted)}`);
+  }
+}
+
+// What may stand after words, and which lines are whole, by docs/STUDY.md, 5.
+function checkGrammar(help) {
+  const grammar = new Grammar(help), after = (line) => grammar.next(line.split(' ')).map(({ token }) => token).join(' ');
+  check('all words', grammar.next([]).length, help.filter(({ meaning }) => meaning).length);
+  check('edits', [after('cost'), after('cost 0.0.0.0'), after('cost 0.0.0.0 r1'), after('cost 0.0.0.0 r1 r2'), after('cost 0.0.0.0 r1 r2 1')], ['AREA', 'ROUTER', 'LINK', 'METRIC', '']);
+  check('what may be left out', [after('links'), after('routes r1'), after('expect microloops')], ['ROUTER', 'ADDRESS', 'COUNT none']);
+  check('conditions', [after('expect lost'), after('expect not lost only'), after('expect lost only 10.0.0.0/8'), after('expect path r1 10.1.5.1')], ['none <= only', 'PREFIX..', 'PREFIX..', 'via avoids delivered']);
+  check('parts of a condition', [after('expect route r1 10.0.0.0/8'), after('expect route r1 10.0.0.0/8 inter'), after('expect route r1 10.0.0.0/8 via r2,r3'), after('expect route r1 10.0.0.0/8 cost')], ['KIND via cost', 'via cost', 'cost', 'OP']);
+  check('not', [after('expect').split(' ').at(-1), after('expect not').includes('not '), after('nonsense')], ['not', false, '']);
+  const whole = ['refresh', 'undo 1', 'expect lost none', 'expect lost only 10.0.0.0/8 10.1.0.0/16', 'expect path r1 10.1.5.1 avoids r2', 'links', 'links r1'];
+  const parts = ['undo', 'expect', 'expect lost', 'expect lost only', 'expect path r1 10.1.5.1 via', 'cost 0.0.0.0 r1 r2', 'refresh 1', 'nonsense'];
+  check('whole lines', [...whole, ...parts].map((line) => grammar.isWhole(line.split(' '))), [...whole.map(() => true), ...parts.map(() => false)]);
+}
+
+// Where lines go, and the line that takes the place of one that is gone.
+function checkLines() {
+  const moves = (old, lines) => {
+    const { moved, nearest } = lineMoves(old, lines);
+    return old.map((_, k) => [moved(k + 1), nearest(k + 1)]);
+  };
+  check('a line above', moves(['a', 'b'], ['x', 'a', 'b']), [[2, 2], [3, 3]]);
+  check('a line below', moves(['a', 'b'], ['a', 'b', 'x']), [[1, 1], [2, 2]]);
+  check('a line that is gone', moves(['a', 'b', 'c'], ['a', 'c']), [[1, 1], [null, 1], [2, 2]]);
+  check('a line that is written again', moves(['a', 'b', 'c'], ['a', 'x', 'c']), [[1, 1], [null, 2], [3, 3]]);
+  check('a line in two', moves(['a', 'bc'], ['a', 'b', 'c']), [[1, 1], [null, 2]]);
+  check('no line of before', moves(['a'], ['x', 'y']), [[null, 1]]);
+}
+
+function checkKinds() {
+  const kind = (name, content) => kindOf(name, typeof content === 'string' ? new TextEncoder().encode(content) : Uint8Array.from(content));
+  check('a dump', kind('net', 'OSWP\u0001\u0001'), 'dump');
+  check('a study by its name', kind('a.study', ''), 'study');
+  check('a study by its lines', kind('plan.txt', '# plan\nexpect lost none\n'), 'study');
+  check('names', [kind('hosts', '1.1.1.1 r1\n'), kind('names.txt', '# of routers\n1.1.1.1 r1\n::1 localhost\n')], ['names', 'names']);
+  check('a list', kind('r1.list', '       Router Link States (Area 0.0.0.0)\n\nLink ID         ADV Router      Age\n3.3.3.3 3.3.3.3 2\n'), 'list');
+  check('a print', kind('r1.txt', '  OSPF Router with ID (1.1.1.1)\n\n  LS age: 5\n  Link ID  ADV Router\n'), 'capture');
+  check('a packet capture', kind('a.pcap', [0xd4, 0xc3, 0xb2, 0xa1, 2, 0, 4, 0]), 'capture');
+}
+
+const router = (id) => ({ router: id, name: null, areas: ['0.0.0.0'], roles: [] });
+const end = (from, to, data, peer) => ({ router: from, area: '0.0.0.0', number: 1, type: 'point-to-point', cost: 10, to, data, peers: [peer] });
+const LINK = [end('1.1.1.1', '2.2.2.2', '10.0.0.1', '10.0.0.2'), end('2.2.2.2', '1.1.1.1', '10.0.0.2', '10.0.0.1')];
+const PARALLEL = [end('1.1.1.1', '2.2.2.2', '10.0.1.1', '10.0.1.2'), end('2.2.2.2', '1.1.1.1', '10.0.1.2', '10.0.1.1')];
+const networkOf = (links) => ({ routers: { routers: ['1.1.1.1', '2.2.2.2'].map(router) }, links: { links }, networks: { networks: [] } });
+
+// A link of which one end is gone is one-way; it failed where both are gone, or a router.
+function checkLinks() {
+  const before = networkOf(LINK), stateOf = (now) => [...topology(before, now).edges.values()].map((edge) => edgeFailed(edge) ? 'failed' : edgeOneWay(edge) ? 'one way' : 'plain').join(' ');
+  check('links', [LINK, LINK.slice(1), []].map((left) => stateOf({ links: { links: left } })), ['plain', 'one way', 'failed']);
+  check('a link of a failed router', stateOf({ links: { links: LINK.slice(1) }, routers: { routers: [router('2.2.2.2')] } }), 'failed');
+}
+
+// The lines that let links and routers fail: none for what has failed, and one of two parallel links by its ends.
+function checkFailures() {
+  const failures = (before, now) => {
+    state.graph = topology(before, now);
+    return sweepLines('all').map(([line]) => line);
+  };
+  const routers = ['fail-router 1.1.1.1', 'fail-router 2.2.2.2'];
+  check('failures', failures(networkOf(LINK), {}), ['fail-link 0.0.0.0 1.1.1.1 2.2.2.2', ...routers]);
+  check('after a failure', failures(networkOf(LINK), { links: { links: LINK.slice(1) }, routers: { routers: [router('2.2.2.2')] } }), routers.slice(1));
+  check('of a one-way link', failures(networkOf(LINK), { links: { links: LINK.slice(1) } }), ['drop-link 0.0.0.0 2.2.2.2 10.0.0.2', ...routers]);
+  check('of parallel links', failures(networkOf([...LINK, ...PARALLEL]), {}), ['fail-link 0.0.0.0 1.1.1.1 2.2.2.2', ...routers]);
+  const cuts = [...state.graph.edges.values()].map(cutLines);
+  check('one of them', cuts, [['drop-link 0.0.0.0 1.1.1.1 10.0.0.1', 'drop-link 0.0.0.0 2.2.2.2 10.0.0.2'], ['drop-link 0.0.0.0 1.1.1.1 10.0.1.1', 'drop-link 0.0.0.0 2.2.2.2 10.0.1.2']]);
+}
+
+// The colors of texts on what they stand on, in both themes: 4.5 to 1, as WCAG 2.1 has it for texts.
+const STANDS = {
+  'bg panel raised sunk map': 'text dim faint lost dearer moved better', 'panel raised': 'accent ok bad refused verb expect name number', map: 'cost down now dearer',
+  'accent-bg': 'accent text dim', 'ok-bg': 'ok', 'bad-bg': 'bad text verb expect name number faint', 'refused-bg': 'refused text verb expect name number faint', accent: 'on-accent',
+};
+
+function luminance(color) {
+  const digits = color.length === 4 ? [...color.slice(1)].map((digit) => digit + digit) : color.slice(1).match(/../g);
+  const [red, green, blue] = digits.map((pair) => parseInt(pair, 16) / 255).map((part) => part <= 0.03928 ? part / 12.92 : ((part + 0.055) / 1.055) ** 2.4);
+  return 0.2126 * red + 0.7152 * green + 0.0722 * blue;
+}
+
+function checkContrast() {
+  const style = read('style.css'), tokens = (block) => Object.fromEntries([...block.matchAll(/--([a-z0-9-]+): (#[0-9a-f]{3,6});/g)].map(([, name, value]) => [name, value]));
+  const [light, dark] = [/:root \{([^}]*)\}/, /:root\[data-theme=dark\] \{([^}]*)\}/].map((pattern) => tokens(pattern.exec(style)[1]));
+  const faint = [['light', light], ['dark', { ...light, ...dark }]].flatMap(([theme, colors]) => Object.entries(STANDS).flatMap(([grounds, texts]) => grounds.split(' ').flatMap((ground) => texts.split(' ').flatMap((text) => {
+    const [one, other] = [luminance(colors[ground]), luminance(colors[text])].sort((a, b) => b - a), ratio = (one + 0.05) / (other + 0.05);
+    return ratio < 4.5 ? [`${theme} ${text} on ${ground} ${ratio.toFixed(2)}`] : [];
+  }))));
+  check('colors that are too faint', faint, []);
+}
+
+checkGrammar(JSON.parse(fs.readFileSync(process.argv[2], 'utf8').split('\n')[0]).words);
+checkLines();
+checkKinds();
+checkLinks();
+checkFailures();
+checkContrast();
+console.log(`the parts: ${passed} passed, ${failed} failed`);
+process.exit(failed || !passed ? 1 : 0);
