@@ -462,6 +462,7 @@ function findOrDo(word) {
   else if (EDITS.has(wordOf(word)) || QUESTIONS.has(wordOf(word))) add(word);
   else if (word) toast(`Neither a router or a network nor a line of the study: ${word}`);
   $('find').value = '';
+  $('picture').focus();
 }
 
 // A border that is dragged, or moved by arrow keys.

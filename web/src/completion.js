@@ -131,7 +131,13 @@ function findOptions(query) {
   const whole = state.grammar?.isWhole(query.trim().split(/\s+/)) ? [{ word: query.trim(), about: 'add this line', lines: [query.trim()], act: () => add(inBranch(query.trim())) }] : [];
   const line = words.length ? completions(query) : null;
   const isLine = /\s/.test(query) && (line?.options.length || whole.length);
-  return { part: line?.part ?? query, options: isLine ? [...whole, ...line.options, ...actions] : [...nodes, ...actions, ...(line?.options ?? []), ...commands] };
+  const options = isLine ? [...whole, ...line.options, ...actions] : [...nodes, ...actions, ...(line?.options ?? []), ...commands];
+  // The keys of what is selected work in the picture.
+  const inPicture = (act) => () => {
+    $('picture').focus();
+    act();
+  };
+  return { part: line?.part ?? query, options: options.map((option) => option.act ? { ...option, act: inPicture(option.act) } : option) };
 }
 
 // Says beside what is suggested what its lines would change.

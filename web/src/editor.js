@@ -43,7 +43,8 @@ class Editor {
   // Another text, whose lines have no answers yet.
   set(text) {
     this.text.value = text;
-    Object.assign(this, { last: this.lines(), answers: new Map(), counts: new Map(), stopped: 0 });
+    Object.assign(this, { last: this.lines(), answers: new Map(), counts: new Map(), stopped: 0, isRunning: true });
+    this.draw();
   }
 
   onKey(event) {

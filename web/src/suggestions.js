@@ -15,7 +15,7 @@ class Suggestions {
     for (const [name, value] of Object.entries({ 'aria-autocomplete': 'list', 'aria-controls': id, 'aria-haspopup': 'listbox' })) field.setAttribute(name, value);
     field.addEventListener('input', () => this.open());
     field.addEventListener('blur', () => this.close());
-    field.addEventListener('scroll', () => this.close());
+    field.addEventListener('scroll', () => { if (this.isOpen) this.put(); });
     field.addEventListener('keydown', (event) => this.onKey(event), { capture: true });
     this.list.addEventListener('pointerdown', (event) => {
       event.preventDefault();
