@@ -7,7 +7,7 @@ use Rattle.capture_slices.specs.declared.fault.CaptureEnd.TheVariants.{Fault, No
 use Rattle.lsa_instances.specs.declared.keeping.FlushedLsas.{FlushedLsas}
 use Rattle.lsa_instances.specs.declared.keeping.FlushedLsas.TheVariants.{Kept, LeftOut}
 use Rattle.plan_slices.specs.Room.{IsCopied}
-use Rattle.ospf_plan_c.specs.Status.{IsTold, done, no_room, not_accepted, not_text}
+use Rattle.ospf_plan_c.specs.Status.{IsReported, done, no_room, not_accepted, not_text}
 use Rattle.ospf_plan_c.specs.declared.capturing.CaptureReport.{CaptureReport}
 
 -- what becomes of flushed LSAs
@@ -76,6 +76,6 @@ pub record EndsEarly (A : Type 0) (flushed : FlushedLsas) (given : Given) (warni
     (status : ℕ) : Type 0 where
   pub end : CaptureEnd
   pub may_end : IsEnd A flushed given end
-  pub told : IsTold (end_text end) report.warnings warnings new_warnings
+  pub reported : IsReported (end_text end) report.warnings warnings new_warnings
   pub report_is : report ≡ no_texts report.warnings
   pub verdict : status ≡ end_status end

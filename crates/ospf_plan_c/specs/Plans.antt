@@ -6,7 +6,7 @@ use Rattle.whole_run.specs.Run.{run_answers, run_text, final_dump, final_session
 use Rattle.whole_run.specs.WholeRun.{IsSummaryOf, MayEndRun}
 use Rattle.whole_run.specs.declared.fault.RunFault.{RunFault}
 use Rattle.whole_run.specs.declared.fault.RunFault.TheVariants.{Dump, Read, Write, TooLarge, OutOfMemory}
-use Rattle.ospf_plan_c.specs.Status.{IsTold, done, no_memory, no_room, refused, too_large}
+use Rattle.ospf_plan_c.specs.Status.{IsReported, done, no_memory, no_room, refused, too_large}
 use Rattle.ospf_plan_c.specs.declared.planning.PlanReport.{PlanReport}
 use Rattle.ospf_plan_c.specs.declared.planning.PlanWanted.{PlanWanted}
 
@@ -49,6 +49,6 @@ no_texts fault = record { replies = 0; dump = 0; session = 0; fault = fault; com
 pub record EndsEarly (dump script fault new_fault : List ℕ) (report : PlanReport) (status : ℕ) : Type 0 where
   pub end : RunFault
   pub may_end : MayEndRun (Some dump) (Some script) end
-  pub told : IsTold (end_text end) report.fault fault new_fault
+  pub reported : IsReported (end_text end) report.fault fault new_fault
   pub report_is : report ≡ no_texts report.fault
   pub verdict : status ≡ status_of end

@@ -32,7 +32,7 @@ no_room = 6
 
 -- the line of a run that ended early, its reported length, and the room for it: the line is in the room, or the room is too
 -- small and as it was, or there was no memory for the line, whose length is then 0
-abbrev pub IsTold : List ℕ → ℕ → List ℕ → List ℕ → Type 0
-IsTold line told room new_room =
-    ((told ≡ length line) × IsCopied line room new_room)
-    ⊎ (((told ≡ length line) × ((length room < length line) × (new_room ≡ room))) ⊎ ((told ≡ 0) × (new_room ≡ room)))
+abbrev pub IsReported : List ℕ → ℕ → List ℕ → List ℕ → Type 0
+IsReported line reported room new_room =
+    ((reported ≡ length line) × IsCopied line room new_room)
+    ⊎ (((reported ≡ length line) × ((length room < length line) × (new_room ≡ room))) ⊎ ((reported ≡ 0) × (new_room ≡ room)))

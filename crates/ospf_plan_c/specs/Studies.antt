@@ -12,7 +12,7 @@ use Rattle.whole_study.specs.declared.fault.RunFault.{RunFault}
 use Rattle.whole_study.specs.declared.fault.RunFault.TheVariants as ends
 use Rattle.whole_study.specs.declared.running.Manner.{Manner}
 use Rattle.whole_study.specs.declared.summary.Summary.{Summary}
-use Rattle.ospf_plan_c.specs.Status.{IsTold, done, no_memory, no_room, not_accepted, refused, too_large}
+use Rattle.ospf_plan_c.specs.Status.{IsReported, done, no_memory, no_room, not_accepted, refused, too_large}
 use Rattle.ospf_plan_c.specs.declared.studying.StudyManner.{StudyManner}
 use Rattle.ospf_plan_c.specs.declared.studying.StudyReport.{StudyReport}
 
@@ -89,6 +89,6 @@ no_texts errors = record { replies = 0; errors = errors; dump = 0; lines = 0; re
 pub record EndsEarly (A : Type 0) (given : Given) (errors new_errors : List ℕ) (report : StudyReport) (status : ℕ) : Type 0 where
   pub end : RunFault A
   pub may_end : MayEndRun given end
-  pub told : IsTold (end_text end) report.errors errors new_errors
+  pub reported : IsReported (end_text end) report.errors errors new_errors
   pub report_is : report ≡ no_texts report.errors
   pub verdict : status ≡ study_status end

@@ -6,7 +6,7 @@ ghost use Rattle.std.specs.String.{string_bytes};
 ghost use Rattle.capture_slices.specs.Captured.{given_in};
 ghost use Rattle.host_heap.specs.declared.heap.HostHeap.{HostHeap as AnyHeap};
 ghost use Rattle.ospf_plan_c.specs.Captures.{AreInRooms, EndsEarly, LacksRoom, end_status, end_text, flushed_if, no_texts, verdict_of};
-ghost use Rattle.ospf_plan_c.specs.Status.{IsTold, no_room};
+ghost use Rattle.ospf_plan_c.specs.Status.{IsReported, no_room};
 
 use crate::line::put_line;
 use crate::status::{DONE, NO_ROOM, NOT_ACCEPTED, NOT_TEXT};
@@ -142,7 +142,7 @@ fn no_texts(warnings: usize) -> CaptureReport
 fn copy_end<A: Allocator + Copy>(alloc: A, end: CaptureEnd<'_>, room: &mut [u8]) -> (u32, usize)
     ensures status { result.0 ≡ end_status end.entry }
     ensures early { (1 < result.0) × (result.0 ≢ no_room) }
-    ensures line { IsTold (end_text end.entry) result.1 room.old room.new }
+    ensures line { IsReported (end_text end.entry) result.1 room.old room.new }
 {
     let CaptureEnd::Fault(fault) = end else {
         return (NOT_TEXT, 0);

@@ -3,7 +3,7 @@
 ghost use Rattle.std.specs.Prelude.{◌≡◌, ◌≢◌, ◌⊎◌, length};
 ghost use Rattle.plan_slices.specs.Texts.{end_text};
 ghost use Rattle.ospf_plan_c.specs.Plans.{AreInRooms, EndsEarly, LacksRoom, no_texts, status_of};
-ghost use Rattle.ospf_plan_c.specs.Status.{IsTold, done, no_room};
+ghost use Rattle.ospf_plan_c.specs.Status.{IsReported, done, no_room};
 
 use crate::line::put_line;
 use crate::status::{DONE, NO_MEMORY, NO_ROOM, REFUSED, TOO_LARGE};
@@ -61,7 +61,8 @@ pub extern "C" fn ospf_plan_run(
 ) -> u32
     ensures ended { AreInRooms wanted.now dump.now script.now replies.old replies.new
         out.old out.new session.old session.new report.new result
-        ⊎ (LacksRoom wanted.now dump.now script.now replies.old out.old session.old report.new result
+        ⊎ (LacksRoom wanted.now dump.now script.now replies.old out.old session.old
+        report.new result
         ⊎ EndsEarly dump.now script.now fault.old fault.new report.new result) }
     ensures kept { result ≢ done → (replies.new ≡ replies.old)
         × ((out.new ≡ out.old) × (session.new ≡ session.old)) }
@@ -132,7 +133,7 @@ fn no_texts(fault: usize) -> PlanReport
 /// Copies the line of a run that ended early to the room for it, where there is enough. Returns the
 /// length of the line in bytes; 0 where there is no memory for it.
 fn copy_fault<A: Allocator + Copy>(alloc: A, end: RunFault, room: &mut [u8]) -> usize
-    ensures { IsTold (end_text end) result room.old room.new }
+    ensures { IsReported (end_text end) result room.old room.new }
 {
     match fault_text(alloc, end) {
         Ok(line) => put_line(line.as_bytes(), room),

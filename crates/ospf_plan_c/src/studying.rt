@@ -6,7 +6,7 @@ ghost use Rattle.host_heap.specs.declared.heap.HostHeap.{HostHeap as AnyHeap};
 ghost use Rattle.study_slices.specs.Ends.{end_text};
 ghost use Rattle.study_slices.specs.Studied.{given_of};
 ghost use Rattle.whole_study.specs.Run.{has_passed};
-ghost use Rattle.ospf_plan_c.specs.Status.{IsTold, done, no_room, not_accepted};
+ghost use Rattle.ospf_plan_c.specs.Status.{IsReported, done, no_room, not_accepted};
 ghost use Rattle.ospf_plan_c.specs.Studies.{AreInRooms, EndsEarly, LacksRoom, format_if, given_if, manner_of, no_texts, report_of, study_status};
 
 use crate::line::put_line;
@@ -186,7 +186,7 @@ fn no_texts(errors: usize) -> StudyReport
 /// Copies the line of a study that ended early to the room for it, where there is enough. Returns
 /// the length of the line in bytes; 0 where there is no memory for it.
 fn copy_fault<A: Allocator + Copy>(alloc: A, end: &RunFault<A>, room: &mut [u8]) -> usize
-    ensures { IsTold (end_text end.now) result room.old room.new }
+    ensures { IsReported (end_text end.now) result room.old room.new }
 {
     match fault_text(alloc, end) {
         Ok(line) => put_line(&line, room),
