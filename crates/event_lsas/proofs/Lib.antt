@@ -1,0 +1,7 @@
+mod AreasStay
+mod Gathered
+mod RouterLinks
+mod Turns
+mod Walked
+mod Leads
+mod Removals
