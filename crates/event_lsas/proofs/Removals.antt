@@ -17,7 +17,8 @@ use Rattle.lsa_remaking.specs.declared.link_change.LinkChange.TheVariants.{Stays
 use Rattle.lsa_remaking.specs.declared.link_change.ChangedLink.{ChangedLink}
 use Rattle.lsa_remaking.specs.Making.{remeasured}
 use Rattle.lsa_remaking.specs.Relinking.{is_left, text_by, changed_text, count_left, changed_body, counted_body, relinked}
-use Rattle.event_lsas.specs.Outcomes.{LsaChange, kept, becomes, is_among, change_of_chosen, with_chosen, unless_empty, relinked_where}
+use Rattle.event_links.specs.Interfaces.{is_among}
+use Rattle.event_lsas.specs.Outcomes.{LsaChange, kept, becomes, change_of_chosen, with_chosen, unless_empty, relinked_where}
 
 module _ (chosen : List Link) (lsa : List ℕ) where
   -- the links, of which the chosen ones are removed

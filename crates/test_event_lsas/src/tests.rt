@@ -2,7 +2,6 @@
 
 // What the tests share.
 mod built;
-
 mod costs;
 mod cuts;
 mod refusals;

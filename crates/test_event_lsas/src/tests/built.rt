@@ -1,7 +1,8 @@
 //! Small networks, and what events change there. These functions have no clauses, so that the
 //! prover knows nothing of what they answer, and the tests are proved soon.
 
-use event_lsas::{EventFault, LinkEvent, link_changes};
+use event_links::{EventFault, LinkEvent};
+use event_lsas::{ChangeFault, link_changes};
 use lsa_codec::RouterId;
 use lsdb::{Database, SlotId};
 use std::alloc::Global;
@@ -9,9 +10,13 @@ use std::test::*;
 use test_support::dump_of_text;
 
 pub(super) const R1: RouterId = RouterId(0x0101_0101);
+
 pub(super) const R2: RouterId = RouterId(0x0202_0202);
+
 pub(super) const R3: RouterId = RouterId(0x0303_0303);
+
 pub(super) const R4: RouterId = RouterId(0x0404_0404);
+
 pub(super) const R6: RouterId = RouterId(0x0606_0606);
 
 /// The database that a text describes.
@@ -54,6 +59,7 @@ pub(super) fn slots(alloc: Global, text: &str, ids: &[(usize, usize)]) -> Result
 pub(super) fn fault(alloc: Global, text: &str, event: LinkEvent) -> Result<EventFault, Fail> {
     match link_changes(&database(alloc, text)?, event) {
         Ok(_) => Err("not refused".into()),
-        Err(fault) => Ok(fault),
+        Err(ChangeFault::Refused(fault)) => Ok(fault),
+        Err(fault) => Err(fault.into()),
     }
 }

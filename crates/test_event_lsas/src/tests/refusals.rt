@@ -1,7 +1,7 @@
 //! Events that are refused.
 
 use super::built::{R1, R2, R3, R4, fault};
-use event_lsas::{EventFault, LinkEvent};
+use event_links::{EventFault, LinkEnd, LinkEvent};
 use lsa_codec::{Addr, RouterId};
 use std::test::*;
 
@@ -16,11 +16,11 @@ router 4.4.4.4: stub 10.4.0.0/16 cost=1";
 
 /// A cut of a link of 1.1.1.1 and 2.2.2.2.
 fn cut_at(address: u32) -> LinkEvent {
-    LinkEvent::CutLink {
+    LinkEvent::CutLink(LinkEnd {
         router: R1,
         neighbor: R2,
         address: Addr(address),
-    }
+    })
 }
 
 /// A cut of all links of 1.1.1.1 and another router.

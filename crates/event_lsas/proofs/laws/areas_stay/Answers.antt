@@ -1,4 +1,4 @@
-use Rattle.event_lsas.specs.LinkEvents.{resolved}
+use Rattle.event_links.specs.Events.{resolved}
 use Rattle.event_lsas.proofs.AreasStay.{heads_carried}
 use Rattle.event_lsas.proofs.laws.areas_stay.Goals as goal
 

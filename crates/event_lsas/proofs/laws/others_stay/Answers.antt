@@ -1,6 +1,5 @@
 use Rattle.std.proofs.Common.{refl}
-use Rattle.event_lsas.specs.Outcomes.{id_of}
-use Rattle.event_lsas.specs.Selections.{chosen_in}
+use Rattle.event_links.specs.Selections.{chosen_in, id_of}
 use Rattle.event_lsas.proofs.AreasStay.{other_kept}
 use Rattle.event_lsas.proofs.laws.others_stay.Goals as goal
 
