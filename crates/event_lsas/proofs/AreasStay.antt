@@ -4,10 +4,11 @@ use Rattle.std.proofs.lemmas.Bool.{cond-false}
 use Rattle.lsa_codec.specs.Key.{router_key}
 use Rattle.lsdb.specs.Lists.{AreaHead, Lists, has_key, heads_of}
 use Rattle.lsa_remaking.specs.declared.link_change.LinkChange.{LinkChange}
-use Rattle.event_lsas.specs.declared.fault.EventFault.{EventFault}
-use Rattle.event_lsas.specs.declared.selection.LinkEdit.{LinkEdit}
+use Rattle.event_links.specs.declared.fault.EventFault.{EventFault}
+use Rattle.event_links.specs.declared.selection.LinkEdit.{LinkEdit}
 use Rattle.event_lsas.specs.LinkEvents.{carried, outcome_of}
-use Rattle.event_lsas.specs.Outcomes.{Outcome, LsaChange, kept, ChosenData, chosen_of, relinked_where, where_chosen, after}
+use Rattle.event_links.specs.Selections.{ChosenData, chosen_of}
+use Rattle.event_lsas.specs.Outcomes.{Outcome, kept, relinked_where, where_chosen, after}
 
 heads_after : (outcome : Outcome) (db : Lists) → heads_of (after outcome db) ≡ heads_of db
 heads_after outcome [] = refl

@@ -2,12 +2,14 @@
 use Rattle.std.proofs.Common.{◌≡◌, true, false, List, Result, Ok, Err, refl, sym, ap, ◌∙◌}
 use Rattle.lsdb.specs.Lists.{Lists}
 use Rattle.lsdb.specs.Slots.{Slots, lists_of}
-use Rattle.event_lsas.specs.declared.event.LinkEvent.{LinkEvent}
-use Rattle.event_lsas.specs.declared.fault.EventFault.{EventFault}
-use Rattle.event_lsas.specs.declared.fault.EventFault.TheVariants.{SameRouter, NoRouter, NotNeighbors, NoInterface, UnclearEnd, ZeroCost, NotMade, OutOfMemory}
-use Rattle.event_lsas.specs.declared.selection.LinkEdit.{LinkEdit}
-use Rattle.event_lsas.specs.Faults.{is_late}
-use Rattle.event_lsas.specs.LinkEvents.{carried, outcome_of, link_event, resolved, IsEditFault, IsRefusal}
+use Rattle.event_links.specs.declared.event.LinkEvent.{LinkEvent}
+use Rattle.event_links.specs.declared.fault.EventFault.{EventFault}
+use Rattle.event_links.specs.declared.fault.EventFault.TheVariants as event
+use Rattle.event_links.specs.declared.selection.LinkEdit.{LinkEdit}
+use Rattle.event_links.specs.Events.{resolved, IsFault}
+use Rattle.event_lsas.specs.declared.fault.ChangeFault.{ChangeFault}
+use Rattle.event_lsas.specs.declared.fault.ChangeFault.TheVariants.{Refused, NotMade, OutOfMemory}
+use Rattle.event_lsas.specs.LinkEvents.{carried, outcome_of, link_event, fault_of_event, is_late, IsRefusal}
 use Rattle.event_lsas.specs.Outcomes.{SlotChangeData, changed_slots}
 use Rattle.event_lsas.specs.steps.Walking.{changes_from}
 use Rattle.event_lsas.proofs.Walked.{changes_lead}
@@ -20,27 +22,18 @@ leads d event e changes is made =
     ∙ ap (λ (cs : List SlotChangeData). Ok (lists_of (changed_slots d cs))) (sym made)
 
 -- a refusal of the links is one of the event
-pub refused : (db : Lists) (event : LinkEvent) (fault : EventFault) → IsEditFault fault (resolved db event) → IsRefusal fault (link_event db event)
-refused db event SameRouter is early = ap (carried db) is
-refused db event (NoRouter router) is early = ap (carried db) is
-refused db event (NotNeighbors router neighbor) is early = ap (carried db) is
-refused db event (NoInterface router address) is early = ap (carried db) is
-refused db event (UnclearEnd router address) is early = ap (carried db) is
-refused db event ZeroCost is early = ap (carried db) is
-refused db event (NotMade fault) is early = absurd cc
-refused db event OutOfMemory is early = absurd cc
+pub refused : (db : Lists) (happens : LinkEvent) (fault : EventFault) → IsFault fault (resolved db happens)
+    → IsRefusal (fault_of_event fault) (link_event db happens)
+refused db happens event.SameRouter is = ap (carried db) is
+refused db happens (event.NoRouter router) is = ap (carried db) is
+refused db happens (event.NotNeighbors router neighbor) is = ap (carried db) is
+refused db happens (event.NoInterface router address) is = ap (carried db) is
+refused db happens (event.UnclearEnd router address) is = ap (carried db) is
+refused db happens event.ZeroCost is = ap (carried db) is
+refused db happens event.OutOfMemory is = tt
 
 -- a late fault says nothing
-pub late_refusal : (db : Lists) (event : LinkEvent) (fault : EventFault) → is_late fault ≡ true → IsRefusal fault (link_event db event)
-late_refusal db event fault late early = absurd (let e : true ≡ false = sym late ∙ early in cc)
-
--- the fault that an answer names
-pub is_fault : (fault : EventFault) (answer : Result LinkEdit EventFault) → answer ≡ Err fault → IsEditFault fault answer
-is_fault SameRouter answer is = is
-is_fault (NoRouter router) answer is = is
-is_fault (NotNeighbors router neighbor) answer is = is
-is_fault (NoInterface router address) answer is = is
-is_fault (UnclearEnd router address) answer is = is
-is_fault ZeroCost answer is = is
-is_fault (NotMade fault) answer is = is
-is_fault OutOfMemory answer is = tt
+pub late_refusal : (db : Lists) (happens : LinkEvent) (fault : ChangeFault) → is_late fault ≡ true → IsRefusal fault (link_event db happens)
+late_refusal db happens (Refused fault) late = absurd (let e : true ≡ false = sym late in cc)
+late_refusal db happens (NotMade fault) late = tt
+late_refusal db happens OutOfMemory late = tt

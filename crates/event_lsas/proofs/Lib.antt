@@ -1,5 +1,4 @@
 mod AreasStay
-mod Gathered
 mod RouterLinks
 mod Turns
 mod Walked

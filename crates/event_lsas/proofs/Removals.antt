@@ -17,7 +17,8 @@ use Rattle.lsa_remaking.specs.declared.link_change.LinkChange.TheVariants.{Stays
 use Rattle.lsa_remaking.specs.declared.link_change.ChangedLink.{ChangedLink}
 use Rattle.lsa_remaking.specs.Making.{remeasured}
 use Rattle.lsa_remaking.specs.Relinking.{is_left, text_by, changed_text, count_left, changed_body, counted_body, relinked}
-use Rattle.event_lsas.specs.Outcomes.{LsaChange, kept, becomes, is_among, change_of_chosen, with_chosen, unless_empty, relinked_where}
+use Rattle.event_links.specs.Interfaces.{is_among}
+use Rattle.event_lsas.specs.Outcomes.{LsaChange, kept, becomes, change_of_chosen, with_chosen, unless_empty, relinked_where}
 
 module _ (chosen : List Link) (lsa : List ℕ) where
   -- the links, of which the chosen ones are removed
@@ -30,25 +31,27 @@ module _ (chosen : List Link) (lsa : List ℕ) where
 
   texts : (links : List Link) → flat_map (changed_text lsa) (removing links) ≡ flat_map (link_text lsa) (staying links)
   texts [] = refl
-  texts (link ∷ links) = by_test (is_among chosen link) where
-    by_test : (b : Bool) → text_by (cond b Removed Stays) lsa link ++ flat_map (changed_text lsa) (removing links)
+  texts (link ∷ links) = by_test (is_among chosen link) (texts links) where
+    by_test : (b : Bool) → flat_map (changed_text lsa) (removing links) ≡ flat_map (link_text lsa) (staying links)
+        → text_by (cond b Removed Stays) lsa link ++ flat_map (changed_text lsa) (removing links)
         ≡ flat_map (link_text lsa) (cond (not b) (link ∷ staying links) (staying links))
-    by_test true = texts links
-    by_test false = ap (λ (t : List ℕ). link_text lsa link ++ t) (texts links)
+    by_test true rest = rest
+    by_test false rest = ap (λ (t : List ℕ). link_text lsa link ++ t) rest
 
   counts : (links : List Link) → count_left (removing links) ≡ length (staying links)
   counts [] = refl
-  counts (link ∷ links) = by_test (is_among chosen link) where
+  counts (link ∷ links) = by_test (is_among chosen link) (counts links) where
     left : List ChangedLink
     left = filter (λ changed. is_left changed.change) (removing links)
 
-    by_test : (b : Bool) → length (cond (is_left (cond b Removed Stays)) ((record { link = link; change = cond b Removed Stays }) ∷ left) left)
+    by_test : (b : Bool) → length left ≡ length (staying links)
+        → length (cond (is_left (cond b Removed Stays)) ((record { link = link; change = cond b Removed Stays }) ∷ left) left)
         ≡ length (cond (not b) (link ∷ staying links) (staying links))
-    by_test true = counts links
-    by_test false = ap suc (counts links)
+    by_test true rest = rest
+    by_test false rest = ap suc rest
 
   -- the bytes before the links, and those that stay
-  body : List ℕ
+  abbrev body : List ℕ
   body = take 24 lsa ++ flat_map (link_text lsa) (staying (links_of lsa))
 
   long_body : 24 ≤ length lsa → 24 ≤ length body

@@ -1,37 +1,43 @@
 -- One more slot of a section, and one more section, whose changes are collected.
-use Rattle.std.proofs.Common.{◌≡◌, ℕ, zero, suc, ◌<◌, ◌≤◌, Bool, List, [], ◌∷◌, ◌++◌, length, drop, append_assoc, append-nil, Option, Some, None}
+use Rattle.std.proofs.Common.{◌≡◌, ℕ, suc, ◌+◌, ◌<◌, ◌≤◌, Bool, List, [], ◌∷◌, ◌++◌, length, drop, get_or, append_assoc, append-nil, Option, Some, None}
 use Rattle.std.proofs.Common.{refl, sym, ap, ◌∙◌, arith}
-use Rattle.std.specs.Prelude.{IsSome, option_to_list}
+use Rattle.std.specs.Prelude.{IsSome, is_some, option_to_list}
 use Rattle.std.specs.List.{cons_option}
 use Rattle.std.specs.Option.{option_map}
-use Rattle.std.proofs.lemmas.List.{drop_all}
+use Rattle.std.proofs.lemmas.List.{drop_all, drop_more}
+use Rattle.std.proofs.lemmas.Option.{slice_get-get_or}
 use Rattle.lsa_codec.specs.declared.address.AreaId.{AreaId}
 use Rattle.lsdb.specs.Lists.{AreaHead, Lists, id_and_kind}
 use Rattle.lsdb.specs.Slots.{Slot, Slots, SectionSlots, item_at, slot_at, slot_in, slots_in, slots_or_none, head_or_none, lists_of}
-use Rattle.event_lsas.specs.declared.selection.LinkEdit.{LinkEdit}
+use Rattle.event_links.specs.declared.selection.LinkEdit.{LinkEdit}
+use Rattle.event_links.specs.Selections.{chosen_in, id_of}
 use Rattle.event_lsas.specs.LinkEvents.{outcome_of}
-use Rattle.event_lsas.specs.Outcomes.{LsaChange, kept, Outcome, id_of, where_chosen, SlotChangeData}
-use Rattle.event_lsas.specs.Selections.{chosen_in}
+use Rattle.event_lsas.specs.Outcomes.{LsaChange, kept, Outcome, where_chosen, SlotChangeData}
 use Rattle.event_lsas.specs.steps.Walking.{slot_change, change_at, slot_of, section_changes, changes_from}
 
 -- ---- one item of a list
 
+-- the item at a place, and what follows it
 record Here {X : Type 0} (xs : List X) (i j : ℕ) : Type 0 where
   item : X
   at : item_at xs i ≡ Some item
   rest : drop i xs ≡ item ∷ drop j xs
 
-here : {X : Type 0} (xs : List X) (i j : ℕ) → i < length xs → j ≡ suc i → Here xs i j
-here [] i j lt e = absurd (omega arith)
-here (x ∷ xs) zero j lt e = record { item = x; at = refl; rest = ap (λ k. x ∷ drop k (x ∷ xs)) (sym e) }
-here (x ∷ xs) (suc i) j lt e =
-    let next = here xs i (suc i) (omega arith) refl in
-    record { item = next.item; at = next.at; rest = next.rest ∙ ap (λ k. next.item ∷ drop k (x ∷ xs)) (sym e) }
+here : {X : Type 0} (other : X) (xs : List X) (i j : ℕ) → i < length xs → j ≡ suc i → Here xs i j
+here other xs i j lt e =
+    let next : i + 1 ≡ j = omega (arith, e) in
+    record {
+      item = get_or xs i other;
+      at = slice_get-get_or xs i other lt;
+      rest = drop_more xs i other lt ∙ ap (λ (k : ℕ). get_or xs i other ∷ drop k xs) next;
+    }
 
-pub exists_at : {X : Type 0} (xs : List X) (i : ℕ) → i < length xs → IsSome (item_at xs i)
-exists_at [] i lt = absurd (omega arith)
-exists_at (x ∷ xs) zero lt = refl
-exists_at (x ∷ xs) (suc i) lt = exists_at xs i (omega arith)
+-- a section that stands for none
+none : SectionSlots
+none = record { area = None; slots = [] }
+
+pub exists_at : (d : Slots) (i : ℕ) → i < length d → IsSome (item_at d i)
+exists_at d i lt = ap is_some (slice_get-get_or d i none lt)
 
 slot_there : (d : Slots) (section i : ℕ) (p : Slot) → item_at (slots_in d section) i ≡ Some p → slot_at d (slot_of section i) ≡ Some p
 slot_there d section i p e = by_item (item_at d section) e where
@@ -57,7 +63,7 @@ module _ (change : List ℕ → LsaChange) (section : ℕ) where
       → old ++ section_changes change section i (drop i (slots_in d section)) ≡ total
       → new ++ section_changes change section j (drop j (slots_in d section)) ≡ total
   slot_turn d i j old new total lt e pushed so_far =
-      let h = here (slots_in d section) i j lt e in
+      let h = here None (slots_in d section) i j lt e in
       let rest : List Slot = drop j (slots_in d section) in
       ap (λ (cs : List SlotChangeData). cs ++ section_changes change section j rest) pushed
       ∙ append_assoc old (option_to_list (change_at change (slot_of section i) (slot_at d (slot_of section i)))) (section_changes change section j rest)
@@ -88,7 +94,7 @@ module _ (outcome : Outcome) where
       → new ≡ old ++ section_changes (outcome (head_or_none (item_at d i))) i 0 (slots_in d i)
       → old ++ changes_from outcome i (drop i d) ≡ total → new ++ changes_from outcome j (drop j d) ≡ total
   section_turn d i j old new total lt e pushed so_far =
-      let h = here d i j lt e in
+      let h = here none d i j lt e in
       ap (λ (cs : List SlotChangeData). cs ++ changes_from outcome j (drop j d))
       (pushed ∙ ap (λ (o : Option SectionSlots). old ++ section_changes (outcome (head_or_none o)) i 0 (slots_or_none o)) h.at)
       ∙ append_assoc old (section_changes (outcome h.item.area) i 0 h.item.slots) (changes_from outcome j (drop j d))
@@ -120,6 +126,7 @@ module _ (db : Lists) (e : LinkEdit) (k : ℕ) (ps : List Slot) where
   -- those of an area change where its links are chosen
   pub of_area : (head : Option AreaHead) (area : AreaId) (kind : Bool) → Some (area, kind) ≡ option_map id_and_kind head
       → section_changes (where_chosen e.change (chosen_in db area e.selection)) k 0 ps ≡ changes_in head
+  unfolding area_of
   of_area None area kind is = absurd cc
   of_area (Some head) area kind is =
       let same : area ≡ id_of head = ap (area_of area) is in

@@ -77,11 +77,13 @@ walk : (outcome : Outcome) (low high : Slots) (area : Option AreaHead) (pre post
 walk outcome low [] area pre [] section i e g = refl
 walk outcome low (s ∷ high) area pre [] section i e g =
     passed low high (slots_after outcome high) (section_slots area (pre ++ [])) s
-    (section_slots s.area (map (slot_after outcome s.area) s.slots)) _
+    (section_slots s.area (map (slot_after outcome s.area) s.slots))
+    (section_changes (outcome s.area) (suc section) 0 s.slots ++ changes_from outcome (suc (suc section)) high)
     (walk outcome (low ++ section_slots area (pre ++ []) ∷ []) high s.area [] s.slots (suc section) 0
     (pushed low (section_slots area (pre ++ [])) section e) refl)
 walk outcome low high area pre (None ∷ post) section i e g =
-    shifted low high (slots_after outcome high) area pre post (map (slot_after outcome area) post) None _
+    shifted low high (slots_after outcome high) area pre post (map (slot_after outcome area) post) None
+    (section_changes (outcome area) section (suc i) post ++ changes_from outcome (suc section) high)
     (walk outcome low high area (pre ++ None ∷ []) post section (suc i) e (pushed pre None i g))
 walk outcome low high area pre (Some x ∷ post) section i e g =
     let v : Slot = lsa_after (outcome area x) x in

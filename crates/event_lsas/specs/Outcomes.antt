@@ -1,17 +1,17 @@
 -- What an event makes of each LSA of a database, and the database after it.
-use Rattle.std.specs.Prelude.{◌≡◌, ℕ, ◌==◌, Bool, List, [], ◌∷◌, length, map, Option, Some, None, if◌then◌else◌}
-use Rattle.std.specs.List.{filter_map, list_any}
+use Rattle.std.specs.Prelude.{ℕ, ◌==◌, List, [], ◌∷◌, length, map, Option, Some, None, if◌then◌else◌}
+use Rattle.std.specs.List.{filter_map}
 use Rattle.lsa_codec.specs.declared.address.AreaId.{AreaId}
-use Rattle.lsa_codec.specs.declared.address.RouterId.{RouterId}
 use Rattle.lsa_codec.specs.declared.link.Link.{Link}
-use Rattle.lsa_codec.specs.Key.{router_key}
 use Rattle.lsdb.specs.declared.slot.SlotId.{SlotId}
-use Rattle.lsdb.specs.Lists.{AreaHead, SectionLsas, Lists, has_key}
+use Rattle.lsdb.specs.Lists.{AreaHead, SectionLsas, Lists}
 use Rattle.lsdb.specs.Slots.{Slot, Slots, put}
 use Rattle.lsa_remaking.specs.declared.link_change.LinkChange.{LinkChange}
 use Rattle.lsa_remaking.specs.declared.link_change.LinkChange.TheVariants.{Stays}
 use Rattle.lsa_remaking.specs.declared.link_change.ChangedLink.{ChangedLink}
 use Rattle.lsa_remaking.specs.Relinking.{count_left, changed_links, relinked}
+use Rattle.event_links.specs.Interfaces.{is_among}
+use Rattle.event_links.specs.Selections.{ChosenData, chosen_of, id_of}
 
 -- an LSA is kept as it is, or another one takes its place: none where it is withdrawn
 pub data LsaChange : Type 0 where
@@ -33,10 +33,6 @@ section_after outcome s = record { area = s.area; lsas = filter_map (λ lsa. lsa
 abbrev pub after : Outcome → Lists → Lists
 after outcome db = map (section_after outcome) db
 
--- the ID of an area
-abbrev pub id_of : AreaHead → AreaId
-id_of head = record { 0 = head.id }
-
 -- what becomes of the LSAs of each area; those of AS scope are kept
 abbrev pub in_areas : (AreaId → List ℕ → LsaChange) → Outcome
 in_areas outcome None lsa = kept
@@ -49,10 +45,6 @@ in_areas outcome (Some head) lsa = outcome (id_of head) lsa
 abbrev pub unless_empty : List ChangedLink → List ℕ → Slot
 unless_empty links lsa = if count_left links == 0 then None else Some (relinked links lsa)
 
--- a link is among others of its LSA: no two begin at one place
-abbrev pub is_among : List Link → Link → Bool
-is_among links link = list_any (λ other. other.offset == link.offset) links
-
 -- chosen links are changed, all others stay
 abbrev pub change_of_chosen : LinkChange → List Link → Link → LinkChange
 change_of_chosen change chosen link = if is_among chosen link then change else Stays
@@ -64,19 +56,6 @@ with_chosen change chosen lsa = changed_links (change_of_chosen change chosen) l
 -- a router-LSA whose chosen links are changed; one without chosen links is kept as it is
 abbrev pub relinked_where : LinkChange → List Link → List ℕ → LsaChange
 relinked_where change chosen lsa = if length chosen == 0 then kept else becomes (unless_empty (with_chosen change chosen lsa) lsa)
-
--- the links of an area that an event changes: those of a router, and those of its neighbor
-pub record ChosenData : Type 0 where
-  pub router : RouterId
-  pub own : List Link
-  pub neighbor : RouterId
-  pub others : List Link
-
--- the chosen links of a router-LSA
-abbrev pub chosen_of : ChosenData → List ℕ → List Link
-chosen_of chosen lsa =
-    if has_key (router_key chosen.router) lsa then chosen.own else
-    if has_key (router_key chosen.neighbor) lsa then chosen.others else []
 
 -- the chosen links of an area are changed; all LSAs without chosen links are kept
 abbrev pub where_chosen : LinkChange → ChosenData → List ℕ → LsaChange

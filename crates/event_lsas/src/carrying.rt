@@ -1,21 +1,16 @@
 //! The slots that an event changes.
 
-ghost use Rattle.std.specs.Prelude.{◌≡◌, ◌++◌, true, IsSome, IfOk, IfErr, OnOk, Ok, option_to_list};
+ghost use Rattle.std.specs.Prelude.{◌≡◌, ◌++◌, IsSome, IfOk, IfErr, OnOk, Ok, option_to_list};
 ghost use Rattle.lsdb.specs.Slots.{item_at, slot_at, slots_in, head_or_none, lists_of};
 ghost use Rattle.event_lsas.specs.Outcomes.{where_chosen, changed_slots};
-ghost use Rattle.event_lsas.specs.Faults.{is_late};
 ghost use Rattle.event_lsas.specs.LinkEvents.{outcome_of, link_event, IsRefusal};
 ghost use Rattle.event_lsas.specs.steps.Walking.{change_at, section_changes, changes_from};
 
-use crate::chosen::ChosenLinks;
-use crate::event::LinkEvent;
-use crate::fault::EventFault;
+use crate::fault::{ChangeFault, of_event, of_remaking};
 use crate::rebuilding::change_for;
-use crate::resolving::resolved;
-use crate::selecting::chosen_in;
-use crate::selection::LinkEdit;
 use crate::slot_change::SlotChange;
-use lsa_remaking::LinkChange;
+use event_links::{ChosenLinks, LinkEdit, LinkEvent, chosen_in, resolve};
+use lsa_remaking::{LinkChange, RemakeFault};
 use lsdb::{Database, SlotId};
 use std::alloc::Allocator;
 
@@ -26,11 +21,10 @@ fn add_change<A: Allocator + Copy>(
     change: LinkChange,
     chosen: &ChosenLinks<A>,
     changes: &mut Vec<SlotChange<A>, A>,
-) -> Result<(), EventFault>
-    ensures changes { OnOk result (changes.new.items ≡ changes.old.items
+) -> Result<(), RemakeFault>
+    ensures { OnOk result (changes.new.items ≡ changes.old.items
         ++ option_to_list (change_at (where_chosen change chosen.now) slot
         (slot_at database.now slot))) }
-    ensures late { IfErr result (λ fault. is_late fault ≡ true) }
 {
     let Some(lsa) = database.get(slot) else {
         return Ok(());
@@ -38,9 +32,7 @@ fn add_change<A: Allocator + Copy>(
     let Some(new) = change_for(database.alloc(), slot, lsa, change, chosen)? else {
         return Ok(());
     };
-    if changes.push(new).is_err() {
-        return Err(EventFault::OutOfMemory);
-    }
+    changes.push(new)?;
     Ok(())
 }
 
@@ -51,12 +43,11 @@ fn add_area_changes<A: Allocator + Copy>(
     change: LinkChange,
     chosen: &ChosenLinks<A>,
     changes: &mut Vec<SlotChange<A>, A>,
-) -> Result<(), EventFault>
+) -> Result<(), RemakeFault>
     requires { IsSome (item_at database.now number) }
-    ensures changes { OnOk result (changes.new.items ≡ changes.old.items
+    ensures { OnOk result (changes.new.items ≡ changes.old.items
         ++ section_changes (where_chosen change chosen.now) number 0
         (slots_in database.now number)) }
-    ensures late { IfErr result (λ fault. is_late fault ≡ true) }
 {
     for index in 0..database.slot_count(number) {
         let slot = SlotId {
@@ -74,20 +65,17 @@ fn add_section_changes<A: Allocator + Copy>(
     number: usize,
     edit: LinkEdit,
     changes: &mut Vec<SlotChange<A>, A>,
-) -> Result<(), EventFault>
+) -> Result<(), RemakeFault>
     requires { IsSome (item_at database.now number) }
-    ensures changes { OnOk result (changes.new.items ≡ changes.old.items
+    ensures { OnOk result (changes.new.items ≡ changes.old.items
         ++ section_changes
         (outcome_of (lists_of database.now) edit (head_or_none (item_at database.now number)))
         number 0 (slots_in database.now number)) }
-    ensures late { IfErr result (λ fault. is_late fault ≡ true) }
 {
     let Some((area, _)) = database.area_in(number) else {
         return Ok(());
     };
-    let Ok(chosen) = chosen_in(database.alloc(), database, area, edit.selection) else {
-        return Err(EventFault::OutOfMemory);
-    };
+    let chosen = chosen_in(database, area, edit.selection)?;
     add_area_changes(database, number, edit.change, &chosen, changes)
 }
 
@@ -95,10 +83,9 @@ fn add_section_changes<A: Allocator + Copy>(
 fn changes_of<A: Allocator + Copy>(
     database: &Database<A>,
     edit: LinkEdit,
-) -> Result<Vec<SlotChange<A>, A>, EventFault>
-    ensures changes { IfOk result (λ v. v.items
+) -> Result<Vec<SlotChange<A>, A>, RemakeFault>
+    ensures { IfOk result (λ v. v.items
         ≡ changes_from (outcome_of (lists_of database.now) edit) 0 database.now) }
-    ensures late { IfErr result (λ fault. is_late fault ≡ true) }
 {
     let mut changes = Vec::new(database.alloc());
     for number in 0..database.section_count() {
@@ -112,24 +99,22 @@ fn changes_of<A: Allocator + Copy>(
 ///
 /// # Errors
 ///
-/// The first refusal. These are tested, in this order:
-///
-/// - all links between two routers that are cut: `SameRouter`, `NoRouter` for either,
-///   `NotNeighbors`; one of them: `SameRouter`, `NoRouter` for either, `NoInterface`, `UnclearEnd`;
-/// - the cost of the interfaces to a neighbor: `SameRouter`, `NoRouter` for either,
-///   `NotNeighbors`, `ZeroCost`; of the interface with an address: `NoRouter`, `NoInterface`,
-///   `ZeroCost`; a router that is drained: `NoRouter`.
-///
-/// Then `NotMade` where an LSA could not be rebuilt, and `OutOfMemory`, before or after.
+/// `Refused` with the first refusal of the event; then `NotMade` where an LSA could not be rebuilt;
+/// `OutOfMemory` before or after.
 pub fn link_changes<A: Allocator + Copy>(
     database: &Database<A>,
     event: LinkEvent,
-) -> Result<Vec<SlotChange<A>, A>, EventFault>
+) -> Result<Vec<SlotChange<A>, A>, ChangeFault>
     ensures leads { IfOk result (λ v. link_event (lists_of database.now) event
         ≡ Ok (lists_of (changed_slots database.now v.items))) }
     ensures refused { IfErr result (λ fault.
         IsRefusal fault (link_event (lists_of database.now) event)) }
 {
-    let edit = resolved(database.alloc(), database, event)?;
-    changes_of(database, edit)
+    match resolve(database, event) {
+        Ok(edit) => match changes_of(database, edit) {
+            Ok(changes) => Ok(changes),
+            Err(fault) => Err(of_remaking(fault)),
+        },
+        Err(fault) => Err(of_event(fault)),
+    }
 }

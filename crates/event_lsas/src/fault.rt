@@ -1,36 +1,18 @@
-//! Why events are refused.
+//! Why the changes of an event are not known.
 
-ghost use Rattle.std.specs.Prelude.{◌≡◌, true};
-ghost use Rattle.event_lsas.specs.declared.fault.EventFault.TheVariants as faults;
-ghost use Rattle.event_lsas.specs.Faults.{is_late};
+ghost use Rattle.std.specs.Prelude.{◌≡◌, true, Err};
+ghost use Rattle.event_lsas.specs.LinkEvents.{fault_of_event, is_late};
 
-use lsa_codec::{Addr, RouterId};
+use event_links::EventFault;
 use lsa_remaking::RemakeFault;
-use std::alloc::AllocError;
 use thiserror::Error;
 
-/// Why an event is refused. The database is unchanged.
+/// Why the changes of an event are not known. The database is unchanged.
 #[derive(Clone, Copy, Debug, PartialEq, Eq, Error)]
-pub enum EventFault {
-    /// Both routers are the same.
-    #[error("SameRouter")]
-    SameRouter,
-    /// No area has a router-LSA of this router below MaxAge.
-    #[error("NoRouter")]
-    NoRouter(RouterId),
-    /// The first router has no point-to-point link to the second.
-    #[error("NotNeighbors")]
-    NotNeighbors(RouterId, RouterId),
-    /// The router has no such interface with this address.
-    #[error("NoInterface")]
-    NoInterface(RouterId, Addr),
-    /// Which link the router's interface with this address has is not known: several have the
-    /// address, or parallel links without addresses look the same.
-    #[error("UnclearEnd")]
-    UnclearEnd(RouterId, Addr),
-    /// A link to a router or to a transit network would have cost 0 (RFC 2328, C.3).
-    #[error("ZeroCost")]
-    ZeroCost,
+pub enum ChangeFault {
+    /// The event is refused.
+    #[error("{0}")]
+    Refused(EventFault),
     /// An LSA that the event changes could not be rebuilt.
     #[error("{0}")]
     NotMade(RemakeFault),
@@ -39,20 +21,22 @@ pub enum EventFault {
     OutOfMemory,
 }
 
-impl From<AllocError> for EventFault {
-    ghost from_gives = { λ _ e. e ≡ faults.OutOfMemory };
-
-    fn from(_e: AllocError) -> EventFault {
-        EventFault::OutOfMemory
+/// The fault where an event is refused.
+pub(crate) fn of_event(fault: EventFault) -> ChangeFault
+    ensures { result ≡ fault_of_event fault }
+{
+    match fault {
+        EventFault::OutOfMemory => ChangeFault::OutOfMemory,
+        other => ChangeFault::Refused(other),
     }
 }
 
 /// The fault where an LSA could not be rebuilt.
-pub(crate) fn of_remaking(fault: RemakeFault) -> EventFault
+pub(crate) fn of_remaking(fault: RemakeFault) -> ChangeFault
     ensures { is_late result ≡ true }
 {
     match fault {
-        RemakeFault::OutOfMemory => EventFault::OutOfMemory,
-        other => EventFault::NotMade(other),
+        RemakeFault::OutOfMemory => ChangeFault::OutOfMemory,
+        other => ChangeFault::NotMade(other),
     }
 }

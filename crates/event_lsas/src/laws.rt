@@ -11,10 +11,11 @@ ghost use Rattle.lsa_codec.specs.Making.{IsRewriteOf};
 ghost use Rattle.lsa_remaking.specs.declared.link_change.LinkChange.TheVariants.{Removed};
 ghost use Rattle.lsa_codec.specs.Key.{router_key};
 ghost use Rattle.lsdb.specs.Lists.{AreaHead, Lists, has_key, heads_of};
-ghost use Rattle.event_lsas.specs.declared.event.LinkEvent.{LinkEvent as AnyEvent};
-ghost use Rattle.event_lsas.specs.declared.selection.LinkEdit.{LinkEdit as AnyEdit};
-ghost use Rattle.event_lsas.specs.Outcomes.{kept, becomes, id_of, is_among, relinked_where};
-ghost use Rattle.event_lsas.specs.Selections.{chosen_in};
+ghost use Rattle.event_links.specs.declared.event.LinkEvent.{LinkEvent as AnyEvent};
+ghost use Rattle.event_links.specs.declared.selection.LinkEdit.{LinkEdit as AnyEdit};
+ghost use Rattle.event_links.specs.Interfaces.{is_among};
+ghost use Rattle.event_lsas.specs.Outcomes.{kept, becomes, relinked_where};
+ghost use Rattle.event_links.specs.Selections.{chosen_in, id_of};
 ghost use Rattle.event_lsas.specs.LinkEvents.{outcome_of, link_event};
 
 use lsa_codec::{links_after_removal, makers_keep_the_key};

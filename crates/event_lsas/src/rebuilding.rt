@@ -1,16 +1,13 @@
 //! Router-LSAs whose chosen links change.
 
-ghost use Rattle.std.specs.Prelude.{◌≡◌, true, IfOk, IfErr};
+ghost use Rattle.std.specs.Prelude.{◌≡◌, IfOk};
 ghost use Rattle.lsa_codec.specs.Fields.{kind_of};
 ghost use Rattle.lsa_codec.specs.LsTypes.{router_lsa};
 ghost use Rattle.event_lsas.specs.Outcomes.{change_of_chosen, with_chosen, unless_empty, relinked_where, where_chosen};
-ghost use Rattle.event_lsas.specs.Faults.{is_late};
 ghost use Rattle.event_lsas.specs.steps.Walking.{slot_change};
 
-use crate::chosen::ChosenLinks;
-use crate::fault::{EventFault, of_remaking};
-use crate::links::is_among;
 use crate::slot_change::SlotChange;
+use event_links::{ChosenLinks, is_among};
 use lsa_codec::{Key, Link, Lsa, RouterView};
 use lsa_remaking::{ChangedLink, LinkChange, RemakeFault, count_left, relink};
 use lsdb::SlotId;
@@ -73,19 +70,16 @@ fn change_where<A: Allocator + Copy>(
     lsa: &Lsa<A>,
     change: LinkChange,
     chosen: &[Link],
-) -> Result<Option<SlotChange<A>>, EventFault>
+) -> Result<Option<SlotChange<A>>, RemakeFault>
     requires router { kind_of lsa.now ≡ router_lsa }
     ensures made { IfOk result (λ new. new
         ≡ slot_change slot (relinked_where change chosen.now lsa.now)) }
-    ensures late { IfErr result (λ fault. is_late fault ≡ true) }
 {
     if chosen.is_empty() {
         return Ok(None);
     }
-    match rebuilt(alloc, lsa, change, chosen) {
-        Ok(new) => Ok(Some(SlotChange::new(slot, new))),
-        Err(fault) => Err(of_remaking(fault)),
-    }
+    let new = rebuilt(alloc, lsa, change, chosen)?;
+    Ok(Some(SlotChange::new(slot, new)))
 }
 
 /// The change of the slot of an LSA, where it is a router-LSA with chosen links.
@@ -95,17 +89,16 @@ pub(crate) fn change_for<A: Allocator + Copy>(
     lsa: &Lsa<A>,
     change: LinkChange,
     chosen: &ChosenLinks<A>,
-) -> Result<Option<SlotChange<A>>, EventFault>
+) -> Result<Option<SlotChange<A>>, RemakeFault>
     ensures made { IfOk result (λ new. new
         ≡ slot_change slot (where_chosen change chosen.now lsa.now)) }
-    ensures late { IfErr result (λ fault. is_late fault ≡ true) }
 {
     let key = lsa.key();
-    if key == Key::of_router(chosen.router) {
-        return change_where(alloc, slot, lsa, change, &chosen.own);
+    if key == Key::of_router(chosen.router()) {
+        return change_where(alloc, slot, lsa, change, chosen.own());
     }
-    if key == Key::of_router(chosen.neighbor) {
-        return change_where(alloc, slot, lsa, change, &chosen.others);
+    if key == Key::of_router(chosen.neighbor()) {
+        return change_where(alloc, slot, lsa, change, chosen.others());
     }
     Ok(None)
 }

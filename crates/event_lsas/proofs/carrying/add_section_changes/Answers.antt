@@ -14,5 +14,4 @@ pub returns-clause-changes : goal.returns-clause-changes
 returns-clause-changes g c =
     let same = of_area (lists_of c.args.database.now) c.args.edit c.args.number (slots_in c.args.database.now c.args.number)
     (head_or_none (item_at c.args.database.now c.args.number)) c.in-Some.area c.in-Some.field-0-1 (sym c.in-Some.is ∙ c.area_in.ensures) in
-    on_ok_weaker c.add_area_changes.result (λ added. added ∙ ap (λ (cs : List SlotChangeData). c.args.changes.now.items ++ cs) same)
-    c.add_area_changes.ensures.changes
+    rw (sym same) c.add_area_changes.ensures.changes

@@ -1,4 +1,4 @@
-use Rattle.event_lsas.specs.Outcomes.{is_among}
+use Rattle.event_links.specs.Interfaces.{is_among}
 use Rattle.event_lsas.proofs.Removals.{removed_without}
 use Rattle.event_lsas.proofs.RouterLinks.{long}
 use Rattle.event_lsas.proofs.laws.removed_links_are_gone.Goals as goal
