@@ -3,8 +3,8 @@
 //! (RFC 6987).
 //!
 //! [`resolve`] answers how an event changes which links of a database, or by which [`EventFault`]
-//! it is refused. [`chosen_in`] returns these links in an area. `specs/Events.antt` says what each
-//! event is about.
+//! it is refused. [`chosen_in`] returns these links in an area, and [`has_links_to`] whether a router
+//! has links to a neighbor. `specs/Events.antt` says what each event is about.
 #![tactic(auto)]
 
 // Events, and their refusals.
@@ -32,5 +32,5 @@ pub use fault::EventFault;
 pub use link_end::LinkEnd;
 pub use links::is_among;
 pub use resolving::resolve;
-pub use selecting::chosen_in;
+pub use selecting::{chosen_in, has_links_to};
 pub use selection::{LinkEdit, Selection};

@@ -2,7 +2,7 @@
 
 ghost use Rattle.std.specs.Prelude.{◌≡◌, IfOk};
 ghost use Rattle.lsdb.specs.Slots.{lists_of};
-ghost use Rattle.event_links.specs.declared.selection.Selection.TheVariants.{Between, OneLink};
+ghost use Rattle.event_links.specs.declared.selection.Selection.TheVariants.{Between, OneLink, Towards};
 ghost use Rattle.event_links.specs.Selections.{area_ids, of_one, chosen_in, chosen_everywhere, is_chosen, is_somewhere};
 
 use crate::chosen::ChosenLinks;
@@ -154,4 +154,21 @@ pub(crate) fn is_somewhere<A: Allocator + Copy>(
 {
     let found = chosen_everywhere(database, areas, selection)?;
     Ok(found.iter().any(|chosen| is_chosen(chosen)))
+}
+
+/// Whether a router has point-to-point links to a neighbor in some area.
+///
+/// # Errors
+///
+/// Want of memory.
+pub fn has_links_to<A: Allocator + Copy>(
+    database: &Database<A>,
+    router: RouterId,
+    neighbor: RouterId,
+) -> Result<bool, AllocError>
+    ensures { IfOk result (λ has. has
+        ≡ is_somewhere (lists_of database.now) (Towards router neighbor)) }
+{
+    let areas = area_ids(database)?;
+    is_somewhere(database, &areas, Selection::Towards(router, neighbor))
 }

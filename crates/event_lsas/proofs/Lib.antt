@@ -1,4 +1,5 @@
 mod AreasStay
+pub mod ReplacementLemmas
 mod RouterLinks
 mod Turns
 mod Walked

@@ -18,7 +18,7 @@ use Rattle.lsa_remaking.specs.declared.link_change.ChangedLink.{ChangedLink}
 use Rattle.lsa_remaking.specs.Making.{remeasured}
 use Rattle.lsa_remaking.specs.Relinking.{is_left, text_by, changed_text, count_left, changed_body, counted_body, relinked}
 use Rattle.event_links.specs.Interfaces.{is_among}
-use Rattle.event_lsas.specs.Outcomes.{LsaChange, kept, becomes, change_of_chosen, with_chosen, unless_empty, relinked_where}
+use Rattle.event_lsas.specs.Outcomes.{LsaChange, kept, becomes, change_of_chosen, with_chosen, unless_empty, can_replace, replaced, relinked_where}
 
 module _ (chosen : List Link) (lsa : List ℕ) where
   -- the links, of which the chosen ones are removed
@@ -74,10 +74,16 @@ module _ (chosen : List Link) (lsa : List ℕ) where
   -- an LSA that is left
   pub removed_without : (new : List ℕ) → 24 ≤ length lsa → list_any (is_among chosen) (links_of lsa) ≡ true
       → relinked_where Removed chosen lsa ≡ becomes (Some new) → without_links (is_among chosen) lsa ≡ Ok new
-  removed_without new long some is = without some ∙ ap Ok (sym (removed_is long) ∙ from_change (length chosen == 0) (count_left (with_chosen Removed chosen lsa) == 0) is) where
-    from_change : (none empty : Bool)
-        → cond none kept (becomes (cond empty None (Some (relinked (with_chosen Removed chosen lsa) lsa)))) ≡ becomes (Some new)
-        → relinked (with_chosen Removed chosen lsa) lsa ≡ new
-    from_change true empty e = absurd cc
-    from_change false true e = absurd cc
-    from_change false false e = cc
+  removed_without new long some is =
+      without some ∙ ap Ok (sym (removed_is long) ∙ from_change (length chosen == 0) (count_left (with_chosen Removed chosen lsa) == 0) is) where
+        made : List ℕ
+        made = relinked (with_chosen Removed chosen lsa) lsa
+
+        from_test : (can : Bool) → cond can (becomes (Some made)) kept ≡ becomes (Some new) → made ≡ new
+        from_test true e = cc
+        from_test false e = absurd cc
+
+        from_change : (none empty : Bool) → cond none kept (replaced lsa (cond empty None (Some made))) ≡ becomes (Some new) → made ≡ new
+        from_change true empty e = absurd cc
+        from_change false true e = absurd cc
+        from_change false false e = from_test (can_replace lsa made) e

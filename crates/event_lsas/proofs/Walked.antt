@@ -1,12 +1,13 @@
 -- The slots, once all of them have changed, hold what the outcome leaves of the lists.
 use Rattle.std.proofs.Common.{◌≡◌, ℕ, zero, suc, List, [], ◌∷◌, ◌++◌, length, map, append_assoc, length-append, Option, Some, None, refl, sym, ap, ◌∙◌, subst, arith}
 use Rattle.std.specs.List.{filter_map, cons_option}
+use Rattle.lsdb.specs.declared.section.Section.{Section}
 use Rattle.lsdb.specs.declared.slot.SlotId.{SlotId}
 use Rattle.lsdb.specs.Lists.{AreaHead, Lists}
 use Rattle.lsdb.specs.Slots.{Slot, Slots, SectionSlots, put, put_slot, full, section_of, lists_of}
 use Rattle.lsdb.proofs.SlotLemmas.{section_with, full-cons}
-use Rattle.event_lsas.specs.Outcomes.{LsaChange, kept, becomes, Outcome, lsa_after, section_after, after, SlotChangeData, changed_slots}
-use Rattle.event_lsas.specs.steps.Walking.{slot_change, slot_of, section_changes, changes_from}
+use Rattle.event_lsas.specs.Outcomes.{LsaChange, kept, becomes, Outcome, lsa_after, section_after, after, section_name, SlotChangeData, changed_slots}
+use Rattle.event_lsas.specs.SlotChanges.{slot_change, slot_of, section_changes, changes_from}
 
 abbrev section_slots : Option AreaHead → List Slot → SectionSlots
 section_slots area slots = record { area = area; slots = slots }
@@ -57,12 +58,12 @@ pushed : {X : Type 0} (xs : List X) (x : X) (n : ℕ) → n ≡ length xs → su
 pushed xs x n e = omega (arith, e, length-append xs (x ∷ []))
 
 -- one LSA, and then the others
-walk_slot : (low high : Slots) (area : Option AreaHead) (pre post : List Slot) (x : List ℕ) (c : LsaChange) (section i : ℕ)
+walk_slot : (low high : Slots) (area : Option AreaHead) (name : Section) (pre post : List Slot) (x : List ℕ) (c : LsaChange) (section i : ℕ)
     (cs : List SlotChangeData) (e : Slots) → section ≡ length low → i ≡ length pre
     → changed_slots (low ++ section_slots area (pre ++ lsa_after c x ∷ post) ∷ high) cs ≡ e
-    → changed_slots (low ++ section_slots area (pre ++ Some x ∷ post) ∷ high) (cons_option (slot_change (slot_of section i) c) cs) ≡ e
-walk_slot low high area pre post x kept section i cs e sections slots rest = rest
-walk_slot low high area pre post x (becomes new) section i cs e sections slots rest =
+    → changed_slots (low ++ section_slots area (pre ++ Some x ∷ post) ∷ high) (cons_option (slot_change (slot_of section i) name x c) cs) ≡ e
+walk_slot low high area name pre post x kept section i cs e sections slots rest = rest
+walk_slot low high area name pre post x (becomes new) section i cs e sections slots rest =
     ap (λ (d : Slots). changed_slots d cs) (slot_mid low high area pre post (Some x) new section i sections slots) ∙ rest
 
 cons_append : (o : Option SlotChangeData) (xs ys : List SlotChangeData) → cons_option o xs ++ ys ≡ cons_option o (xs ++ ys)
@@ -72,26 +73,26 @@ cons_append (Some c) xs ys = refl
 -- the walk on from slot i of a section
 walk : (outcome : Outcome) (low high : Slots) (area : Option AreaHead) (pre post : List Slot) (section i : ℕ) → section ≡ length low → i ≡ length pre
     → changed_slots (low ++ section_slots area (pre ++ post) ∷ high)
-    (section_changes (outcome area) section i post ++ changes_from outcome (suc section) high)
+    (section_changes (outcome area) section (section_name area) i post ++ changes_from outcome (suc section) high)
     ≡ low ++ section_slots area (pre ++ map (slot_after outcome area) post) ∷ slots_after outcome high
 walk outcome low [] area pre [] section i e g = refl
 walk outcome low (s ∷ high) area pre [] section i e g =
     passed low high (slots_after outcome high) (section_slots area (pre ++ [])) s
     (section_slots s.area (map (slot_after outcome s.area) s.slots))
-    (section_changes (outcome s.area) (suc section) 0 s.slots ++ changes_from outcome (suc (suc section)) high)
+    (section_changes (outcome s.area) (suc section) (section_name s.area) 0 s.slots ++ changes_from outcome (suc (suc section)) high)
     (walk outcome (low ++ section_slots area (pre ++ []) ∷ []) high s.area [] s.slots (suc section) 0
     (pushed low (section_slots area (pre ++ [])) section e) refl)
 walk outcome low high area pre (None ∷ post) section i e g =
     shifted low high (slots_after outcome high) area pre post (map (slot_after outcome area) post) None
-    (section_changes (outcome area) section (suc i) post ++ changes_from outcome (suc section) high)
+    (section_changes (outcome area) section (section_name area) (suc i) post ++ changes_from outcome (suc section) high)
     (walk outcome low high area (pre ++ None ∷ []) post section (suc i) e (pushed pre None i g))
 walk outcome low high area pre (Some x ∷ post) section i e g =
     let v : Slot = lsa_after (outcome area x) x in
-    let later : List SlotChangeData = section_changes (outcome area) section (suc i) post in
+    let later : List SlotChangeData = section_changes (outcome area) section (section_name area) (suc i) post in
     let others : List SlotChangeData = changes_from outcome (suc section) high in
     ap (λ (cs : List SlotChangeData). changed_slots (low ++ section_slots area (pre ++ Some x ∷ post) ∷ high) cs)
-    (cons_append (slot_change (slot_of section i) (outcome area x)) later others)
-    ∙ walk_slot low high area pre post x (outcome area x) section i (later ++ others) _ e g
+    (cons_append (slot_change (slot_of section i) (section_name area) x (outcome area x)) later others)
+    ∙ walk_slot low high area (section_name area) pre post x (outcome area x) section i (later ++ others) _ e g
     (shifted low high (slots_after outcome high) area pre post (map (slot_after outcome area) post) v (later ++ others)
     (walk outcome low high area (pre ++ v ∷ []) post section (suc i) e (pushed pre v i g)))
 

@@ -1,6 +1,7 @@
 -- The database after each event of links and of the costs of interfaces, or the first refusal.
-use Rattle.std.specs.Prelude.{◌≡◌, Bool, true, false, Result, Ok, Err}
+use Rattle.std.specs.Prelude.{◌≡◌, Bool, true, false, List, Result, Ok, Err}
 use Rattle.lsdb.specs.Lists.{Lists}
+use Rattle.lsdb.specs.Slots.{Slots, lists_of}
 use Rattle.event_links.specs.declared.event.LinkEvent.{LinkEvent}
 use Rattle.event_links.specs.declared.fault.EventFault.{EventFault}
 use Rattle.event_links.specs.declared.fault.EventFault.TheVariants as event
@@ -9,7 +10,8 @@ use Rattle.event_links.specs.Events.{resolved}
 use Rattle.event_links.specs.Selections.{chosen_in}
 use Rattle.event_lsas.specs.declared.fault.ChangeFault.{ChangeFault}
 use Rattle.event_lsas.specs.declared.fault.ChangeFault.TheVariants.{Refused, NotMade, OutOfMemory}
-use Rattle.event_lsas.specs.Outcomes.{Outcome, in_areas, where_chosen, after}
+use Rattle.event_lsas.specs.Outcomes.{Outcome, in_areas, where_chosen, after, SlotChangeData}
+use Rattle.event_lsas.specs.SlotChanges.{changes_from}
 
 -- what becomes of each LSA where links are changed
 abbrev pub outcome_of : Lists → LinkEdit → Outcome
@@ -22,6 +24,12 @@ carried db (Err fault) = Err fault
 -- the database after an event, or the first refusal
 abbrev pub link_event : Lists → LinkEvent → Result Lists EventFault
 link_event db event = carried db (resolved db event)
+
+-- the slots that an event changes are those that its links change, in their order
+pub record AreChanges (d : Slots) (event : LinkEvent) (changes : List SlotChangeData) : Type 0 where
+  pub edit : LinkEdit
+  pub links : resolved (lists_of d) event ≡ Ok edit
+  pub slots : changes ≡ changes_from (outcome_of (lists_of d) edit) 0 d
 
 -- ---- what the code answers
 

@@ -2,15 +2,16 @@
 
 ghost use Rattle.std.specs.Prelude.{◌≡◌, IfOk};
 ghost use Rattle.lsa_codec.specs.Fields.{kind_of};
+ghost use Rattle.lsdb.specs.declared.section.Section.TheVariants.{Area};
 ghost use Rattle.lsa_codec.specs.LsTypes.{router_lsa};
-ghost use Rattle.event_lsas.specs.Outcomes.{change_of_chosen, with_chosen, unless_empty, relinked_where, where_chosen};
-ghost use Rattle.event_lsas.specs.steps.Walking.{slot_change};
+ghost use Rattle.event_lsas.specs.Outcomes.{can_replace, change_of_chosen, replaced, with_chosen, unless_empty, relinked_where, where_chosen};
+ghost use Rattle.event_lsas.specs.SlotChanges.{slot_change};
 
 use crate::slot_change::SlotChange;
 use event_links::{ChosenLinks, is_among};
-use lsa_codec::{Key, Link, Lsa, RouterView};
+use lsa_codec::{AreaId, Key, Link, Lsa, RouterView};
 use lsa_remaking::{ChangedLink, LinkChange, RemakeFault, count_left, relink};
-use lsdb::SlotId;
+use lsdb::{Section, SlotId};
 use std::alloc::{AllocError, Allocator};
 
 /// How a link changes, where the chosen ones do.
@@ -63,42 +64,72 @@ fn rebuilt<A: Allocator + Copy>(
     Ok(Some(relink(alloc, lsa, &links)?))
 }
 
+/// Whether an LSA can take the place of another: it has its key, and is no longer.
+#[tactic(auto, using(crate::proofs::ReplacementLemmas::accepted_true))]
+fn can_replace<A: Allocator + Copy>(old: &Lsa<A>, new: &Lsa<A>) -> bool
+    ensures { result ≡ can_replace old.now new.now }
+{
+    let (bytes, old_bytes) = (new.bytes(), old.bytes());
+    new.key() == old.key() && bytes.len() <= old_bytes.len()
+}
+
+/// The change of a slot where another LSA takes the place of one if it can, or none does.
+fn change_to<A: Allocator + Copy>(
+    slot: SlotId,
+    area: AreaId,
+    lsa: &Lsa<A>,
+    new: Option<Lsa<A>>,
+) -> Option<SlotChange<A>>
+    ensures { result ≡ slot_change slot (Area area) lsa.now (replaced lsa.now new) }
+{
+    let (section, kind) = (Section::Area(area), lsa.key().kind);
+    let Some(new) = new else {
+        return Some(SlotChange::new(slot, section, kind, None));
+    };
+    if !can_replace(lsa, &new) {
+        return None;
+    }
+    Some(SlotChange::new(slot, section, kind, Some(new)))
+}
+
 /// The change of the slot of a router-LSA whose chosen links change.
 fn change_where<A: Allocator + Copy>(
     alloc: A,
     slot: SlotId,
+    area: AreaId,
     lsa: &Lsa<A>,
     change: LinkChange,
     chosen: &[Link],
 ) -> Result<Option<SlotChange<A>>, RemakeFault>
     requires router { kind_of lsa.now ≡ router_lsa }
     ensures made { IfOk result (λ new. new
-        ≡ slot_change slot (relinked_where change chosen.now lsa.now)) }
+        ≡ slot_change slot (Area area) lsa.now (relinked_where change chosen.now lsa.now)) }
 {
     if chosen.is_empty() {
         return Ok(None);
     }
     let new = rebuilt(alloc, lsa, change, chosen)?;
-    Ok(Some(SlotChange::new(slot, new)))
+    Ok(change_to(slot, area, lsa, new))
 }
 
-/// The change of the slot of an LSA, where it is a router-LSA with chosen links.
+/// The change of the slot of an LSA of an area, where it is a router-LSA with chosen links.
 pub(crate) fn change_for<A: Allocator + Copy>(
     alloc: A,
     slot: SlotId,
+    area: AreaId,
     lsa: &Lsa<A>,
     change: LinkChange,
     chosen: &ChosenLinks<A>,
 ) -> Result<Option<SlotChange<A>>, RemakeFault>
     ensures made { IfOk result (λ new. new
-        ≡ slot_change slot (where_chosen change chosen.now lsa.now)) }
+        ≡ slot_change slot (Area area) lsa.now (where_chosen change chosen.now lsa.now)) }
 {
     let key = lsa.key();
     if key == Key::of_router(chosen.router()) {
-        return change_where(alloc, slot, lsa, change, chosen.own());
+        return change_where(alloc, slot, area, lsa, change, chosen.own());
     }
     if key == Key::of_router(chosen.neighbor()) {
-        return change_where(alloc, slot, lsa, change, chosen.others());
+        return change_where(alloc, slot, area, lsa, change, chosen.others());
     }
     Ok(None)
 }

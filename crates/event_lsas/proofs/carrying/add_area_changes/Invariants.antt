@@ -1,7 +1,7 @@
 use Rattle.std.proofs.Common.{◌≡◌, ◌++◌, drop}
 use Rattle.lsdb.specs.Slots.{slots_in}
 use Rattle.event_lsas.specs.Outcomes.{where_chosen}
-use Rattle.event_lsas.specs.steps.Walking.{section_changes}
+use Rattle.event_lsas.specs.SlotChanges.{section_changes}
 use Rattle.event_lsas.proofs.carrying.add_area_changes.Given as goal
 
 abbrev pub invariant-loop-index : goal.invariant-loop-index

@@ -2,7 +2,7 @@ use Rattle.std.proofs.Common.{◌+◌, ◌++◌, List, ap, arith}
 use Rattle.lsdb.specs.Slots.{lists_of}
 use Rattle.event_lsas.specs.LinkEvents.{outcome_of}
 use Rattle.event_lsas.specs.Outcomes.{SlotChangeData}
-use Rattle.event_lsas.specs.steps.Walking.{changes_from}
+use Rattle.event_lsas.specs.SlotChanges.{changes_from}
 use Rattle.event_lsas.proofs.Turns.{exists_at, section_turn, section_end}
 use Rattle.event_lsas.proofs.carrying.changes_of.Goals as goal
 

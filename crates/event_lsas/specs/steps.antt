@@ -1,2 +1,0 @@
--- Steps of the code, which no public contract cites.
-pub mod Walking
