@@ -61,7 +61,7 @@ refusal_of fault.OutOfMemory = OutOfMemory
 
 abbrev pub rule_by : Lists → Result LinkEdit EventFault → Result Rule EditFault
 rule_by db (Ok edit) = Ok (by_fates (link_fates db edit))
-rule_by db (Err fault) = Err (refusal_of fault)
+rule_by db (Err why) = Err (refusal_of why)
 
 -- the first refusal of an event, or its rule
 abbrev pub event_rule : Lists → Event → Result Rule EditFault

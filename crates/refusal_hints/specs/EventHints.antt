@@ -39,9 +39,13 @@ sought_of Addresses link = if has_cost link.kind then Some link.link_data.0 else
 abbrev pub sought_in : Sought → Lists → RouterId → AreaId → List ℕ
 sought_in what db router area = option_map_or (λ lsa. filter_map (sought_of what) (links_of lsa)) (router_lsa_of db area router) []
 
--- in all areas, in rising order, each once
+-- in several areas, in rising order, each once
+abbrev pub sought_among : Sought → Lists → RouterId → List AreaId → List ℕ
+sought_among what db router areas = rising nat_cmp (flat_map (sought_in what db router) areas)
+
+-- in all areas
 abbrev pub sought : Sought → Lists → RouterId → List ℕ
-sought what db router = rising nat_cmp (flat_map (sought_in what db router) (area_ids db))
+sought what db router = sought_among what db router (area_ids db)
 
 -- ---- hints
 

@@ -3,7 +3,7 @@
 ghost use Rattle.std.specs.Prelude.{◌≡◌, IfOk, OnOk, ◌++◌, map};
 ghost use Rattle.lsa_codec.specs.Spelling.{address_text};
 ghost use Rattle.lsdb.specs.Slots.{lists_of};
-ghost use Rattle.refusal_hints.specs.EventHints.{address_hint, cost_advice, cut_advice, either_advice, event_advice, far_hint, neighbors_hint, one_router_advice, sought, sought_in, sought_of, two_routers_advice};
+ghost use Rattle.refusal_hints.specs.EventHints.{address_hint, cost_advice, cut_advice, either_advice, event_advice, far_hint, neighbors_hint, one_router_advice, sought, sought_among, sought_in, sought_of, two_routers_advice};
 
 use crate::advice::Advice;
 use crate::described::area_with;
@@ -62,7 +62,26 @@ impl Sought {
         lsa.links().filter_map(|link| self.of(link)).collect(alloc)
     }
 
-    /// What is sought of a router in all areas, in rising order, each once.
+    /// What is sought of a router in some areas, in rising order, each once.
+    fn in_areas<A: Allocator + Copy>(
+        self,
+        alloc: A,
+        database: &Database<A>,
+        router: RouterId,
+        areas: &[AreaId],
+    ) -> Result<Vec<u32, A>, AllocError>
+        ensures { IfOk result (λ found. found.items
+            ≡ sought_among self (lists_of database.now) router areas.now) }
+    {
+        let mut found = Vec::new(alloc);
+        for area in areas {
+            let mut more = self.in_area(alloc, database, router, *area)?;
+            found.append(&mut more)?;
+        }
+        rising(alloc, &found)
+    }
+
+    /// What is sought of a router in all areas.
     fn of_router<A: Allocator + Copy>(
         self,
         alloc: A,
@@ -73,12 +92,7 @@ impl Sought {
             (λ found. found.items ≡ sought self (lists_of database.now) router) }
     {
         let areas = area_ids(alloc, database)?;
-        let mut found = Vec::new(alloc);
-        for area in &areas {
-            let mut more = self.in_area(alloc, database, router, *area)?;
-            found.append(&mut more)?;
-        }
-        rising(alloc, &found)
+        self.in_areas(alloc, database, router, &areas)
     }
 }
 
