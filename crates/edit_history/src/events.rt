@@ -140,6 +140,7 @@ fn swaps_by<A: Allocator + Copy>(
 }
 
 /// The router-LSAs of an event's routers change in their places; one without links is removed.
+#[tactic(auto, using(crate::proofs::EventFates::event_planned, crate::proofs::EventFates::event_refused, crate::proofs::RulesCarriedOut::no_memory_for_event))]
 pub(crate) fn plan_event<A: Allocator + Copy>(
     database: &Database<A>,
     event: Event,
@@ -148,9 +149,15 @@ pub(crate) fn plan_event<A: Allocator + Copy>(
 {
     // Its invariant is needed after each swap too.
     database.assert_valid();
-    let happens = link_event(database, event)?;
-    match link_changes(database, happens) {
-        Ok(changes) => Ok(swaps_by(database.alloc(), changes)?),
-        Err(fault) => Err(fault_of(fault)),
+    let Ok(happens) = link_event(database, event) else {
+        return Err(EditFault::OutOfMemory);
+    };
+    let changes = match link_changes(database, happens) {
+        Ok(changes) => changes,
+        Err(fault) => return Err(fault_of(fault)),
+    };
+    match swaps_by(database.alloc(), changes) {
+        Ok(swaps) => Ok(swaps),
+        Err(_) => Err(EditFault::OutOfMemory),
     }
 }
