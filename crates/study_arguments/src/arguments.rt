@@ -256,14 +256,10 @@ pub fn two_or_three<'a, T: Argument, U: Argument, V: Argument, A: Allocator + Co
 /// S3 for the command word where there are fewer than three; S4 for a fifth word; the faults of the
 /// arguments.
 #[tactic(auto, unfolding(crate::specs::Arguments::three_or_four_of))]
-pub fn three_or_four<
-    'a,
-    T: Argument,
-    U: Argument,
-    V: Argument,
-    W: Argument,
-    A: Allocator + Copy,
->(names: &Names<'_, A>, line: Position<'a>) -> Result<(T, U, V, Option<W>), Fault<'a>>
+pub fn three_or_four<'a, T: Argument, U: Argument, V: Argument, W: Argument, A: Allocator + Copy>(
+    names: &Names<'_, A>,
+    line: Position<'a>,
+) -> Result<(T, U, V, Option<W>), Fault<'a>>
     ensures { Is result (three_or_four_of (T.means (stands_for names.now))
         (U.means (stands_for names.now)) (V.means (stands_for names.now))
         (W.means (stands_for names.now)) (words_at line.entry)) }

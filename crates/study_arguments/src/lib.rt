@@ -24,7 +24,9 @@ mod lists;
 
 pub use addresses::Dotted;
 pub use argument::{Argument, next_as};
-pub use arguments::{four, one, one_or_two, optional, six, three, three_or_four, two, two_or_three};
+pub use arguments::{
+    four, one, one_or_two, optional, six, three, three_or_four, two, two_or_three,
+};
 pub use fault::{Fault, FaultKind, ParseError};
 pub use language::Ends;
 pub use link::LinkName;
