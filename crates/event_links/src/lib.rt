@@ -3,8 +3,8 @@
 //! (RFC 6987).
 //!
 //! [`resolve`] answers how an event changes which links of a database, or by which [`EventFault`]
-//! it is refused. [`chosen_in`] returns these links in an area, and [`has_links_to`] whether a router
-//! has links to a neighbor. `specs/Events.antt` says what each event is about.
+//! it is refused. [`chosen_in`] returns these links in an area, and [`has_links_to`] whether a
+//! router has links to a neighbor. `specs/Events.antt` says what each event is about.
 #![tactic(auto)]
 
 // Events, and their refusals.

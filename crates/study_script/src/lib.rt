@@ -2,8 +2,8 @@
 //!
 //! Each line that `ospf-plan` takes means the same here. Beside these there are the same commands
 //! with names in place of addresses and with links that are named by an address or a prefix,
-//! events, the questions that only studies have, and expectations. [`parse`] reads a line, or returns its first
-//! fault with the word at fault.
+//! events, the questions that only studies have, and expectations. [`parse`] reads a line, or
+//! returns its first fault with the word at fault.
 #![tactic(auto)]
 
 // What lines ask for.

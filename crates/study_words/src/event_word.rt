@@ -9,8 +9,8 @@ pub enum EventWord {
     /// `cut ROUTER NEIGHBOR [ADDRESS]`: the point-to-point links of two routers go, or one of them,
     /// with the stubs of their interfaces.
     Cut,
-    /// `set-cost ROUTER FAR METRIC [both]`: sets the cost of interfaces to a neighbor, or of the one
-    /// with an address.
+    /// `set-cost ROUTER FAR METRIC [both]`: sets the cost of interfaces to a neighbor, or of the
+    /// one with an address.
     SetCost,
     /// `drain ROUTER`: links of a router to routers and networks cost 65535.
     Drain,
