@@ -32,7 +32,9 @@ fn add_change<A: Allocator + Copy>(
     let Some(new) = change_for(database.alloc(), slot, lsa, change, chosen)? else {
         return Ok(());
     };
-    changes.push(new)?;
+    if changes.push(new).is_err() {
+        return Err(RemakeFault::OutOfMemory);
+    }
     Ok(())
 }
 
