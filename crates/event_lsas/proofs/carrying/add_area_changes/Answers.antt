@@ -6,8 +6,8 @@ use Rattle.event_lsas.proofs.carrying.add_area_changes.Goals as goal
 pub loop-index-preserved : goal.loop-index-preserved
 loop-index-preserved g c =
     slot_turn (where_chosen c.args.change c.args.chosen.now) c.args.number c.args.database.now c.loop-index.index (c.loop-index.index + 1) _ _ _
-    (omega arith) (omega arith) c.in_ok-add_change.ensures.changes c.loop-index.invariant
+    (omega arith) (omega arith) c.in_ok-add_change.ensures c.loop-index.invariant
 
-pub returns-clause-changes : goal.returns-clause-changes
-returns-clause-changes g c =
+pub returns : goal.returns
+returns g c =
     slot_end (where_chosen c.args.change c.args.chosen.now) c.args.number c.args.database.now c.loop-index.index _ _ (omega arith) c.loop-index.invariant
