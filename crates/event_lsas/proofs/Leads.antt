@@ -10,8 +10,7 @@ use Rattle.event_links.specs.Events.{resolved, IsFault}
 use Rattle.event_lsas.specs.declared.fault.ChangeFault.{ChangeFault}
 use Rattle.event_lsas.specs.declared.fault.ChangeFault.TheVariants.{Refused, NotMade, OutOfMemory}
 use Rattle.event_lsas.specs.LinkEvents.{carried, outcome_of, link_event, fault_of_event, is_late, IsRefusal}
-use Rattle.event_lsas.specs.Outcomes.{SlotChangeData, changed_slots}
-use Rattle.event_lsas.specs.steps.Walking.{changes_from}
+use Rattle.event_lsas.specs.SlotChanges.{SlotChangeData, changed_slots, changes_from}
 use Rattle.event_lsas.proofs.Walked.{changes_lead}
 
 -- the changes of the slots lead to the database after the event

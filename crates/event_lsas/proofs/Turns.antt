@@ -12,8 +12,8 @@ use Rattle.lsdb.specs.Slots.{Slot, Slots, SectionSlots, item_at, slot_at, slot_i
 use Rattle.event_links.specs.declared.selection.LinkEdit.{LinkEdit}
 use Rattle.event_links.specs.Selections.{chosen_in, id_of}
 use Rattle.event_lsas.specs.LinkEvents.{outcome_of}
-use Rattle.event_lsas.specs.Outcomes.{LsaChange, kept, Outcome, where_chosen, SlotChangeData}
-use Rattle.event_lsas.specs.steps.Walking.{slot_change, change_at, slot_of, section_changes, changes_from}
+use Rattle.event_lsas.specs.Outcomes.{LsaChange, kept, Outcome, where_chosen}
+use Rattle.event_lsas.specs.SlotChanges.{SlotChangeData, slot_change, change_at, slot_of, section_changes, changes_from}
 
 -- ---- one item of a list
 

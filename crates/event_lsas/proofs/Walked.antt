@@ -5,8 +5,8 @@ use Rattle.lsdb.specs.declared.slot.SlotId.{SlotId}
 use Rattle.lsdb.specs.Lists.{AreaHead, Lists}
 use Rattle.lsdb.specs.Slots.{Slot, Slots, SectionSlots, put, put_slot, full, section_of, lists_of}
 use Rattle.lsdb.proofs.SlotLemmas.{section_with, full-cons}
-use Rattle.event_lsas.specs.Outcomes.{LsaChange, kept, becomes, Outcome, lsa_after, section_after, after, SlotChangeData, changed_slots}
-use Rattle.event_lsas.specs.steps.Walking.{slot_change, slot_of, section_changes, changes_from}
+use Rattle.event_lsas.specs.Outcomes.{LsaChange, kept, becomes, Outcome, lsa_after, section_after, after}
+use Rattle.event_lsas.specs.SlotChanges.{SlotChangeData, changed_slots, slot_change, slot_of, section_changes, changes_from}
 
 abbrev section_slots : Option AreaHead → List Slot → SectionSlots
 section_slots area slots = record { area = area; slots = slots }

@@ -1,3 +1,3 @@
 pub mod Outcomes
+pub mod SlotChanges
 pub mod LinkEvents
-pub mod steps

@@ -1,11 +1,10 @@
 -- What an event makes of each LSA of a database, and the database after it.
-use Rattle.std.specs.Prelude.{ℕ, ◌==◌, List, [], ◌∷◌, length, map, Option, Some, None, if◌then◌else◌}
+use Rattle.std.specs.Prelude.{ℕ, ◌==◌, List, length, map, Option, Some, None, if◌then◌else◌}
 use Rattle.std.specs.List.{filter_map}
 use Rattle.lsa_codec.specs.declared.address.AreaId.{AreaId}
 use Rattle.lsa_codec.specs.declared.link.Link.{Link}
-use Rattle.lsdb.specs.declared.slot.SlotId.{SlotId}
 use Rattle.lsdb.specs.Lists.{AreaHead, SectionLsas, Lists}
-use Rattle.lsdb.specs.Slots.{Slot, Slots, put}
+use Rattle.lsdb.specs.Slots.{Slot}
 use Rattle.lsa_remaking.specs.declared.link_change.LinkChange.{LinkChange}
 use Rattle.lsa_remaking.specs.declared.link_change.LinkChange.TheVariants.{Stays}
 use Rattle.lsa_remaking.specs.declared.link_change.ChangedLink.{ChangedLink}
@@ -21,6 +20,10 @@ pub data LsaChange : Type 0 where
 -- what becomes of each LSA, by its area, or none for those of AS scope
 abbrev pub Outcome : Type 0
 Outcome = Option AreaHead → List ℕ → LsaChange
+
+-- what becomes of the LSAs of one section, by a value
+abbrev pub OutcomeBy : Type 0 → Type 0
+OutcomeBy S = S → List ℕ → LsaChange
 
 abbrev pub lsa_after : LsaChange → List ℕ → Option (List ℕ)
 lsa_after kept lsa = Some lsa
@@ -61,14 +64,7 @@ relinked_where change chosen lsa = if length chosen == 0 then kept else becomes 
 abbrev pub where_chosen : LinkChange → ChosenData → List ℕ → LsaChange
 where_chosen change chosen lsa = relinked_where change (chosen_of chosen lsa) lsa
 
--- ---- the slots that change
-
--- a slot, and the LSA that it gets: none where the LSA there is withdrawn
-pub record SlotChangeData : Type 0 where
-  pub slot : SlotId
-  pub new : Slot
-
--- the slots once they have changed, from the first to the last
-abbrev pub changed_slots : Slots → List SlotChangeData → Slots
-changed_slots d [] = d
-changed_slots d (c ∷ cs) = changed_slots (put d c.slot c.new) cs
+-- a change of the chosen links of an area
+pub record ChosenChangeData : Type 0 where
+  pub change : LinkChange
+  pub chosen : ChosenData

@@ -1,65 +1,18 @@
 //! The slots that an event changes.
 
-ghost use Rattle.std.specs.Prelude.{◌≡◌, ◌++◌, IsSome, IfOk, IfErr, OnOk, Ok, option_to_list};
-ghost use Rattle.lsdb.specs.Slots.{item_at, slot_at, slots_in, head_or_none, lists_of};
-ghost use Rattle.event_lsas.specs.Outcomes.{where_chosen, changed_slots};
+ghost use Rattle.std.specs.Prelude.{◌≡◌, ◌++◌, IsSome, IfOk, IfErr, OnOk, Ok};
+ghost use Rattle.lsdb.specs.Slots.{item_at, slots_in, head_or_none, lists_of};
 ghost use Rattle.event_lsas.specs.LinkEvents.{outcome_of, link_event, IsRefusal};
-ghost use Rattle.event_lsas.specs.steps.Walking.{change_at, section_changes, changes_from};
+ghost use Rattle.event_lsas.specs.SlotChanges.{changed_slots, section_changes, changes_from};
 
 use crate::fault::{ChangeFault, of_event, of_remaking};
-use crate::rebuilding::change_for;
+use crate::rebuilding::ChosenChange;
 use crate::slot_change::SlotChange;
-use event_links::{ChosenLinks, LinkEdit, LinkEvent, chosen_in, resolve};
-use lsa_remaking::{LinkChange, RemakeFault};
-use lsdb::{Database, SlotId};
+use crate::walking::add_changes;
+use event_links::{LinkEdit, LinkEvent, chosen_in, resolve};
+use lsa_remaking::RemakeFault;
+use lsdb::Database;
 use std::alloc::Allocator;
-
-/// Adds the change of a slot, if its LSA changes.
-fn add_change<A: Allocator + Copy>(
-    database: &Database<A>,
-    slot: SlotId,
-    change: LinkChange,
-    chosen: &ChosenLinks<A>,
-    changes: &mut Vec<SlotChange<A>, A>,
-) -> Result<(), RemakeFault>
-    ensures { OnOk result (changes.new.items ≡ changes.old.items
-        ++ option_to_list (change_at (where_chosen change chosen.now) slot
-        (slot_at database.now slot))) }
-{
-    let Some(lsa) = database.get(slot) else {
-        return Ok(());
-    };
-    let Some(new) = change_for(database.alloc(), slot, lsa, change, chosen)? else {
-        return Ok(());
-    };
-    if changes.push(new).is_err() {
-        return Err(RemakeFault::OutOfMemory);
-    }
-    Ok(())
-}
-
-/// Adds the changes of the slots of an area, by its number.
-fn add_area_changes<A: Allocator + Copy>(
-    database: &Database<A>,
-    number: usize,
-    change: LinkChange,
-    chosen: &ChosenLinks<A>,
-    changes: &mut Vec<SlotChange<A>, A>,
-) -> Result<(), RemakeFault>
-    requires { IsSome (item_at database.now number) }
-    ensures { OnOk result (changes.new.items ≡ changes.old.items
-        ++ section_changes (where_chosen change chosen.now) number 0
-        (slots_in database.now number)) }
-{
-    for index in 0..database.slot_count(number) {
-        let slot = SlotId {
-            section: number,
-            index,
-        };
-        add_change(database, slot, change, chosen, changes)?;
-    }
-    Ok(())
-}
 
 /// Adds the changes of the slots of a section, by its number.
 fn add_section_changes<A: Allocator + Copy>(
@@ -78,7 +31,11 @@ fn add_section_changes<A: Allocator + Copy>(
         return Ok(());
     };
     let chosen = chosen_in(database, area, edit.selection)?;
-    add_area_changes(database, number, edit.change, &chosen, changes)
+    let outcome = ChosenChange {
+        change: edit.change,
+        chosen,
+    };
+    add_changes(database, number, &outcome, changes)
 }
 
 /// The slots that change where links do.

@@ -8,11 +8,13 @@
 
 // What events change.
 mod fault;
+mod outcome;
 mod slot_change;
 
 // How they do.
 mod carrying;
 mod rebuilding;
+mod walking;
 
 // What holds of the definitions.
 mod laws;
@@ -20,4 +22,7 @@ mod laws;
 pub use carrying::link_changes;
 pub use fault::ChangeFault;
 pub use laws::{areas_stay, others_stay, removed_links_are_gone};
+pub use outcome::SectionOutcome;
+pub use rebuilding::rebuilt;
 pub use slot_change::SlotChange;
+pub use walking::add_changes;

@@ -15,7 +15,7 @@ pub struct SlotChange<A: Allocator = Global> {
 }
 
 impl<A: Allocator> Model for SlotChange<A> {
-    ghost use Rattle.event_lsas.specs.Outcomes.{SlotChangeData};
+    ghost use Rattle.event_lsas.specs.SlotChanges.{SlotChangeData};
 
     ghost Value = { SlotChangeData };
 
@@ -24,7 +24,7 @@ impl<A: Allocator> Model for SlotChange<A> {
 
 impl<A: Allocator + Copy> SlotChange<A> {
     /// The change of a slot.
-    pub(crate) fn new(slot: SlotId, lsa: Option<Lsa<A>>) -> SlotChange<A>
+    pub fn new(slot: SlotId, lsa: Option<Lsa<A>>) -> SlotChange<A>
         ensures { result ≡ record { slot = slot; new = lsa } }
     {
         SlotChange { slot, lsa }

@@ -1,8 +1,8 @@
 use Rattle.std.proofs.Common.{◌+◌, ◌++◌, List, ap, arith}
 use Rattle.lsdb.specs.Slots.{lists_of}
 use Rattle.event_lsas.specs.LinkEvents.{outcome_of}
-use Rattle.event_lsas.specs.Outcomes.{SlotChangeData}
-use Rattle.event_lsas.specs.steps.Walking.{changes_from}
+use Rattle.event_lsas.specs.SlotChanges.{SlotChangeData}
+use Rattle.event_lsas.specs.SlotChanges.{changes_from}
 use Rattle.event_lsas.proofs.Turns.{exists_at, section_turn, section_end}
 use Rattle.event_lsas.proofs.carrying.changes_of.Goals as goal
 
@@ -17,8 +17,8 @@ add_section_changes-requires g c = exists_at c.args.database.now c.loop-number.n
 pub loop-number-preserved : goal.loop-number-preserved
 loop-number-preserved g c =
     section_turn (outcome_of (lists_of c.args.database.now) c.args.edit) c.args.database.now c.loop-number.number (c.loop-number.number + 1) _ _ _
-    (omega arith) (omega arith) c.in_ok-add_section_changes.ensures.changes c.loop-number.invariant
+    (omega arith) (omega arith) c.in_ok-add_section_changes.ensures c.loop-number.invariant
 
-pub returns-clause-changes : goal.returns-clause-changes
-returns-clause-changes g c =
+pub returns : goal.returns
+returns g c =
     section_end (outcome_of (lists_of c.args.database.now) c.args.edit) c.args.database.now c.loop-number.number _ _ (omega arith) c.loop-number.invariant

@@ -1,7 +1,7 @@
 use Rattle.std.proofs.Common.{◌≡◌, ◌++◌, drop}
 use Rattle.lsdb.specs.Slots.{lists_of}
 use Rattle.event_lsas.specs.LinkEvents.{outcome_of}
-use Rattle.event_lsas.specs.steps.Walking.{changes_from}
+use Rattle.event_lsas.specs.SlotChanges.{changes_from}
 use Rattle.event_lsas.proofs.carrying.changes_of.Given as goal
 
 abbrev pub invariant-loop-number : goal.invariant-loop-number

@@ -2,8 +2,20 @@
 use Rattle.std.specs.Prelude.{ℕ, suc, List, [], ◌∷◌, ◌++◌, Option, Some, None}
 use Rattle.std.specs.List.{cons_option}
 use Rattle.lsdb.specs.declared.slot.SlotId.{SlotId}
-use Rattle.lsdb.specs.Slots.{Slot, Slots}
-use Rattle.event_lsas.specs.Outcomes.{LsaChange, kept, becomes, Outcome, SlotChangeData}
+use Rattle.lsdb.specs.Slots.{Slot, Slots, put}
+use Rattle.event_lsas.specs.Outcomes.{LsaChange, kept, becomes, Outcome}
+
+-- a slot, and the LSA that it gets: none where the LSA there is withdrawn
+pub record SlotChangeData : Type 0 where
+  pub slot : SlotId
+  pub new : Slot
+
+-- the slots once they have changed, from the first to the last
+abbrev pub changed_slots : Slots → List SlotChangeData → Slots
+changed_slots d [] = d
+changed_slots d (c ∷ cs) = changed_slots (put d c.slot c.new) cs
+
+-- ---- where LSAs change
 
 -- the change of a slot, where its LSA changes
 abbrev pub slot_change : SlotId → LsaChange → Option SlotChangeData
