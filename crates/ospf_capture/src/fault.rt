@@ -1,13 +1,13 @@
 //! Why the program ends with status 3, 4 or 5.
 
 ghost use Rattle.std.specs.Prelude.{◌≡◌};
-ghost use Rattle.ospf_capture.specs.Exit.{index_of, named, not_replaced, unlisted, unread};
+ghost use Rattle.ospf_capture.specs.Exit.{index_of, named, no_list, not_replaced, unlisted, unread};
 
 use capture_report::RunFault;
 use host_io::{ReadFault, ReplaceFault};
 use lsdb_listing::ListFault;
 use lsdb_merge::JoinFault;
-use network_files::FileFault;
+use network_files::{FileFault, is_compressed};
 use std::alloc::{AllocError, AllocFailed};
 
 /// What is wrong with a file.
@@ -25,6 +25,8 @@ pub(crate) enum FileEnd {
     Refused(FileFault),
     /// It is meant to be a list of LSA headers, and is not one.
     NotAList,
+    /// The same, and it begins as a file that gzip has compressed.
+    CompressedList,
 }
 
 /// Why the program ends with status 3, 4 or 5.
@@ -77,12 +79,23 @@ pub(crate) fn unread(name: &str, fault: ReadFault) -> ExitFault<'_>
     }
 }
 
-/// Why a text is not a list, with its name.
-pub(crate) fn unlisted(name: &str, fault: ListFault) -> ExitFault<'_>
-    ensures { result ≡ unlisted name.entry fault }
+/// What is wrong with a file that is no list.
+fn no_list(bytes: &[u8]) -> FileEnd
+    ensures { result ≡ no_list bytes.now }
+{
+    if is_compressed(bytes) {
+        FileEnd::CompressedList
+    } else {
+        FileEnd::NotAList
+    }
+}
+
+/// Why a text with these bytes is not a list, with its name.
+pub(crate) fn unlisted<'a>(name: &'a str, bytes: &[u8], fault: ListFault) -> ExitFault<'a>
+    ensures { result ≡ unlisted name.entry bytes.now fault }
 {
     match fault {
-        ListFault::NotAList => ExitFault::File(name, FileEnd::NotAList),
+        ListFault::NotAList => ExitFault::File(name, no_list(bytes)),
         ListFault::OutOfMemory => ExitFault::Memory,
     }
 }
