@@ -3,8 +3,8 @@
  * A call reads the bytes that it is handed, and writes to the room that it is handed, and nothing else: no file, no
  * allocation, no thread, no state between calls. So calls may run side by side, each with memory and rooms of its own.
  *
- * What a call writes is proved to be what the programs ospf-plan and ospf-study write for the same input; docs/PROOFS.md
- * says what that means. The caller sees to these:
+ * What a call writes is proved to be what the programs ospf-plan, ospf-study and ospf-capture write for the same input;
+ * docs/PROOFS.md says what that means. The caller sees to these:
  *
  * - No pointer is NULL, even where its length is 0, and no length is above 2^63 - 1.
  * - What is written to (memory, rooms, report) overlaps nothing else that the call is handed.
@@ -30,9 +30,10 @@ extern "C" {
 /* How a call ends: 0 to 5 are the statuses of the programs. */
 enum {
     OSPF_DONE = 0,         /* the texts are in their rooms */
-    OSPF_NOT_ACCEPTED = 1, /* so are they, but a line of the study was refused or failed */
-    OSPF_REFUSED = 3,      /* the dump, the baseline or the names are refused */
-    OSPF_TOO_LARGE = 4,    /* the script, the names or the study have more than 1,048,576 bytes */
+    OSPF_NOT_ACCEPTED = 1, /* so are they, but a line of the study was refused or failed, or the run has a warning */
+    OSPF_NOT_TEXT = 2,     /* the name of a file is not text in UTF-8 */
+    OSPF_REFUSED = 3,      /* the dump, the baseline, the names or a file are refused, or the files make no database */
+    OSPF_TOO_LARGE = 4,    /* the script, the names or the study have more than 1,048,576 bytes, or a file 536,870,912 */
     OSPF_NO_MEMORY = 5,    /* the memory is used up */
     OSPF_NO_ROOM = 6,      /* a room is too small */
 };
@@ -113,6 +114,45 @@ uint32_t ospf_study_run(struct ospf_memory memory, const struct ospf_study_manne
                         uint8_t *errors, size_t errors_room,
                         uint8_t *left, size_t left_room,
                         struct ospf_study_report *report);
+
+/* ---- captures, as of ospf-capture */
+
+/* A file: a packet capture, an SNMP walk, a printed database or a list. The name, in UTF-8 and without a NUL at its end,
+ * stands before each line about the file. */
+struct ospf_capture_file {
+    const char *name;
+    size_t name_length; /* in bytes */
+    const uint8_t *bytes;
+    size_t length;
+};
+
+/* How a run is made: the options of ospf-capture. */
+struct ospf_capture_manner {
+    bool keep_flushed; /* --keep-flushed */
+};
+
+/* Lengths are in bytes. Where the call ends with another status than OSPF_DONE, OSPF_NOT_ACCEPTED and OSPF_NO_ROOM, all
+ * is 0 but `warnings`. */
+struct ospf_capture_report {
+    size_t output;
+    size_t contents; /* of the output, the lines of what each file contains, which come first */
+    size_t warnings; /* where the run ended early, the length of the line that says why */
+    size_t dump;
+};
+
+/* Makes the dump of a network's files, and compares it with the lists of --against.
+ *
+ * Returns OSPF_DONE where there is no warning, OSPF_NOT_ACCEPTED where there is one, and any other status. `output` gets
+ * what ospf-capture writes to standard output: the lines of what each file contains, and those of notices. `warnings` gets
+ * what it writes to standard error, and `dump` the dump of --out. Where the run ended early, `warnings` gets the line that
+ * says why, if it fits; with OSPF_NOT_TEXT there is none. */
+uint32_t ospf_capture_run(struct ospf_memory memory, const struct ospf_capture_manner *manner,
+                          const struct ospf_capture_file *files, size_t file_count,
+                          const struct ospf_capture_file *lists, size_t list_count,
+                          uint8_t *output, size_t output_room,
+                          uint8_t *warnings, size_t warnings_room,
+                          uint8_t *dump, size_t dump_room,
+                          struct ospf_capture_report *report);
 
 #ifdef __cplusplus
 }

@@ -8,15 +8,26 @@
         for pair in study.lost():
             print(pair.router, pair.prefix)
 
-Each answer is that of the program `ospf-study`: the calculation is the same proved code, in a shared library.
+Each answer is that of the program `ospf-study`: the calculation is the same proved code, in a shared library. `capture` makes
+a database of what a network gives, as `ospf-capture` does.
 """
 from . import errors, results
+from .captures import Captured, CapturedFile, CaptureFinding, capture
 from .database import Database
-from .errors import DumpRefused, LineRefused, NamesRefused, OutOfMemory, PlanError, TooLarge
+from .errors import (
+    DumpRefused,
+    FileRefused,
+    FilesRefused,
+    LineRefused,
+    NamesRefused,
+    OutOfMemory,
+    PlanError,
+    TooLarge,
+)
 from .results import Rows
 from .study import Study
 
 __all__ = [
-    "Database", "DumpRefused", "LineRefused", "NamesRefused", "OutOfMemory", "PlanError", "Rows", "Study", "TooLarge",
-    "errors", "results",
+    "CaptureFinding", "Captured", "CapturedFile", "Database", "DumpRefused", "FileRefused", "FilesRefused", "LineRefused",
+    "NamesRefused", "OutOfMemory", "PlanError", "Rows", "Study", "TooLarge", "capture", "errors", "results",
 ]

@@ -55,6 +55,28 @@ class LineRefused(PlanError):
         """What would have been right."""
 
 
+class FileRefused(PlanError):
+    """A file of a network, or a list, is refused, for its first fault."""
+
+    def __init__(self, file: str, name: str, offset: int | None) -> None:
+        super().__init__(f"{file}: {name}" + ("" if offset is None else f" at {offset}"))
+        self.file = file
+        """The name of the file."""
+        self.name = name
+        """As `UnknownKind`, `Compressed`, `NotAList`, or `TooLarge` above 536,870,912 bytes."""
+        self.offset = offset
+        """The number of bytes before what is malformed, where the fault has a place."""
+
+
+class FilesRefused(PlanError):
+    """The files of a network make no database together."""
+
+    def __init__(self, name: str) -> None:
+        super().__init__(f"the files make no database: {name}")
+        self.name = name
+        """As `TooManyAreas`."""
+
+
 class TooLarge(PlanError):
     """A study, the names or a script are longer than 1,048,576 bytes."""
 
@@ -82,3 +104,17 @@ def from_line(line: str) -> PlanError:
     if line.startswith("memory:"):
         return OutOfMemory()
     return TooLarge()
+
+
+FILE_LINE = re.compile(r"(\w+)(?: at (\d+))?(?: \(zcat .*\))?\n", re.S)
+
+
+def from_capture_line(line: str, names: list[str]) -> PlanError:
+    """The exception for the line of a run over files of these names that ended early."""
+    if line in ("", "memory: OutOfMemory\n"):
+        return OutOfMemory()
+    for name in names:
+        match = FILE_LINE.fullmatch(line.removeprefix(f"{name}: "))
+        if line.startswith(f"{name}: ") and match:
+            return FileRefused(name, match[1], int(match[2]) if match[2] else None)
+    return FilesRefused(line.removeprefix("dump: ").removesuffix("\n"))

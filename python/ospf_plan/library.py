@@ -5,10 +5,11 @@ import ctypes
 import mmap
 import os
 import pathlib
+from collections.abc import Sequence
 from dataclasses import dataclass
 from typing import Callable
 
-from .errors import OutOfMemory, from_line
+from .errors import OutOfMemory, from_capture_line, from_line
 
 LEAST_MEMORY = 1 << 24
 """The memory of the first attempt of a call, in bytes. Each further attempt has four times as much."""
@@ -16,7 +17,7 @@ LEAST_MEMORY = 1 << 24
 MOST_MEMORY = 1 << 33
 """The greatest memory of a call, in bytes."""
 
-DONE, NOT_ACCEPTED, NO_MEMORY, NO_ROOM = 0, 1, 5, 6
+DONE, NOT_ACCEPTED, NOT_TEXT, NO_MEMORY, NO_ROOM = 0, 1, 2, 5, 6
 
 
 class HostMemory(ctypes.Structure):
@@ -45,6 +46,20 @@ class StudyReport(ctypes.Structure):
         *((name, ctypes.c_size_t) for name in ("replies", "errors", "dump")),
         *((name, ctypes.c_uint64) for name in ("lines", "refused", "expectations", "failed")),
     ]
+
+
+class CaptureFile(ctypes.Structure):
+    _fields_ = [
+        ("name", ctypes.c_char_p), ("name_length", ctypes.c_size_t), ("bytes", ctypes.c_char_p), ("length", ctypes.c_size_t),
+    ]
+
+
+class CaptureManner(ctypes.Structure):
+    _fields_ = [("keep_flushed", ctypes.c_bool)]
+
+
+class CaptureReport(ctypes.Structure):
+    _fields_ = [(name, ctypes.c_size_t) for name in ("output", "contents", "warnings", "dump")]
 
 
 @dataclass(frozen=True)
@@ -77,6 +92,20 @@ class StudyTexts:
     """Whether all lines were accepted."""
 
 
+@dataclass(frozen=True)
+class CaptureTexts:
+    """What a run over the files of a network writes."""
+
+    contents: bytes
+    """A line for each file: what it contains."""
+    notices: bytes
+    """A line for each notice."""
+    warnings: bytes
+    """A line for each warning; where there is none, nothing is missing."""
+    dump: bytes
+    """The dump of the database that all files make."""
+
+
 def path_of_library() -> pathlib.Path:
     """The shared library: that of the variable OSPF_PLAN_LIBRARY, or the one beside this file."""
     named = os.environ.get("OSPF_PLAN_LIBRARY")
@@ -97,7 +126,12 @@ def library() -> ctypes.CDLL:
         loaded.ospf_study_run.argtypes = [
             HostMemory, ctypes.POINTER(StudyManner), *text * 4, *room * 3, ctypes.POINTER(StudyReport),
         ]
-        loaded.ospf_plan_run.restype = loaded.ospf_study_run.restype = ctypes.c_uint32
+        loaded.ospf_capture_run.argtypes = [
+            HostMemory, ctypes.POINTER(CaptureManner), *[ctypes.POINTER(CaptureFile), ctypes.c_size_t] * 2, *room * 3,
+            ctypes.POINTER(CaptureReport),
+        ]
+        for call in (loaded.ospf_plan_run, loaded.ospf_study_run, loaded.ospf_capture_run):
+            call.restype = ctypes.c_uint32
         _loaded.append(loaded)
     return _loaded[0]
 
@@ -160,3 +194,32 @@ def study(
     if status not in (DONE, NOT_ACCEPTED):
         raise from_line(texts[1].decode()) if texts[1] else OutOfMemory()
     return StudyTexts(texts[0], texts[1], texts[2], status == DONE)
+
+
+def _files(files: Sequence[tuple[bytes, bytes]]) -> list:
+    """Files as the library takes them. The array of none has a place too, since no pointer may be NULL."""
+    rows = [CaptureFile(name, len(name), data, len(data)) for name, data in files]
+    return [(CaptureFile * max(1, len(rows)))(*rows), len(rows)]
+
+
+def capture(
+    files: Sequence[tuple[bytes, bytes]], lists: Sequence[tuple[bytes, bytes]] = (), *, keep_flushed: bool = False,
+) -> CaptureTexts:
+    """Makes the dump of a network's files, each given as its name in UTF-8 and its bytes, as `ospf-capture` does.
+
+    The database is compared with the lists. Raises `FileRefused`, `FilesRefused` or `OutOfMemory`, and ValueError for a name
+    that is not UTF-8.
+    """
+    manner, report = CaptureManner(keep_flushed), CaptureReport()
+    given = [*_files(files), *_files(lists)]
+
+    def call(memory: HostMemory, rooms: list) -> int:
+        return library().ospf_capture_run(memory, ctypes.byref(manner), *given, *rooms, ctypes.byref(report))
+
+    status, texts = _attempts(call, lambda: [report.output, report.warnings, report.dump])
+    if status == NOT_TEXT:
+        raise ValueError("the name of a file is not text in UTF-8")
+    if status not in (DONE, NOT_ACCEPTED):
+        raise from_capture_line(texts[1].decode(), [name.decode() for name, _ in [*lists, *files]])
+    output, warnings, dump = texts
+    return CaptureTexts(output[: report.contents], output[report.contents:], warnings, dump)

@@ -316,6 +316,164 @@ static void check_study_rooms(struct text dump, struct text names)
     drop_study(long_one), drop_study(exact), drop_study(whole), drop(empty), drop(text), drop(large);
 }
 
+/* ---- captures */
+
+#define WALK_KIND ".1.3.6.1.2.1.14.2.1.3.0.0.0.0 = INTEGER: 1\n"
+#define WALK_AGED(AGE)                                                                                                \
+    ".1.3.6.1.2.1.14.4.1.8.0.0.0.0.1.1.1.1.1.1.1.1.1 = Hex-STRING: " AGE " 02 01 01 01 01 01 01 01 01 01 80 00 00 01 \n" \
+    "D5 5A 00 24 00 00 00 01 02 02 02 02 0A 00 00 01 \n01 00 00 0A \n"
+#define WALK_ONE WALK_AGED("00 01")
+#define WALK_TWO                                                                                                      \
+    ".1.3.6.1.2.1.14.4.1.8.0.0.0.0.1.2.2.2.2.2.2.2.2 = Hex-STRING: 00 01 02 01 02 02 02 02 02 02 02 02 80 00 00 01 \n" \
+    "62 A7 00 30 00 00 00 02 01 01 01 01 0A 00 00 02 \n01 00 00 0A 0A 02 00 00 FF FF 00 00 03 00 00 05 \n"
+#define LIST                                                                                                          \
+    "\n       OSPF Router with ID (4.4.4.4)\n\n                Router Link States (Area 0.0.0.0)\n\n"                \
+    "Link ID         ADV Router      Age  Seq#       CkSum  Link count\n"                                             \
+    "3.3.3.3        3.3.3.3            2 0x80000001 0x1234 2\n\n"
+
+/* The dump of both LSAs (docs/FORMATS.md): router-LSAs of 1.1.1.1 and 2.2.2.2 in the backbone. */
+static const uint8_t BOTH[] =
+    "OSWP\1\1\0\0\0\0\0\0\2"
+    "\0\1\2\1\1\1\1\1\1\1\1\1\x80\0\0\1\xd5\x5a\0\x24\0\0\0\1\2\2\2\2\x0a\0\0\1\1\0\0\x0a"
+    "\0\1\2\1\2\2\2\2\2\2\2\2\x80\0\0\1\x62\xa7\0\x30\0\0\0\2\1\1\1\1\x0a\0\0\2\1\0\0\x0a"
+    "\x0a\2\0\0\xff\xff\0\0\3\0\0\5"
+    "\0";
+
+struct capture {
+    struct text output, warnings, dump;
+    struct ospf_capture_report report;
+    uint32_t status;
+};
+
+static struct capture capture_with(size_t memory, bool keeps, const struct ospf_capture_file *files, size_t file_count,
+                                   const struct ospf_capture_file *lists, size_t list_count, const size_t room[3])
+{
+    struct capture run = {at_end(NULL, room[0]), at_end(NULL, room[1]), at_end(NULL, room[2]), {0}, 0};
+    struct text block = at_end(NULL, memory);
+    struct text given = at_end(files, file_count * sizeof *files), listed = at_end(lists, list_count * sizeof *lists);
+    struct ospf_capture_manner manner = {keeps};
+    memset(&run.report, CANARY, sizeof run.report);
+    run.status = ospf_capture_run((struct ospf_memory){block.bytes, memory}, &manner,
+                                  (const struct ospf_capture_file *)given.bytes, file_count,
+                                  (const struct ospf_capture_file *)listed.bytes, list_count, run.output.bytes, room[0],
+                                  run.warnings.bytes, room[1], run.dump.bytes, room[2], &run.report);
+    drop(block), drop(given), drop(listed);
+    return run;
+}
+
+static void drop_capture(struct capture run)
+{
+    drop(run.output), drop(run.warnings), drop(run.dump);
+}
+
+static const size_t WIDE[3] = {ROOM, ROOM, ROOM};
+
+static struct ospf_capture_file file_of(struct text name, struct text bytes)
+{
+    return (struct ospf_capture_file){(const char *)name.bytes, name.length, bytes.bytes, bytes.length};
+}
+
+/* A run over one file, and over one list where `list` is not NULL, by its status and its texts. */
+static void captures(const char *name, const char *file, const char *list, uint32_t status, const char *contents,
+                     const char *warnings)
+{
+    struct text a = words("a"), l = words("l"), bytes = words(file), row = words(list == NULL ? "" : list);
+    struct ospf_capture_file files[1] = {file_of(a, bytes)}, lists[1] = {file_of(l, row)};
+    struct capture run = capture_with(MEMORY, false, files, 1, lists, list != NULL, WIDE);
+    check(run.status == status, name);
+    check(has(run.output, run.report.output, contents) && has(run.warnings, run.report.warnings, warnings), name);
+    check(run.report.contents == strlen(contents), name);
+    check(status <= OSPF_NOT_ACCEPTED ? run.report.dump > 0 : run.report.dump == 0 && is_canary(run.dump.bytes, ROOM), name);
+    drop_capture(run), drop(a), drop(l), drop(bytes), drop(row);
+}
+
+static void check_captures(void)
+{
+    captures("a walk", WALK_KIND WALK_ONE WALK_TWO, NULL, OSPF_DONE, "a: walk, 2 LSAs, 1 areas\n", "");
+    captures("half of a walk", WALK_KIND WALK_ONE, NULL, OSPF_NOT_ACCEPTED, "a: walk, 1 LSAs, 1 areas\n",
+             "database: Missing area 0.0.0.0 router 2.2.2.2\n");
+    captures("a list", WALK_KIND WALK_ONE WALK_TWO, LIST, OSPF_NOT_ACCEPTED, "a: walk, 2 LSAs, 1 areas\n",
+             "l: Missing area 0.0.0.0 type 1 id 3.3.3.3 adv 3.3.3.3\n");
+    captures("a text of no kind", "What is this?\n", NULL, OSPF_REFUSED, "", "a: UnknownKind at 0\n");
+    captures("an empty file", "", NULL, OSPF_REFUSED, "", "a: UnknownKind at 0\n");
+    captures("a compressed file", "\x1f\x8b", NULL, OSPF_REFUSED, "", "a: Compressed (zcat a | ospf-capture -)\n");
+    captures("no list", WALK_KIND, WALK_KIND, OSPF_REFUSED, "", "l: NotAList\n");
+    captures("no list, before a text of no kind", "What is this?\n", "", OSPF_REFUSED, "", "l: NotAList\n");
+    char areas[65 * 64] = "";
+    for (unsigned area = 0; area < 65; area++) {
+        sprintf(areas + strlen(areas), ".1.3.6.1.2.1.14.2.1.3.0.0.1.%u = INTEGER: 1\n", area);
+    }
+    captures("too many areas", areas, NULL, OSPF_REFUSED, "", "dump: TooManyAreas\n");
+}
+
+static void check_capture_names(void)
+{
+    struct text bad = words("r\xff"), good = words("r\xc3\xa9"), walk = words(WALK_KIND WALK_ONE WALK_TWO);
+    struct ospf_capture_file files[2] = {file_of(good, walk), file_of(bad, walk)};
+    struct capture none = capture_with(MEMORY, false, files, 0, files, 0, WIDE);
+    check(none.status == OSPF_DONE && none.report.output == 0 && none.report.warnings == 0, "no file");
+    check(none.report.dump == 8 && memcmp(none.dump.bytes, "OSWP\1\0\0", 8) == 0, "the dump of no file");
+    struct capture text = capture_with(MEMORY, false, files, 1, files, 0, WIDE);
+    check(text.status == OSPF_DONE && has(text.output, text.report.output, "r\xc3\xa9: walk, 2 LSAs, 1 areas\n"), "a name");
+    struct capture other = capture_with(MEMORY, false, files, 2, files, 0, WIDE);
+    struct capture list = capture_with(MEMORY, false, files, 1, files + 1, 1, WIDE);
+    check(other.status == OSPF_NOT_TEXT && list.status == OSPF_NOT_TEXT, "a name that is not text");
+    check(other.report.warnings == 0 && other.report.dump == 0 && is_canary(other.dump.bytes, ROOM), "nothing of its run");
+    check(is_canary(other.warnings.bytes, ROOM) && is_canary(list.output.bytes, ROOM), "nothing of both");
+    drop_capture(none), drop_capture(text), drop_capture(other), drop_capture(list), drop(bad), drop(good), drop(walk);
+}
+
+static void check_flushed(void)
+{
+    struct text name = words("a"), walk = words(WALK_KIND WALK_AGED("0E 10"));
+    struct ospf_capture_file files[1] = {file_of(name, walk)};
+    struct capture left_out = capture_with(MEMORY, false, files, 1, files, 0, WIDE);
+    struct capture kept = capture_with(MEMORY, true, files, 1, files, 0, WIDE);
+    check(left_out.report.dump == 15 && kept.report.dump == 15 + 36, "a flushed LSA");
+    check(memcmp(kept.dump.bytes + 13, "\x0e\x10", 2) == 0, "its age");
+    drop_capture(left_out), drop_capture(kept), drop(name), drop(walk);
+}
+
+static void check_capture_rooms(void)
+{
+    struct text name = words("a"), walk = words(WALK_KIND WALK_ONE WALK_TWO), list = words(LIST);
+    struct ospf_capture_file files[1] = {file_of(name, walk)}, lists[1] = {file_of(name, list)};
+    struct capture whole = capture_with(MEMORY, false, files, 1, lists, 1, WIDE);
+    size_t length[3] = {whole.report.output, whole.report.warnings, whole.report.dump};
+    check(whole.status == OSPF_NOT_ACCEPTED && length[0] > 0 && length[1] > 0, "a run with a warning");
+    check(length[2] == sizeof BOTH && memcmp(whole.dump.bytes, BOTH, sizeof BOTH) == 0, "its dump");
+    struct capture exact = capture_with(MEMORY, false, files, 1, lists, 1, length);
+    check(exact.status == OSPF_NOT_ACCEPTED && memcmp(exact.dump.bytes, BOTH, sizeof BOTH) == 0, "rooms of these lengths");
+    check(memcmp(exact.warnings.bytes, whole.warnings.bytes, length[1]) == 0, "the warning in them");
+    for (size_t short_one = 0; short_one < 3; short_one++) {
+        size_t room[3] = {length[0] - (short_one == 0), length[1] - (short_one == 1), length[2] - (short_one == 2)};
+        struct capture run = capture_with(MEMORY, false, files, 1, lists, 1, room);
+        check(run.status == OSPF_NO_ROOM, "a room of a run that is too small by one");
+        check(run.report.output == length[0] && run.report.warnings == length[1] && run.report.dump == length[2],
+              "the lengths of a run");
+        check(is_canary(run.output.bytes, room[0]) && is_canary(run.warnings.bytes, room[1]) &&
+                  is_canary(run.dump.bytes, room[2]),
+              "the rooms of a run");
+        drop_capture(run);
+    }
+    for (size_t memory = 0;; memory += 16384) {
+        struct capture run = capture_with(memory, false, files, 1, lists, 1, WIDE);
+        uint32_t status = run.status;
+        check(status == OSPF_NOT_ACCEPTED || (status == OSPF_NO_MEMORY && is_canary(run.dump.bytes, ROOM)), "a run by its memory");
+        drop_capture(run);
+        if (status == OSPF_NOT_ACCEPTED) {
+            break;
+        }
+    }
+    struct text other = words("What is this?\n");
+    struct ospf_capture_file refused[1] = {file_of(name, other)};
+    size_t narrow[3] = {0, 19, 0};
+    struct capture small = capture_with(MEMORY, false, refused, 1, lists, 0, narrow);
+    check(small.status == OSPF_REFUSED && small.report.warnings == 20, "too little room for the line of a file");
+    check(is_canary(small.warnings.bytes, 19), "nothing of the line of a file");
+    drop_capture(whole), drop_capture(exact), drop_capture(small), drop(name), drop(walk), drop(list), drop(other);
+}
+
 int main(int count, char **arguments)
 {
     if (count != 3) {
@@ -330,6 +488,10 @@ int main(int count, char **arguments)
     check_fault_room(script);
     check_studies(dump);
     check_study_rooms(dump, names);
+    check_captures();
+    check_capture_names();
+    check_flushed();
+    check_capture_rooms();
     printf("%u passed, %u failed\n", passed, failed);
     return failed != 0 || passed == 0;
 }

@@ -1,11 +1,10 @@
-//! Lists of the LSAs of other routers, compared with the dump.
+//! Lists of the LSAs of other routers, which the dump is compared with.
 
-use crate::fault::{ExitFault, unlisted, unread};
 use crate::files::open_file;
+use capture_lines::{ExitFault, unlisted_file, unread};
 use capture_report::LONGEST_FILE;
 use host_io::{Watched, read_whole};
-use lsdb::Database;
-use lsdb_listing::{PrintedList, list_lines, read_list};
+use lsdb_listing::{PrintedList, read_list};
 
 /// Opens a list, and reads it.
 fn list_of<'a>(rt: &HostRuntime, name: &'a str) -> Result<PrintedList, ExitFault<'a>> {
@@ -15,7 +14,7 @@ fn list_of<'a>(rt: &HostRuntime, name: &'a str) -> Result<PrintedList, ExitFault
     ))?;
     match read_list(rt.alloc(), &bytes) {
         Ok(list) => Ok(list),
-        Err(fault) => Err(unlisted(name, &bytes, fault)),
+        Err(fault) => Err(unlisted_file(name, &bytes, fault)),
     }
 }
 
@@ -30,19 +29,4 @@ pub(crate) fn lists_of<'a>(
         lists.push(list)?;
     }
     Ok(lists)
-}
-
-/// The lines of the differences between the lists and a database.
-pub(crate) fn against_lines<'a>(
-    rt: &HostRuntime,
-    names: &[&str],
-    lists: &[PrintedList],
-    database: &Database,
-) -> Result<String, ExitFault<'a>> {
-    let mut lines = String::new(rt.alloc());
-    for (name, list) in names.iter().zip(lists) {
-        let parsed = list_lines(rt.alloc(), *name, database, list)?;
-        lines.push_str(parsed.as_str())?;
-    }
-    Ok(lines)
 }

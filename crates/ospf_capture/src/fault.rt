@@ -1,104 +1,10 @@
-//! Why the program ends with status 3, 4 or 5.
+//! Why the file of the dump is not replaced.
 
 ghost use Rattle.std.specs.Prelude.{◌≡◌};
-ghost use Rattle.ospf_capture.specs.Exit.{index_of, named, no_list, not_replaced, unlisted, unread};
+ghost use Rattle.ospf_capture.specs.Exit.{not_replaced};
 
-use capture_report::RunFault;
-use host_io::{ReadFault, ReplaceFault};
-use lsdb_listing::ListFault;
-use lsdb_merge::JoinFault;
-use network_files::{FileFault, is_compressed};
-use std::alloc::{AllocError, AllocFailed};
-
-/// What is wrong with a file.
-#[derive(Clone, Copy, Debug, PartialEq, Eq)]
-pub(crate) enum FileEnd {
-    /// It cannot be opened.
-    Open,
-    /// It cannot be read.
-    Read,
-    /// It cannot be written.
-    Write,
-    /// It has too many bytes.
-    TooLarge,
-    /// Its content is refused.
-    Refused(FileFault),
-    /// It is meant to be a list of LSA headers, and is not one.
-    NotAList,
-    /// The same, and it begins as a file that gzip has compressed.
-    CompressedList,
-}
-
-/// Why the program ends with status 3, 4 or 5.
-#[derive(Clone, Copy, Debug, PartialEq, Eq)]
-pub(crate) enum ExitFault<'a> {
-    /// What is wrong with the file of this name.
-    File(&'a str, FileEnd),
-    /// The contents of all files make no database.
-    Join(JoinFault),
-    /// Standard output accepts no lines.
-    Output,
-    /// Memory ran out.
-    Memory,
-}
-
-impl<'a> From<AllocError> for ExitFault<'a> {
-    fn from(_error: AllocError) -> ExitFault<'a> {
-        ExitFault::Memory
-    }
-}
-
-impl<'a, T: Drop> From<AllocFailed<T>> for ExitFault<'a> {
-    fn from(_error: AllocFailed<T>) -> ExitFault<'a> {
-        ExitFault::Memory
-    }
-}
-
-/// The fault of a run, with the name of the file. The dump of a run goes to memory, so its writer
-/// fails only where memory runs out.
-pub(crate) fn named(name: &str, fault: RunFault) -> ExitFault<'_>
-    ensures { result ≡ named name.entry fault }
-{
-    match fault {
-        RunFault::Read(_) => ExitFault::File(name, FileEnd::Read),
-        RunFault::TooLarge(_) => ExitFault::File(name, FileEnd::TooLarge),
-        RunFault::Refused(_, fault) => ExitFault::File(name, FileEnd::Refused(fault)),
-        RunFault::Join(fault) => ExitFault::Join(fault),
-        RunFault::Write | RunFault::OutOfMemory => ExitFault::Memory,
-    }
-}
-
-/// Why a list cannot be read, with its name.
-pub(crate) fn unread(name: &str, fault: ReadFault) -> ExitFault<'_>
-    ensures { result ≡ unread name.entry fault }
-{
-    match fault {
-        ReadFault::Failed => ExitFault::File(name, FileEnd::Read),
-        ReadFault::TooLarge => ExitFault::File(name, FileEnd::TooLarge),
-        ReadFault::OutOfMemory => ExitFault::Memory,
-    }
-}
-
-/// What is wrong with a file that is no list.
-fn no_list(bytes: &[u8]) -> FileEnd
-    ensures { result ≡ no_list bytes.now }
-{
-    if is_compressed(bytes) {
-        FileEnd::CompressedList
-    } else {
-        FileEnd::NotAList
-    }
-}
-
-/// Why a text with these bytes is not a list, with its name.
-pub(crate) fn unlisted<'a>(name: &'a str, bytes: &[u8], fault: ListFault) -> ExitFault<'a>
-    ensures { result ≡ unlisted name.entry bytes.now fault }
-{
-    match fault {
-        ListFault::NotAList => ExitFault::File(name, no_list(bytes)),
-        ListFault::OutOfMemory => ExitFault::Memory,
-    }
-}
+use capture_lines::{ExitFault, FileEnd};
+use host_io::ReplaceFault;
 
 /// Why the file of a name is not replaced.
 pub(crate) fn not_replaced(name: &str, fault: ReplaceFault) -> ExitFault<'_>
@@ -107,15 +13,5 @@ pub(crate) fn not_replaced(name: &str, fault: ReplaceFault) -> ExitFault<'_>
     match fault {
         ReplaceFault::Open => ExitFault::File(name, FileEnd::Open),
         ReplaceFault::Write => ExitFault::File(name, FileEnd::Write),
-    }
-}
-
-/// The place of the fault's file, counted from 0; 0 where the fault has no file.
-pub(crate) fn index_of(fault: RunFault) -> usize
-    ensures { result ≡ index_of fault }
-{
-    match fault {
-        RunFault::Read(index) | RunFault::TooLarge(index) | RunFault::Refused(index, _) => index,
-        RunFault::Join(_) | RunFault::Write | RunFault::OutOfMemory => 0,
     }
 }

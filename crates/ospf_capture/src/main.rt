@@ -7,20 +7,17 @@
 
 ghost use Rattle.std.specs.Prelude.{◌≡◌};
 ghost use Rattle.std.specs.Process.{exit_status as process_status};
-ghost use Rattle.ospf_capture.specs.Exit.{exit_status};
+ghost use Rattle.capture_lines.specs.Endings.{exit_status};
 
 mod against;
 mod arguments;
 mod command_line;
-mod exit;
 mod fault;
 mod files;
 mod help;
-mod report;
 
+use capture_lines::{ExitFault, exit_line};
 use command_line::options;
-use exit::exit_line;
-use fault::ExitFault;
 use host_arguments::{OptionsFault, ended, success_if, words};
 use host_io::end_with;
 use std::process::ExitCode;

@@ -10,9 +10,13 @@ use Rattle.whole_run.specs.declared.fault.RunFault.TheVariants.{Dump, Read, Writ
 abbrev pub done : ℕ
 done = 0
 
--- so are they, but a line of the study was refused or failed
+-- so are they, but a line of the study was refused or failed, or the run had a warning
 abbrev pub not_accepted : ℕ
 not_accepted = 1
+
+-- the name of a file is not text
+abbrev pub not_text : ℕ
+not_text = 2
 
 -- an input is refused
 abbrev pub refused : ℕ

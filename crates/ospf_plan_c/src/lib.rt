@@ -4,6 +4,7 @@
 //! the room for what it writes: nothing else is read or written, and nothing is kept between calls.
 #![tactic(auto)]
 
+mod capturing;
 mod planning;
 mod status;
 mod studying;

@@ -3,10 +3,13 @@
 /// The texts are in their rooms.
 pub(crate) const DONE: u32 = 0;
 
-/// So are they, but a line of the study was refused or failed.
+/// So are they, but a line of the study was refused or failed, or the run had a warning.
 pub(crate) const NOT_ACCEPTED: u32 = 1;
 
-/// The dump, the baseline or the names are refused.
+/// The name of a file is not text in UTF-8.
+pub(crate) const NOT_TEXT: u32 = 2;
+
+/// The dump, the baseline, the names or a file are refused.
 pub(crate) const REFUSED: u32 = 3;
 
 /// An input is too long.

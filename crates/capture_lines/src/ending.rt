@@ -1,7 +1,7 @@
-//! How the program ends after a fault: its status, and the line on standard error.
+//! How a run ends after a fault: its status, and its line.
 
-ghost use Rattle.std.specs.Prelude.{◌≡◌, IfOk, string_bytes};
-ghost use Rattle.ospf_capture.specs.Exit.{at_text, capture_name, capture_offset, exit_status, exit_text, file_status, file_text, join_status, join_text, refusal_name, refusal_offset, refusal_status, refused_text, unpacking_text};
+ghost use Rattle.std.specs.Prelude.{◌≡◌, ◌<◌, IfOk, string_bytes};
+ghost use Rattle.capture_lines.specs.Endings.{at_text, capture_name, capture_offset, exit_status, exit_text, file_status, file_text, join_status, join_text, refusal_name, refusal_offset, refusal_status, refused_text, unpacking_text};
 
 use crate::fault::{ExitFault, FileEnd};
 use capture_files::CaptureFault;
@@ -10,7 +10,8 @@ use network_files::FileFault;
 use std::alloc::{AllocError, Allocator};
 
 fn refusal_status(fault: FileFault) -> u8
-    ensures { result ≡ refusal_status fault }
+    ensures status { result ≡ refusal_status fault }
+    ensures early { 2 < result }
 {
     match fault {
         FileFault::Capture(CaptureFault::OutOfMemory) | FileFault::OutOfMemory => 5,
@@ -23,7 +24,8 @@ fn refusal_status(fault: FileFault) -> u8
 }
 
 fn file_status(end: FileEnd) -> u8
-    ensures { result ≡ file_status end }
+    ensures status { result ≡ file_status end }
+    ensures early { 2 < result }
 {
     match end {
         FileEnd::Open | FileEnd::Read | FileEnd::Write | FileEnd::TooLarge => 4,
@@ -33,7 +35,8 @@ fn file_status(end: FileEnd) -> u8
 }
 
 fn join_status(fault: JoinFault) -> u8
-    ensures { result ≡ join_status fault }
+    ensures status { result ≡ join_status fault }
+    ensures early { 2 < result }
 {
     match fault {
         JoinFault::OutOfMemory => 5,
@@ -42,7 +45,8 @@ fn join_status(fault: JoinFault) -> u8
 }
 
 fn status_of(fault: ExitFault<'_>) -> u8
-    ensures { result ≡ exit_status fault.entry }
+    ensures status { result ≡ exit_status fault.entry }
+    ensures early { 2 < result }
 {
     match fault {
         ExitFault::File(_, end) => file_status(end),
@@ -199,11 +203,12 @@ fn line_of<A: Allocator + Copy>(alloc: A, fault: ExitFault<'_>) -> Result<String
 /// memory ran out.
 ///
 /// Where memory runs out for the line, the answer is an error; the status holds all the same.
-pub(crate) fn exit_line<A: Allocator + Copy>(
+pub fn exit_line<A: Allocator + Copy>(
     alloc: A,
     fault: ExitFault<'_>,
 ) -> (u8, Result<String<A>, AllocError>)
     ensures status { result.0 ≡ exit_status fault.entry }
+    ensures early { 2 < result.0 }
     ensures line { IfOk result.1 (λ line. string_bytes line ≡ exit_text fault.entry) }
 {
     (status_of(fault), line_of(alloc, fault))
