@@ -1,5 +1,5 @@
 -- A file has one content.
-use Rattle.std.proofs.Common.{◌≡◌, ◌∙◌, ℕ, refl, sym, ap, Bool, true, false, List, [], ◌∷◌, ◌++◌}
+use Rattle.std.proofs.Common.{◌≡◌, ◌∙◌, ℕ, refl, sym, ap, append_assoc, Bool, true, false, List, [], ◌∷◌, ◌++◌}
 use Rattle.std.specs.Prelude.{Option, map}
 use Rattle.std.specs.List.{filter_map}
 use Rattle.std.proofs.lemmas.List.{append-nil}
@@ -64,7 +64,8 @@ module _ {A : Type 0} where
   same_databases : (these : List (Part A)) (rows : List ReportedLsa) (found : List Finding)
       → databases_in (content_of (these ++ map missing_row rows ++ map fewer_part found)) ≡ databases_in (content_of these)
   same_databases these rows found =
-      ap (λ rest. databases_in (content_of (these ++ rest))) (as_findings A rows found) ∙ alone these (all_found rows found)
+      ap (λ all. databases_in (content_of all)) (append_assoc these (map missing_row rows) (map fewer_part found))
+      ∙ ap (λ rest. databases_in (content_of (these ++ rest))) (as_findings A rows found) ∙ alone these (all_found rows found)
 
 -- ---- files of each kind
 

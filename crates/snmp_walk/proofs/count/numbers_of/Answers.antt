@@ -1,4 +1,6 @@
-use Rattle.std.proofs.Common.{arith}
+use Rattle.std.proofs.Common.{None, get_or, arith}
+use Rattle.std.proofs.lemmas.List.{get_or_default}
+use Rattle.findings.specs.declared.reported_lsa.ReportedLsa.{ReportedLsa}
 use Rattle.snmp_walk.proofs.Counted.{few, numbers_more}
 use Rattle.snmp_walk.proofs.count.numbers_of.Goals as goal
 
@@ -7,5 +9,9 @@ put_row-requires g c = few c.args.rows.now c.loop-row.row-index c.loop-row.numbe
 
 pub loop-row-preserved : goal.loop-row-preserved
 loop-row-preserved g c =
-    numbers_more c.args.rows.now c.loop-row.row-index c.row-item.result c.loop-row.numbers c.put_row.new.numbers c.loop-row-test.true c.row-item.is
+    let rows = c.args.rows.now in
+    let i = c.loop-row.row-index in
+    let none : ReportedLsa = record { area = None; key = record { kind = 0; id = record { 0 = 0 }; adv = record { 0 = 0 } } } in
+    let row : ReportedLsa = get_or rows i none in
+    numbers_more rows i row c.loop-row.numbers c.put_row.new.numbers c.loop-row-test.true (get_or_default rows i none row c.loop-row-test.true)
     c.loop-row.invariant c.in_ok-put_row.ensures

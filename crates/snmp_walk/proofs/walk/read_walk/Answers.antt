@@ -1,11 +1,10 @@
-use Rattle.std.proofs.Common.{List, ◌++◌, append_assoc, ap, subst, rules, ◌∙◌}
+use Rattle.std.proofs.Common.{List, ◌++◌, ap, subst, rules, ◌∙◌}
 use Rattle.std.specs.Prelude.{map}
 use Rattle.std.specs.List.{filter_map}
 use Rattle.findings.specs.Contents.{content_of}
 use Rattle.snmp_walk.specs.declared.parsed_object.ParsedObject.{ParsedObject}
 use Rattle.snmp_walk.specs.Counts.{AreFewer, fewer_part}
 use Rattle.snmp_walk.specs.Missing.{AreMissing, bytes_row, column_row, missing_row}
-use Rattle.snmp_walk.specs.ParsedObjects.{parsed_in}
 use Rattle.snmp_walk.specs.Sorting.{part_of}
 use Rattle.snmp_walk.proofs.walk.read_walk.Goals as goal
 
@@ -25,6 +24,5 @@ returns-clause-content g c =
           ∙ ap content_of (c.in_ok-put_fewer.ensures
           ∙ (λ i. (c.in_ok-put_missing.ensures
           ∙ (λ j. (c.in_ok-parts.ensures ∙ ap (filter_map part_of) c.in_ok-parsed.ensures) j ++ map missing_row (c.deref-4.ensures.value j))) i
-          ++ map fewer_part (c.deref-5.ensures.value i))
-          ∙ append_assoc (filter_map part_of (parsed_in c.args.text.now)) (map missing_row rows) (map fewer_part fewer));
+          ++ map fewer_part (c.deref-5.ensures.value i)));
     }
