@@ -137,7 +137,10 @@ pub(crate) fn parsed_opaque<A: Allocator + Copy>(
     ensures { IfOk result (λ parsed. parsed ≡ parsed_opaque kind area (value_view json.now)) }
 {
     match header_in(kind, json) {
-        Some((key, header)) => parsed_with(alloc, area, key, header, json),
+        Some(found) => {
+            let header = found.1;
+            parsed_with(alloc, area, found.0, header, json)
+        }
         None => Ok(Part::NotRead(Feature::Opaque)),
     }
 }
