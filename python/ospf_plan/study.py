@@ -17,9 +17,9 @@ if TYPE_CHECKING:
 
 EDITS = frozenset({
     "cost", "drop-link", "fail-link", "fail-net", "fail-router", "add-stub", "summary", "add-summary", "add-external",
-    "drop-external", "refresh",
+    "drop-external", "refresh", "cut", "set-cost", "drain",
 })
-"""The words of edits."""
+"""The words of edits and events."""
 
 
 def words(*parts: object) -> str:
@@ -32,14 +32,14 @@ def words(*parts: object) -> str:
 
 
 class Study:
-    """Edits of a database, one after another, and questions about what they leave.
+    """Edits and events of a database, one after another, and questions about what they leave.
 
     Routers are Router IDs, or names of the names file. A link is its number in the router-LSA, the router's own address on
     it, or its neighbor. Each method of an edit raises `LineRefused` where the planner refuses the edit; then nothing has
     changed. A `with` block takes back the edits that are made in it:
 
         with Study(database) as study:
-            study.fail_link("0.0.0.0", "r1", "r2")
+            study.cut("r1", "r2")
             print(study.lost().to_dicts())
     """
 
@@ -55,7 +55,7 @@ class Study:
 
     @property
     def lines(self) -> tuple[str, ...]:
-        """The edits and expectations so far, as lines that `ospf-study` takes."""
+        """The edits, events and expectations so far, as lines that `ospf-study` takes."""
         return tuple(self._lines)
 
     def text(self) -> str:
@@ -90,6 +90,27 @@ class Study:
         made = self._done - self._marks.pop()
         if made > 0:
             self.undo(made)
+
+    # ---- events
+
+    def cut(self, router: str, neighbor: str, address: str | None = None) -> Study:
+        """Takes the point-to-point links of two routers away at both ends, each with the stub network of its interface.
+
+        With `address` the one link whose interface has it, at `router` or else at `neighbor`.
+        """
+        return self._edit("cut", router, neighbor, *(() if address is None else (address,)))
+
+    def set_cost(self, router: str, to: str, metric: int, *, both: bool = False) -> Study:
+        """Sets the cost of a router's interfaces, 0 to 65535 for a stub network and 1 to 65535 for others.
+
+        `to` is a neighbor, or the router's own address on the interface. The stub network of a point-to-point interface
+        gets the cost too. With `both` the interfaces of the neighbor get it as well.
+        """
+        return self._edit("set-cost", router, to, metric, *(("both",) if both else ()))
+
+    def drain(self, router: str) -> Study:
+        """Makes a router the last resort: its links to routers and transit networks cost 65535 (RFC 6987)."""
+        return self._edit("drain", router)
 
     # ---- edits
 
@@ -225,7 +246,7 @@ class Study:
         return documents.read(results.Info, self._answer("info"))
 
     def log(self) -> tuple[str, ...]:
-        """The edits that are done, as lines that `ospf-plan` takes."""
+        """The edits and events that are done, as lines that `ospf-study` takes; `ospf-plan` takes those of edits."""
         return tuple(self._answer("log")["lines"])
 
     # ---- expectations

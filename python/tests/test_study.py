@@ -97,6 +97,26 @@ def test_tables(square):
     assert square.study().tables()[0].routes == tuple(square.table("1.1.1.1"))
 
 
+def test_events(two_areas):
+    study = two_areas.study().cut("r1", "r2").set_cost("r1", "r3", 15, both=True).set_cost("r5", "10.1.0.5", 12).drain("r4")
+    assert study.log() == (
+        "cut 1.1.1.1 2.2.2.2", "set-cost 1.1.1.1 3.3.3.3 15 both", "set-cost 5.5.5.5 10.1.0.5 12", "drain 4.4.4.4",
+    )
+    assert [(link.router, link.to or link.prefix, link.cost) for link in study.links() if link.area == "0.0.0.0"] == [
+        ("1.1.1.1", "3.3.3.3", 15), ("1.1.1.1", "10.0.13.0/30", 15), ("1.1.1.1", "10.0.1.0/24", 1),
+        ("3.3.3.3", "1.1.1.1", 15), ("3.3.3.3", "10.0.13.0/30", 15),
+    ]
+    assert [(link.type, link.cost) for link in study.links() if link.router == "4.4.4.4"] == [
+        ("point-to-point", 65535), ("stub", 10), ("transit", 65535),
+    ]
+    assert [link.cost for link in study.links() if link.router == "5.5.5.5"] == [12, 1]
+    assert study.undo(4).save() == two_areas.dump
+    with pytest.raises(LineRefused, match="1.1.1.1 and 5.5.5.5 are not neighbors; 1.1.1.1 has 2.2.2.2, 3.3.3.3") as refused:
+        study.cut("r1", "r5")
+    assert (refused.value.code, refused.value.name) == ("E3", "NotNeighbors")
+    assert study.cut("r1", "r3", "10.0.13.2").undo(1).save() == two_areas.dump
+
+
 def test_another_baseline(square):
     left = square.study().fail_link("0.0.0.0", "1.1.1.1", "2.2.2.2").save()
     after = type(square)(left)

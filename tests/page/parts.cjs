@@ -9,8 +9,8 @@ const vm = require('node:vm');
 const source = path.join(__dirname, '..', '..', 'web', 'src'), read = (name) => fs.readFileSync(path.join(source, name), 'utf8');
 const scripts = ['model.js', 'grammar.js', 'editor.js', 'files.js', 'card.js', 'sweep.js'].map(read).join('\n');
 const page = 'const text = (array) => new TextDecoder().decode(array), state = {}, nameOf = (router) => router;';
-const names = ['Grammar', 'lineMoves', 'kindOf', 'topology', 'edgeOneWay', 'edgeFailed', 'sweepLines', 'cutLines', 'state'];
-const { Grammar, lineMoves, kindOf, topology, edgeOneWay, edgeFailed, sweepLines, cutLines, state } = vm.runInThisContext(`'use strict'; (() => { ${page} ${scripts}; return { ${names} }; })()`);
+const names = ['Grammar', 'lineMoves', 'kindOf', 'topology', 'edgeOneWay', 'edgeFailed', 'sweepLines', 'cutLine', 'state'];
+const { Grammar, lineMoves, kindOf, topology, edgeOneWay, edgeFailed, sweepLines, cutLine, state } = vm.runInThisContext(`'use strict'; (() => { ${page} ${scripts}; return { ${names} }; })()`);
 let passed = 0, failed = 0;
 
 function check(name, got, wanted) {
@@ -26,12 +26,13 @@ function checkGrammar(help) {
   const grammar = new Grammar(help), after = (line) => grammar.next(line.split(' ')).map(({ token }) => token).join(' ');
   check('all words', grammar.next([]).length, help.filter(({ meaning }) => meaning).length);
   check('edits', [after('cost'), after('cost 0.0.0.0'), after('cost 0.0.0.0 r1'), after('cost 0.0.0.0 r1 r2'), after('cost 0.0.0.0 r1 r2 1')], ['AREA', 'ROUTER', 'LINK', 'METRIC', '']);
+  check('events', [after('cut r1'), after('cut r1 r2'), after('set-cost r1'), after('set-cost r1 r2'), after('set-cost r1 r2 5'), after('drain')], ['NEIGHBOR', 'ADDRESS', 'NEIGHBOR', 'METRIC', 'both', 'ROUTER']);
   check('what may be left out', [after('links'), after('routes r1'), after('expect microloops')], ['ROUTER', 'ADDRESS', 'COUNT none']);
   check('conditions', [after('expect lost'), after('expect not lost only'), after('expect lost only 10.0.0.0/8'), after('expect path r1 10.1.5.1')], ['none <= only', 'PREFIX..', 'PREFIX..', 'via avoids delivered']);
   check('parts of a condition', [after('expect route r1 10.0.0.0/8'), after('expect route r1 10.0.0.0/8 inter'), after('expect route r1 10.0.0.0/8 via r2,r3'), after('expect route r1 10.0.0.0/8 cost')], ['KIND via cost', 'via cost', 'cost', 'OP']);
   check('not', [after('expect').split(' ').at(-1), after('expect not').includes('not '), after('nonsense')], ['not', false, '']);
-  const whole = ['refresh', 'undo 1', 'expect lost none', 'expect lost only 10.0.0.0/8 10.1.0.0/16', 'expect path r1 10.1.5.1 avoids r2', 'links', 'links r1'];
-  const parts = ['undo', 'expect', 'expect lost', 'expect lost only', 'expect path r1 10.1.5.1 via', 'cost 0.0.0.0 r1 r2', 'refresh 1', 'nonsense'];
+  const whole = ['refresh', 'undo 1', 'cut r1 r2', 'cut r1 r2 10.0.0.1', 'set-cost r1 r2 5 both', 'expect lost none', 'expect lost only 10.0.0.0/8 10.1.0.0/16', 'expect path r1 10.1.5.1 avoids r2', 'links', 'links r1'];
+  const parts = ['undo', 'cut r1', 'set-cost r1 r2', 'expect', 'expect lost', 'expect lost only', 'expect path r1 10.1.5.1 via', 'cost 0.0.0.0 r1 r2', 'refresh 1', 'nonsense'];
   check('whole lines', [...whole, ...parts].map((line) => grammar.isWhole(line.split(' '))), [...whole.map(() => true), ...parts.map(() => false)]);
 }
 
@@ -80,12 +81,12 @@ function checkFailures() {
     return sweepLines('all').map(([line]) => line);
   };
   const routers = ['fail-router 1.1.1.1', 'fail-router 2.2.2.2'];
-  check('failures', failures(networkOf(LINK), {}), ['fail-link 0.0.0.0 1.1.1.1 2.2.2.2', ...routers]);
+  check('failures', failures(networkOf(LINK), {}), ['cut 1.1.1.1 2.2.2.2', ...routers]);
   check('after a failure', failures(networkOf(LINK), { links: { links: LINK.slice(1) }, routers: { routers: [router('2.2.2.2')] } }), routers.slice(1));
-  check('of a one-way link', failures(networkOf(LINK), { links: { links: LINK.slice(1) } }), ['drop-link 0.0.0.0 2.2.2.2 10.0.0.2', ...routers]);
-  check('of parallel links', failures(networkOf([...LINK, ...PARALLEL]), {}), ['fail-link 0.0.0.0 1.1.1.1 2.2.2.2', ...routers]);
-  const cuts = [...state.graph.edges.values()].map(cutLines);
-  check('one of them', cuts, [['drop-link 0.0.0.0 1.1.1.1 10.0.0.1', 'drop-link 0.0.0.0 2.2.2.2 10.0.0.2'], ['drop-link 0.0.0.0 1.1.1.1 10.0.1.1', 'drop-link 0.0.0.0 2.2.2.2 10.0.1.2']]);
+  check('of a one-way link', failures(networkOf(LINK), { links: { links: LINK.slice(1) } }), ['cut 1.1.1.1 2.2.2.2', ...routers]);
+  check('of parallel links', failures(networkOf([...LINK, ...PARALLEL]), {}), ['cut 1.1.1.1 2.2.2.2', ...routers]);
+  const cuts = [...state.graph.edges.values()].map(cutLine);
+  check('one of them', cuts, ['cut 1.1.1.1 2.2.2.2 10.0.0.1', 'cut 1.1.1.1 2.2.2.2 10.0.1.1']);
 }
 
 // The colors of texts on what they stand on, in both themes: 4.5 to 1, as WCAG 2.1 has it for texts.

@@ -21,27 +21,27 @@ function inBranch(line) {
   return branch === '0' ? line : `@${branch} ${line}`;
 }
 
-// The lines that drain a router: each of its links of types 1 and 2 costs 65535.
-function drainLines(router) {
-  return state.graph.nodes.get(router).edges
-    .flatMap((edge) => edge.ends.filter((end) => end.router === router && end.now !== null && end.now !== 65535).map((end) => `cost ${edge.area} ${nameOf(router)} ${end.data} 65535`));
-}
+// Whether a router has a link to a router or a network that does not cost the most.
+const canDrain = (router) => state.graph.nodes.get(router).edges
+  .some((edge) => edge.ends.some((end) => end.router === router && end.now !== null && end.now !== 65535));
 
+// All links of two routers, or the one end of a router's link to a network.
 const CUTS = {
-  link: (edge) => `fail-link ${edge.area} ${nameOf(edge.a)} ${nameOf(edge.b)}`,
+  link: (edge) => `cut ${nameOf(edge.a)} ${nameOf(edge.b)}`,
   transit: (edge) => `drop-link ${edge.area} ${nameOf(edge.a)} ${edge.ends[0].data}`,
 };
 
-// The lines that cut one link: each of its ends where parallel links stay, or where it has only one.
-function cutLines(edge) {
-  const isOnly = ({ key, kind, a, b }) => key === edge.key || kind !== 'link' || ![a, b].includes(edge.a) || ![a, b].includes(edge.b);
-  if (edge.kind === 'transit' || (!edgeOneWay(edge) && state.graph.nodes.get(edge.a).edges.every(isOnly))) return [CUTS[edge.kind](edge)];
-  return edge.ends.filter(({ now }) => now !== null).map((end) => `drop-link ${edge.area} ${nameOf(end.router)} ${end.data}`);
+// The line that cuts one link: by an address of it where links beside it stay.
+function cutLine(edge) {
+  const isBeside = ({ key, kind, a, b }) => key !== edge.key && kind === 'link' && [a, b].includes(edge.a) && [a, b].includes(edge.b);
+  if (edge.kind === 'transit' || !state.graph.nodes.get(edge.a).edges.some(isBeside)) return CUTS[edge.kind](edge);
+  const [end] = edge.ends.filter(({ now }) => now !== null), other = end.router === edge.a ? edge.b : edge.a;
+  return `cut ${nameOf(end.router)} ${nameOf(other)} ${end.data}`;
 }
 
 async function setCost(edge, end) {
   const cost = await ask(`Cost of ${endTitle(edge, end)}, 0 to 65535`, String(end.now ?? end.was));
-  if (cost !== null && cost.trim() !== '') add(inBranch(`cost ${edge.area} ${nameOf(end.router)} ${end.data} ${cost.trim()}`));
+  if (cost !== null && cost.trim() !== '') add(inBranch(`set-cost ${nameOf(end.router)} ${end.data} ${cost.trim()}`));
 }
 
 // What can be done with an element: a label, a key, and lines or what is done.
@@ -50,10 +50,9 @@ function actionsOf(id) {
   if (edges.has(id)) return edgeActions(edges.get(id));
   const node = nodes.get(id);
   if (node.kind === 'network') return node.failed ? [] : [{ label: 'Fail the LAN', key: 'f', lines: [`fail-net ${node.area} ${node.address}`] }];
-  const drain = drainLines(id);
   return [
     !node.failed && { label: 'Fail', key: 'f', lines: [`fail-router ${nameOf(id)}`] },
-    !node.failed && drain.length && { label: 'Drain', key: 'd', lines: drain },
+    !node.failed && canDrain(id) && { label: 'Drain', key: 'd', lines: [`drain ${nameOf(id)}`] },
     { label: 'Path from here', key: 'p', act: () => askPath(id) },
     { label: 'Path to here', key: 'P', act: () => askPathTo(id) },
     { label: 'Routes', key: 't', act: () => { state.table = id; state.tab = 'Routes'; calculate(false); } },
@@ -62,7 +61,7 @@ function actionsOf(id) {
 
 function edgeActions(edge) {
   return [
-    !edgeFailed(edge) && { label: 'Cut', key: 'c', lines: cutLines(edge) },
+    !edgeFailed(edge) && { label: 'Cut', key: 'c', lines: [cutLine(edge)] },
     ...edge.ends.filter((end) => end.now !== null).map((end, k) => ({ label: `Set cost ${endTitle(edge, end)}`, key: k ? null : 's', act: () => setCost(edge, end) })),
   ].filter(Boolean);
 }

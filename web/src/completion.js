@@ -10,13 +10,14 @@ function aboutRouter({ id, label, areas, roles }) {
   return [id === label ? '' : id, ...roles.map((role) => role.toUpperCase()), areas.length > 1 ? '' : `area ${areas[0]}`].filter(Boolean).join(' · ');
 }
 
-// The neighbors of a router: over links, and without an area also over LANs.
-function neighborOptions({ ROUTER, AREA }) {
+// The neighbors of a router: over links, and without an area also over LANs; to set a cost also its own addresses.
+function neighborOptions({ ROUTER, AREA, command }) {
+  if (command === 'set-cost') return linkOptions({ ROUTER });
   const id = idOf(ROUTER), found = new Map();
   for (const edge of linksOf(ROUTER, AREA)) {
     const cost = edge.ends.find((end) => end.router === id)?.now;
     if (edge.kind === 'link') found.set(otherEnd(edge, id), `cost ${cost ?? 'gone'}`);
-    else if (!AREA) state.graph.nodes.get(edge.b).members.filter((member) => member !== id).forEach((member) => found.set(member, `over ${nameOf(edge.b)}`));
+    else if (!AREA && command !== 'cut') state.graph.nodes.get(edge.b).members.filter((member) => member !== id).forEach((member) => found.set(member, `over ${nameOf(edge.b)}`));
   }
   return [...found].map(([neighbor, about]) => optionOf(neighbor, about));
 }
@@ -33,10 +34,16 @@ function linkOptions({ ROUTER, AREA }) {
   });
 }
 
+// The router's own addresses on its links to a neighbor.
+function endOptions({ ROUTER, NEIGHBOR }) {
+  const id = idOf(ROUTER), ends = linksOf(ROUTER).filter((edge) => otherEnd(edge, id) === idOf(NEIGHBOR)).flatMap((edge) => edge.ends);
+  return ends.filter(({ router, now }) => router === id && now !== null).map(({ data, now }) => ({ word: data, about: `cost ${now}` }));
+}
+
 // The cost that a link has now, and the most.
-function metricOptions({ ROUTER, AREA, LINK }) {
-  const id = idOf(ROUTER), link = LINK && idOf(LINK);
-  const edge = LINK && linksOf(ROUTER, AREA).find((one) => otherEnd(one, id) === link || one.ends.some((end) => end.router === id && end.data === LINK));
+function metricOptions({ ROUTER, AREA, LINK, NEIGHBOR }) {
+  const id = idOf(ROUTER), name = LINK ?? NEIGHBOR, link = name && idOf(name);
+  const edge = name && linksOf(ROUTER, AREA).find((one) => otherEnd(one, id) === link || one.ends.some((end) => end.router === id && end.data === name));
   const now = edge?.ends.find((end) => end.router === id)?.now;
   return edge ? [{ word: String(now), about: 'its cost now' }, { word: '65535', about: 'no transit' }] : [];
 }
@@ -67,7 +74,7 @@ const VALUES = {
   'NEIGHBOR,..': neighborOptions,
   LINK: linkOptions,
   METRIC: metricOptions,
-  ADDRESS: ({ AREA }) => AREA
+  ADDRESS: ({ AREA, ROUTER, NEIGHBOR }) => NEIGHBOR ? endOptions({ ROUTER, NEIGHBOR }) : AREA
     ? [...state.graph.nodes.values()].filter((node) => node.kind === 'network' && node.area === AREA && !node.failed).map(({ address, label }) => ({ word: address, about: `LAN ${label}` }))
     : knownPrefixes().map(([prefix, about]) => ({ word: hostIn(prefix), about: `${prefix} ${about}` })),
   PREFIX: () => knownPrefixes().map(([word, about]) => ({ word, about })),
@@ -82,7 +89,7 @@ function completions(front) {
   if (front.includes('#') || !state.graph || !state.grammar) return null;
   const words = front.trimStart().split(/\s+/), last = words.pop() ?? '';
   if (/^@/.test(words[0] ?? '')) words.shift();
-  const options = state.grammar.next(words).flatMap(({ token, about, named }) => isLiteral(token) ? [{ word: token, about }] : VALUES[token]?.(named) ?? []);
+  const options = state.grammar.next(words).flatMap(({ token, about, named }) => isLiteral(token) ? [{ word: token, about }] : VALUES[token]?.({ ...named, command: words[0] }) ?? []);
   const part = last.slice(last.lastIndexOf(',') + 1), begins = (word) => word.toLowerCase().startsWith(part.toLowerCase());
   const seen = new Set(words.slice(2));
   return { part, options: options.filter(({ word }) => begins(word) && !(words.includes('only') && seen.has(word))) };

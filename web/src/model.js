@@ -2,11 +2,11 @@
 
 const EDITS = new Set([
   'cost', 'drop-link', 'fail-link', 'fail-net', 'fail-router', 'add-stub', 'summary', 'add-summary', 'add-external',
-  'drop-external', 'refresh',
+  'drop-external', 'refresh', 'cut', 'set-cost', 'drain',
 ]);
 const QUESTIONS = new Set([
   'table', 'tables', 'compare', 'info', 'routers', 'links', 'networks', 'routes', 'path', 'explain', 'changes', 'differences', 'lost',
-  'gone', 'loops', 'microloops', 'audit', 'log', 'help', 'undo', 'redo', 'expect',
+  'gone', 'loops', 'microloops', 'audit', 'log', 'help', 'undo', 'redo', 'back', 'expect',
 ]);
 const KINDS = ['lost', 'gone', 'dearer', 'type', 'moved', 'gained', 'cheaper', 'router-gone', 'router-new'];
 
@@ -24,7 +24,7 @@ function questions(branch, { path, table, isLarge, isSmall, isChanged, edits }) 
 }
 
 const wordOf = (line) => line.replace(/^\s*@[0-7]\s/, '').trim().split(/\s+/)[0];
-const isEdit = (line) => EDITS.has(wordOf(line)) || wordOf(line) === 'undo' || wordOf(line) === 'redo';
+const isEdit = (line) => EDITS.has(wordOf(line)) || ['undo', 'redo', 'back'].includes(wordOf(line));
 const branchOf = (line) => /^\s*@([0-7])(\s|$)/.exec(line)?.[1] ?? '0';
 
 // A study with questions before its first line and after line `shown` (0: before all), and with what each edit has changed
@@ -67,7 +67,7 @@ function readAnswers(replies, all) {
 
 // The line after which the study is shown, where nobody has chosen one: the last, or the last before the edits are undone.
 function shownByDefault(lines) {
-  const undone = lines.findLastIndex((line) => /^\s*(@0\s+)?undo\s/.test(line));
+  const undone = lines.findLastIndex((line) => /^\s*(@0\s+)?(undo|back)\s/.test(line));
   const edited = lines.findLastIndex((line) => EDITS.has(line.trim().split(/\s+/)[0]));
   if (undone > edited && edited >= 0) return undone;
   let last = lines.length;

@@ -8,7 +8,7 @@ const MOST_FAILURES = 8;
 // The lines after which the report has a picture: the last of each row of edits, and the shown line in any case.
 function stepLines() {
   const lines = editor.lines(), isDone = (number) => editor.stateOf(number) === 'edit';
-  const last = lines.map((_, k) => k + 1).filter((number) => isDone(number) && !isDone(number + 1) && !lines.slice(0, number).some((line) => /^\s*(@[0-7]\s+)?undo\s/.test(line)));
+  const last = lines.map((_, k) => k + 1).filter((number) => isDone(number) && !isDone(number + 1) && !lines.slice(0, number).some((line) => /^\s*(@[0-7]\s+)?(undo|back)\s/.test(line)));
   return last.length > MOST_STEPS ? [...last.slice(0, MOST_STEPS - 1), last.at(-1)] : last;
 }
 

@@ -5,8 +5,7 @@ const AT_A_TIME = 8;
 
 function sweepLines(kind) {
   const { nodes, edges } = state.graph, present = [...nodes.values()].filter((node) => !node.failed);
-  const cut = (edge) => edgeOneWay(edge) ? cutLines(edge)[0] : CUTS.link(edge);
-  const links = new Map([...edges.values()].filter((edge) => edge.kind === 'link' && !edgeFailed(edge)).map((edge) => [cut(edge), edge.key]));
+  const links = new Map([...edges.values()].filter((edge) => edge.kind === 'link' && !edgeFailed(edge)).map((edge) => [CUTS.link(edge), edge.key]));
   const networks = present.filter((node) => node.kind === 'network').map((node) => [`fail-net ${node.area} ${node.address}`, node.id]);
   const routers = present.filter((node) => node.kind === 'router').map((node) => [`fail-router ${nameOf(node.id)}`, node.id]);
   return { links: [...links], networks, routers, all: [...links, ...networks, ...routers] }[kind];

@@ -7,7 +7,7 @@ ghost use Rattle.lsdb.specs.Text.{text};
 ghost use Rattle.edit_history.specs.Session.{start, state};
 ghost use Rattle.routing_table.specs.Routers.{attached_routers};
 ghost use Rattle.saved_sessions.specs.Opening.{opened};
-ghost use Rattle.saved_sessions.specs.Saved.{saved_text};
+ghost use Rattle.saved_sessions.specs.Saved.{HasNoEvents, saved_text};
 ghost use Rattle.branches.specs.Branches.{Steps, all_begin, before_last, has_planner, resumed, sessions_of, stepped, with_session};
 ghost use Rattle.branches.specs.Replies.{reply_text, reply_to, is_refusal, takes_memory, tables_head, router_text, router_texts};
 
@@ -326,7 +326,8 @@ impl<A: Allocator + Copy> Branches<A> {
         }
     }
 
-    /// The session of branch 0, saved as a dump of version 2.
+    /// The session of branch 0, saved as a dump of version 2. It opens as this session, unless one
+    /// of its edits is an event.
     ///
     /// # Errors
     ///
@@ -334,7 +335,7 @@ impl<A: Allocator + Copy> Branches<A> {
     pub fn save(&mut self) -> Result<Vec<u8, A>, AllocError>
         ensures saved { IfOk result
             (λ bytes. bytes.items ≡ saved_text (sessions_of self.old 0)) }
-        ensures opens { IfOk result
+        ensures opens { HasNoEvents (sessions_of self.old 0) → IfOk result
             (λ bytes. opened bytes.items ≡ Ok (sessions_of self.old 0)) }
         ensures kept { self.new ≡ self.old }
     {

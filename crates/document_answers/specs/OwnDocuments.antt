@@ -5,7 +5,7 @@ use Rattle.edit_script.specs.declared.edit.Edit.{Edit}
 use Rattle.edit_script.specs.Spelling.{spelling}
 use Rattle.study_words.specs.declared.condition_word.ConditionWord.{ConditionWord}
 use Rattle.study_words.specs.declared.study_word.StudyWord.{StudyWord}
-use Rattle.study_words.specs.declared.study_word.StudyWord.TheVariants.{Plan, See, Expect}
+use Rattle.study_words.specs.declared.study_word.StudyWord.TheVariants.{Plan, See, Event, Expect}
 use Rattle.study_words.specs.ConditionWords.{condition_words}
 use Rattle.study_hints.specs.Grammar.{command_text, expectation_text}
 use Rattle.study_hints.specs.Help.{command_meaning, commands}
@@ -40,6 +40,7 @@ all_conditions = map condition_help condition_words
 abbrev pub conditions_after : StudyWord → List HelpValue
 conditions_after (Plan word) = []
 conditions_after (See word) = []
+conditions_after (Event word) = []
 conditions_after Expect = all_conditions
 
 -- the lines of all words, or those of one

@@ -97,7 +97,7 @@ fn push_conditions_after<A: Allocator + Copy>(
     ensures { OnOk result (lines.new.items ≡ lines.old.items ++ conditions_after word) }
 {
     match word {
-        StudyWord::Plan(_) | StudyWord::See(_) => Ok(()),
+        StudyWord::Plan(_) | StudyWord::See(_) | StudyWord::Event(_) => Ok(()),
         StudyWord::Expect => push_conditions(lines),
     }
 }

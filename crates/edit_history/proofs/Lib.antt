@@ -15,6 +15,7 @@ pub mod Candidates
 pub mod RulesCarriedOut
 pub mod FatesBySlot
 pub mod FailureFates
+pub mod EventFates
 pub mod OfPrefix
 pub mod PairSwaps
 pub mod RouterSwaps

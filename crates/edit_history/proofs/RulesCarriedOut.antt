@@ -1,9 +1,11 @@
 -- Swaps that do what a rule requires carry an edit out; and what a refusal has to show.
-use Rattle.std.proofs.Common.{◌≡◌, ◌≢◌, List, map, Result, Ok, Err, refl, sym, ap, ◌∙◌, subst}
+use Rattle.std.proofs.Common.{◌≡◌, ◌≢◌, List, map, Result, Ok, Err, refl, sym, ap, ◌∙◌, subst, true≢false}
 use Rattle.std.specs.Prelude.{IsOk, IfOk, IfErr}
 use Rattle.lsdb.specs.Lists.{Lists}
 use Rattle.lsdb.specs.Slots.{Slots, lists_of}
 use Rattle.edit_script.specs.declared.edit.Edit.{Edit}
+use Rattle.edit_script.specs.declared.edit.Edit.TheVariants.{Event as of_event}
+use Rattle.edit_script.specs.declared.event.Event.{Event}
 use Rattle.edit_history.specs.declared.fault.EditFault.{EditFault}
 use Rattle.edit_history.specs.declared.fault.EditFault.TheVariants.{OutOfMemory}
 use Rattle.edit_history.specs.Rules.{Rule, Change, lists_after, changes_by}
@@ -42,13 +44,13 @@ planned_here d edit rule swaps items ruled f is =
 -- ---- refusals
 
 pub refused_as : (d : Slots) (edit : Edit) (fault : EditFault) → fault ≢ OutOfMemory → rule_of (lists_of d) edit ≡ Err fault → IsRefused d edit fault
-refused_as d edit fault other is = record { known = λ _. ap (after_rule (lists_of d)) is; memory = λ e. absurd (other e) }
+refused_as d edit fault other is = record { known = λ _. ap (after_rule (lists_of d)) is; memory = λ _ e. absurd (other e) }
 
 -- memory ran out for an edit that has a rule
 pub no_memory : (d : Slots) (edit : Edit) (rule : Rule) → rule_of (lists_of d) edit ≡ Ok rule → IsRefused d edit OutOfMemory
 no_memory d edit rule ruled = record {
   known = λ other. absurd (other refl);
-  memory = λ _. subst (λ (r : Result Rule EditFault). IsOk (after_rule (lists_of d) r)) (sym ruled) refl;
+  memory = λ _ _. subst (λ (r : Result Rule EditFault). IsOk (after_rule (lists_of d) r)) (sym ruled) refl;
 }
 
 has_rule : (db : Lists) (r : Result Rule EditFault) → IsOk r → IsOk (after_rule db r)
@@ -56,7 +58,16 @@ has_rule db (Ok rule) ok = refl
 has_rule db (Err fault) ok = ok
 
 pub no_memory_ruled : (d : Slots) (edit : Edit) → IsOk (rule_of (lists_of d) edit) → IsRefused d edit OutOfMemory
-no_memory_ruled d edit ok = record { known = λ other. absurd (other refl); memory = λ _. has_rule (lists_of d) (rule_of (lists_of d) edit) ok }
+no_memory_ruled d edit ok = record { known = λ other. absurd (other refl); memory = λ _ _. has_rule (lists_of d) (rule_of (lists_of d) edit) ok }
+
+-- an event is refused as its rule is
+pub event_refused_as : (d : Slots) (event : Event) (fault : EditFault) → rule_of (lists_of d) (of_event event) ≡ Err fault
+    → IsRefused d (of_event event) fault
+event_refused_as d event fault is = record { known = λ _. ap (after_rule (lists_of d)) is; memory = λ no _. absurd (true≢false no) }
+
+-- for an event memory may run out at any time
+pub no_memory_for_event : (d : Slots) (event : Event) → IsRefused d (of_event event) OutOfMemory
+no_memory_for_event d event = record { known = λ other. absurd (other refl); memory = λ no _. absurd (true≢false no) }
 
 -- ---- the plan
 

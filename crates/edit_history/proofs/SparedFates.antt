@@ -17,7 +17,12 @@ use Rattle.lsdb.specs.Lists.{AreaHead, Lists, is_head_of, has_key, is_network}
 use Rattle.lsdb.proofs.KeyLemmas.{same_key_true}
 use Rattle.summary_metrics.specs.Refreshed.{id_of, is_stale, due_in, refreshed_areas}
 use Rattle.edit_history.specs.Rules.{Fate, stays, removed, rewritten, Rule, by_fates, one_lsa, within}
+use Rattle.event_links.specs.declared.selection.LinkEdit.{LinkEdit}
+use Rattle.event_lsas.specs.LinkEvents.{outcome_of}
+use Rattle.event_lsas.specs.Outcomes.{LsaChange, kept, becomes}
+use Rattle.event_lsas.proofs.ReplacementLemmas.{outcome_safe}
 use Rattle.edit_history.specs.Effect.{link_fate, net_fate, router_fate, is_graph_kind}
+use Rattle.edit_history.specs.Events.{fate_of_change, link_fates}
 use Rattle.edit_history.specs.Refreshing.{with_due, metric_fate, refresh_fates}
 use Rattle.edit_history.proofs.RefreshFates.{stale_has_metric}
 
@@ -88,3 +93,13 @@ refresh_spares db None lsa accepted other = tt
 refresh_spares db (Some head) lsa accepted other =
     spared_if (is_backbone (id_of head)) (metric_fate db (id_of head) lsa) (metric_fate (refreshed_areas is_backbone db) (id_of head) lsa)
     (λ _. metric_spares db (id_of head) lsa accepted other) (λ _. metric_spares (refreshed_areas is_backbone db) (id_of head) lsa accepted other)
+
+-- an LSA in place of another has its type
+pub events_spare : (db : Lists) (edit : LinkEdit) → Spares (by_fates (link_fates db edit))
+events_spare db edit head lsa accepted other = by_outcome (outcome_of db edit head lsa) refl where
+  by_outcome : (c : LsaChange) → outcome_of db edit head lsa ≡ c → IsSpared (fate_of_change c)
+  by_outcome kept is = tt
+  by_outcome (becomes None) is = tt
+  by_outcome (becomes (Some new)) is =
+      let made = outcome_safe db edit head lsa new accepted is in
+      ap (λ (k : Key). is_graph_kind k.kind) made.key ∙ other

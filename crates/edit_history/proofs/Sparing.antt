@@ -23,17 +23,21 @@ use Rattle.lsdb.specs.declared.section.Section.TheVariants.{Area, AsWide}
 use Rattle.lsdb.specs.Lists.{AreaHead, SectionLsas, Lists, IsDatabase, IsSection, is_head_of, is_section, lsas_or_none, lsas_of, is_network}
 use Rattle.edit_script.specs.declared.edit.Edit.{Edit}
 use Rattle.edit_script.specs.declared.edit.Edit.TheVariants.{Cost, DropLink, FailLink, FailNet, FailRouter, AddStub, Summary, AddSummary, AddExternal}
-use Rattle.edit_script.specs.declared.edit.Edit.TheVariants.{DropExternal, Refresh}
+use Rattle.edit_script.specs.declared.edit.Edit.TheVariants.{DropExternal, Refresh, Event as of_event}
+use Rattle.event_links.specs.declared.fault.EventFault.{EventFault}
+use Rattle.event_links.specs.declared.selection.LinkEdit.{LinkEdit}
+use Rattle.event_links.specs.Events.{resolved}
 use Rattle.edit_history.specs.declared.fault.EditFault.{EditFault}
 use Rattle.edit_history.specs.declared.fault.EditFault.TheVariants.{NoArea, NoRouter, NoLink, SameRouter, NoNetwork, NoSummary, NoExternal, Full}
 use Rattle.edit_history.specs.Rules.{Fate, stays, removed, rewritten, Rule, NewLsa, Change, by_fates, one_lsa, within, adding, outcome}
 use Rattle.edit_history.specs.Rules.{change_of, addition, with_added, section_name, section_after, section_changes, lists_after, changes_by}
 use Rattle.edit_history.specs.Effect.{◌>>=◌, or_refused, made, area_of, router_lsa_in, router_lsa_of, has_router, stub_bytes, is_dump_full, remaking}
 use Rattle.edit_history.specs.Effect.{is_originated_for, are_linked, options_in, is_type2, room_for, added, link_fate, net_fate, router_fate}
+use Rattle.edit_history.specs.Events.{link_event_of, link_fates, refusal_of, rule_by}
 use Rattle.edit_history.specs.Effect.{rule_of, effect, is_graph_kind, touched, touched_by, edit_touches, graph_lsas}
 use Rattle.edit_history.proofs.Keys.{found_passes}
 use Rattle.edit_history.proofs.SparedFates.{is_graph_lsa, graph_of, IsSpared, Spares, router_lsa_spares, one_spares, links_spare, network_spares}
-use Rattle.edit_history.proofs.SparedFates.{router_spares, refresh_spares}
+use Rattle.edit_history.proofs.SparedFates.{router_spares, refresh_spares, events_spare}
 
 -- ---- the rules of edits
 
@@ -91,6 +95,10 @@ remaking_spares db area router make =
     if_bound (router_lsa_of db area router) (λ lsa. made (make lsa) >>= remade area router)
     (λ lsa _. if_bound (made (make lsa)) (remade area router) (λ new _. remade_spares area router new))
 
+links_spared : (db : Lists) (r : Result LinkEdit EventFault) → IfRuled (rule_by db r)
+links_spared db (Ok edit) = ruled (by_fates (link_fates db edit)) (events_spare db edit)
+links_spared db (Err fault) = refused (refusal_of fault)
+
 rule_spares : (db : Lists) (edit : Edit) → IsDatabase db → IfRuled (rule_of db edit)
 unfolding rule_of
 rule_spares db (Cost area router link metric) sound = remaking_spares db area router (with_cost link metric)
@@ -138,6 +146,7 @@ rule_spares db (DropExternal router prefix) sound =
     if_bound (or_refused NoExternal (find (is_originated_for 5 router prefix) (lsas_of AsWide db))) gone
     (λ lsa _. ruled _ (one_spares AsWide (key_of lsa) removed tt))
 rule_spares db Refresh sound = ruled _ (refresh_spares db)
+rule_spares db (of_event event) sound = links_spared db (resolved db (link_event_of db event))
 
 -- ---- a section of the area
 

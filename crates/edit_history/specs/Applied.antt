@@ -1,8 +1,9 @@
 -- What carrying out an edit leaves, and the contents of its record.
-use Rattle.std.specs.Prelude.{◌≡◌, ◌≢◌, List, length, map, unwrap_or, None, Ok, Err, IsOk}
+use Rattle.std.specs.Prelude.{◌≡◌, ◌≢◌, false, List, length, map, unwrap_or, None, Ok, Err, IsOk}
 use Rattle.lsa_codec.specs.declared.address.AreaId.{AreaId}
 use Rattle.lsdb.specs.Slots.{Slots, slot_at, lists_of}
 use Rattle.edit_script.specs.declared.edit.Edit.{Edit}
+use Rattle.edit_script.specs.Spelling.{is_event}
 use Rattle.edit_history.specs.declared.fault.EditFault.{EditFault}
 use Rattle.edit_history.specs.declared.fault.EditFault.TheVariants.{OutOfMemory}
 use Rattle.edit_history.specs.Rules.{Change}
@@ -40,10 +41,10 @@ pub record Applied (d e : Slots) (edit : Edit) (r : RecordData) : Type 0 where
   pub can : CanUndo e r.swaps
   pub before : Grown d (undone_slots e r.swaps)
 
--- the edit is refused with this fault; memory ran out only for an edit that would be carried out
+-- the edit is refused with this fault; memory ran out only for an edit that would be carried out, unless it is an event
 pub record IsRefused (d : Slots) (edit : Edit) (fault : EditFault) : Type 0 where
   pub known : fault ≢ OutOfMemory → effect (lists_of d) edit ≡ Err fault
-  pub memory : fault ≡ OutOfMemory → IsOk (effect (lists_of d) edit)
+  pub memory : is_event edit ≡ false → fault ≡ OutOfMemory → IsOk (effect (lists_of d) edit)
 
 -- the record counts the changes, and touches the areas that they touch
 pub record Reports (r : RecordData) (cs : List Change) : Type 0 where

@@ -19,12 +19,13 @@ use Rattle.lsdb.specs.Limits.{longest_dump, most_lsas_of_area, most_lsas_of_as}
 use Rattle.lsdb.specs.Lists.{AreaHead, SectionLsas, Lists, is_section, has_key, is_network, lsas_of, size}
 use Rattle.lsdb.specs.PrefixSlots.{prefix_of}
 use Rattle.edit_script.specs.declared.edit.Edit.{Edit}
-use Rattle.edit_script.specs.declared.edit.Edit.TheVariants.{Cost, DropLink, FailLink, FailNet, FailRouter, AddStub, Summary, AddSummary, AddExternal, DropExternal, Refresh}
+use Rattle.edit_script.specs.declared.edit.Edit.TheVariants.{Cost, DropLink, FailLink, FailNet, FailRouter, AddStub, Summary, AddSummary, AddExternal, DropExternal, Refresh, Event as of_event}
 use Rattle.edit_script.specs.declared.edit.MetricType.{MetricType}
 use Rattle.edit_script.specs.declared.edit.MetricType.TheVariants.{Type1, Type2}
 use Rattle.edit_history.specs.declared.fault.EditFault.{EditFault}
 use Rattle.edit_history.specs.declared.fault.EditFault.TheVariants.{NoArea, NoRouter, NoLink, SameRouter, NoNetwork, NoSummary, NoExternal, KeyTaken, Full}
 use Rattle.edit_history.specs.Fault.{fault_of}
+use Rattle.edit_history.specs.Events.{event_rule}
 use Rattle.edit_history.specs.Refreshing.{refresh_fates}
 use Rattle.edit_history.specs.Rules.{Fate, stays, removed, rewritten, Rule, by_fates, within, one_lsa, adding, lists_after, Change, changes_by}
 
@@ -193,6 +194,7 @@ rule_of db (DropExternal router prefix) = do
   lsa ← or_refused NoExternal (find (is_originated_for 5 router prefix) (lsas_of AsWide db))
   Ok (one_lsa AsWide (key_of lsa) removed)
 rule_of db Refresh = Ok (by_fates (refresh_fates db))
+rule_of db (of_event event) = event_rule db event
 
 -- the database after an edit, or its refusal
 abbrev pub effect : Lists → Edit → Result Lists EditFault

@@ -3,7 +3,7 @@ use Rattle.std.specs.Prelude.{ℕ, List, codes}
 use Rattle.lsa_codec.specs.declared.fault.MakeFault.{MakeFault}
 use Rattle.lsa_codec.specs.declared.fault.MakeFault.TheVariants as make
 use Rattle.edit_history.specs.declared.fault.EditFault.{EditFault}
-use Rattle.edit_history.specs.declared.fault.EditFault.TheVariants.{NoArea, NoRouter, NoLink, ZeroCost, SameRouter, NoNetwork, NoSummary, NoExternal, KeyTaken, TooLong, Full, HistoryFull, OutOfMemory}
+use Rattle.edit_history.specs.declared.fault.EditFault.TheVariants.{NoArea, NoRouter, NoLink, ZeroCost, SameRouter, NoNetwork, NoSummary, NoExternal, KeyTaken, TooLong, Full, HistoryFull, OutOfMemory, NotNeighbors, NoInterface, UnclearEnd}
 
 -- its code and its name
 abbrev pub texts_of : EditFault → List ℕ × List ℕ
@@ -20,6 +20,9 @@ texts_of TooLong = (codes "E10", codes "TooLong")
 texts_of Full = (codes "E11", codes "Full")
 texts_of HistoryFull = (codes "E12", codes "HistoryFull")
 texts_of OutOfMemory = (codes "E13", codes "OutOfMemory")
+texts_of NotNeighbors = (codes "E3", codes "NotNeighbors")
+texts_of NoInterface = (codes "E3", codes "NoInterface")
+texts_of UnclearEnd = (codes "E15", codes "UnclearEnd")
 
 abbrev pub code_of : EditFault → List ℕ
 code_of fault = (texts_of fault).0

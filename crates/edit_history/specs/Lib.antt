@@ -1,6 +1,7 @@
 pub mod Fault
 pub mod Rules
 pub mod Refreshing
+pub mod Events
 pub mod Effect
 pub mod Exchange
 pub mod Grown

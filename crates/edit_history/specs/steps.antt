@@ -4,3 +4,4 @@ pub mod Searching
 pub mod Failing
 pub mod Passing
 pub mod Holding
+pub mod Happening

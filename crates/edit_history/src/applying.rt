@@ -23,13 +23,18 @@ use std::alloc::Allocator;
 /// - a new stub link: `NoArea`, `NoRouter`, `TooLong`, `Full`;
 /// - another metric of a summary: `NoArea`, `NoSummary`; a new summary: `NoArea`, `NoRouter`,
 ///   `KeyTaken`, `Full`;
-/// - a new AS-external-LSA: `NoRouter`, `KeyTaken`, `Full`; one that is dropped: `NoExternal`.
+/// - a new AS-external-LSA: `NoRouter`, `KeyTaken`, `Full`; one that is dropped: `NoExternal`;
+/// - the links of two routers that are cut: `SameRouter`, `NoRouter` for either, `NotNeighbors`;
+///   one of them: `SameRouter`, `NoRouter` for either, `NoInterface`, `UnclearEnd`;
+/// - the cost of interfaces to a neighbor: `SameRouter`, `NoRouter` for either, `NotNeighbors`,
+///   `ZeroCost`; of the interface with an address: `NoRouter`, `NoInterface`, `ZeroCost`; a router
+///   that is drained: `NoRouter`.
 ///
 /// A refresh fails only where memory ran out.
 ///
-/// [`OutOfMemory`](EditFault::OutOfMemory) comes only for an edit that would be carried out, where
-/// memory ran out. All memory is taken, and a slot for a new LSA is opened, before the first LSA
-/// is exchanged; after a refusal the database is as it was, slot by slot.
+/// [`OutOfMemory`](EditFault::OutOfMemory) comes only where memory ran out: for an edit that would
+/// be carried out, or for any event. All memory is taken, and a slot for a new LSA is opened,
+/// before the first LSA is exchanged; after a refusal the database is as it was, slot by slot.
 pub fn apply<A: Allocator + Copy>(
     database: &mut Database<A>,
     edit: &Edit,

@@ -52,6 +52,15 @@ pub enum EditFault {
     /// E13: memory ran out.
     #[error("OutOfMemory")]
     OutOfMemory,
+    /// E3, of an event: the first router has no point-to-point link to the second.
+    #[error("NotNeighbors")]
+    NotNeighbors,
+    /// E3, of an event: the router has no such interface with this address.
+    #[error("NoInterface")]
+    NoInterface,
+    /// E15, of an event: which link the interface with this address has is not known.
+    #[error("UnclearEnd")]
+    UnclearEnd,
 }
 
 impl EditFault {
@@ -74,10 +83,13 @@ impl EditFault {
             EditFault::Full => ("E11", "Full"),
             EditFault::HistoryFull => ("E12", "HistoryFull"),
             EditFault::OutOfMemory => ("E13", "OutOfMemory"),
+            EditFault::NotNeighbors => ("E3", "NotNeighbors"),
+            EditFault::NoInterface => ("E3", "NoInterface"),
+            EditFault::UnclearEnd => ("E15", "UnclearEnd"),
         }
     }
 
-    /// The fault's code, as replies print it: `E1` to `E13`.
+    /// The fault's code, as replies print it: `E1` to `E13`, or `E15`.
     pub fn code(self) -> &'static str
         ensures { result.now ≡ code_of self }
     {

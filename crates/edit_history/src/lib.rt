@@ -7,6 +7,7 @@
 #![tactic(auto)]
 
 mod applying;
+mod events;
 mod failures;
 mod fault;
 mod history;

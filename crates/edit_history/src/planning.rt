@@ -4,6 +4,7 @@
 ghost use Rattle.std.specs.Prelude.{◌≡◌, OnErr};
 ghost use Rattle.edit_history.specs.steps.Plans.{IsPlan};
 
+use crate::events::plan_event;
 use crate::failures::{plan_fail_link, plan_fail_net, plan_fail_router};
 use crate::fault::EditFault;
 use crate::links::{plan_add_stub, plan_cost, plan_drop_link};
@@ -65,5 +66,6 @@ pub(crate) fn plan<A: Allocator + Copy>(
             tag,
         } => plan_add_external(database, router, prefix, metric_type, metric, forward, tag),
         Edit::Refresh => plan_refresh(database),
+        Edit::Event(event) => plan_event(database, event),
     }
 }

@@ -8,11 +8,11 @@ use Rattle.lsa_codec.specs.Prefix.{Net}
 use Rattle.lsa_codec.specs.Spelling.{address_text, prefix_text}
 use Rattle.edit_script.specs.declared.edit.Edit.{Edit}
 use Rattle.edit_script.specs.declared.edit.Edit.TheVariants.{Cost, DropLink, FailLink, FailNet, FailRouter, AddStub, Summary, AddSummary, AddExternal}
-use Rattle.edit_script.specs.declared.edit.Edit.TheVariants.{DropExternal, Refresh}
+use Rattle.edit_script.specs.declared.edit.Edit.TheVariants.{DropExternal, Refresh, Event as of_event}
 use Rattle.edit_script.specs.declared.edit.MetricType.{MetricType}
 use Rattle.edit_script.specs.declared.edit.MetricType.TheVariants.{Type1, Type2}
 use Rattle.edit_script.specs.Words.{Word}
-use Rattle.edit_script.specs.Spelling.{spelling, type_text, edit_words, IsEditInRange, IsPrefix}
+use Rattle.edit_script.specs.Spelling.{spelling, type_text, edit_words, IsScripted, IsPrefix}
 use Rattle.text_words.proofs.PartLemmas.{Lacks, Lacks-literal, has_none}
 use Rattle.text_words.proofs.NumberLemmas.{SparesDigits, Lacks-decimal}
 use Rattle.text_words.proofs.AddressLemmas.{Lacks-address}
@@ -40,7 +40,7 @@ type : (t : MetricType) → Lacks is_feed (type_text t)
 type Type1 = literal (codes "1") refl
 type Type2 = literal (codes "2") refl
 
-words_lack : (edit : Edit) → IsEditInRange edit → AllByRecursion (Lacks is_feed) (edit_words edit)
+words_lack : (edit : Edit) → IsScripted edit → AllByRecursion (Lacks is_feed) (edit_words edit)
 words_lack (Cost area router link metric) h =
     (literal (codes "cost") refl, (address area.0, (address router.0, (number link (omega arith), (number metric (omega arith), tt)))))
 words_lack (DropLink area router link) h =
@@ -61,6 +61,7 @@ words_lack (AddExternal router net t metric forward tag) h = (
 )
 words_lack (DropExternal router net) h = (literal (codes "drop-external") refl, (address router.0, (prefix net h.1, tt)))
 words_lack Refresh h = (literal (codes "refresh") refl, tt)
+words_lack (of_event event) h = absurd h
 
 joined : (words : List Word) → AllByRecursion (Lacks is_feed) words → Lacks is_feed (join_with_byte 32 words)
 joined [] h = All-nil (λ b. is_feed b ≡ false)
@@ -73,5 +74,5 @@ joined (word ∷ next ∷ words) h =
 unequal : (byte : ℕ) → is_feed byte ≡ false → byte ≢ 10
 unequal byte lacks e = let both : true ≡ false = sym (eq-eqb byte 10 e) ∙ lacks in absurd cc
 
-pub one_line : (edit : Edit) → IsEditInRange edit → All (λ byte. byte ≢ 10) (spelling edit)
+pub one_line : (edit : Edit) → IsScripted edit → All (λ byte. byte ≢ 10) (spelling edit)
 one_line edit h = λ k d lt. unequal _ (joined (edit_words edit) (words_lack edit h) k d lt)

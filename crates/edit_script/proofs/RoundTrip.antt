@@ -5,7 +5,8 @@ use Rattle.std.proofs.lemmas.List.Elements.{All-from_recursion}
 use Rattle.std.specs.List.{AllByRecursion}
 use Rattle.edit_script.specs.declared.edit.Edit.{Edit}
 use Rattle.edit_script.specs.declared.edit.Edit.TheVariants.{Cost, DropLink, FailLink, FailNet, FailRouter, AddStub, Summary, AddSummary, AddExternal}
-use Rattle.edit_script.specs.declared.edit.Edit.TheVariants.{DropExternal, Refresh}
+use Rattle.edit_script.specs.declared.edit.Edit.TheVariants.{DropExternal, Refresh, Event as of_event}
+use Rattle.edit_script.specs.declared.event.Event.TheVariants as events
 use Rattle.edit_script.specs.declared.edit.MetricType.{MetricType}
 use Rattle.edit_script.specs.declared.edit.MetricType.TheVariants.{Type1, Type2}
 use Rattle.edit_script.specs.declared.command.Command.{Command}
@@ -19,14 +20,14 @@ use Rattle.edit_script.specs.Words.{Word, words}
 use Rattle.edit_script.specs.Reading.{metric_type, edit_of, cost_of, drop_link_of, fail_link_of, fail_net_of, fail_router_of, add_stub_of, summary_of}
 use Rattle.edit_script.specs.Reading.{add_summary_of, add_external_of, drop_external_of, refresh_of, route_edit_of, command_of, count_of, router_of}
 use Rattle.edit_script.specs.Line.{meaning, meaning_of_words, after_branch}
-use Rattle.edit_script.specs.Spelling.{spelling, type_text, edit_words, command_words, branch_word, Says, IsEditInRange, IsInRange}
+use Rattle.edit_script.specs.Spelling.{spelling, type_text, edit_words, command_words, branch_word, Says, IsScripted, IsInRange}
 use Rattle.edit_script.proofs.Prefixes.{prefix_again, prefix_word}
 
 type_word : (type : MetricType) → IsWord InLine (type_text type)
 type_word Type1 = literal_word InLine (codes "1") refl (omega arith)
 type_word Type2 = literal_word InLine (codes "2") refl (omega arith)
 
-are_words : (edit : Edit) → IsEditInRange edit → AllByRecursion (IsWord InLine) (edit_words edit)
+are_words : (edit : Edit) → IsScripted edit → AllByRecursion (IsWord InLine) (edit_words edit)
 are_words (Cost area router link metric) h = (
   literal_word InLine (codes "cost") refl (omega arith),
   (
@@ -73,9 +74,10 @@ are_words (AddExternal router prefix type metric forward tag) h = (
 are_words (DropExternal router prefix) h =
     (literal_word InLine (codes "drop-external") refl (omega arith), (address_word InLine router.0, (prefix_word prefix h.1, tt)))
 are_words Refresh h = (literal_word InLine (codes "refresh") refl (omega arith), tt)
+are_words (of_event event) h = absurd h
 
 -- the words of the line of an edit are the words of the edit
-words_again : (edit : Edit) → IsEditInRange edit → words (spelling edit) ≡ edit_words edit
+words_again : (edit : Edit) → IsScripted edit → words (spelling edit) ≡ edit_words edit
 words_again edit h = words_joined InLine 32 (edit_words edit) refl (All-from_recursion (IsWord InLine) (edit_words edit) (are_words edit h))
 
 type_again : (type : MetricType) → metric_type (type_text type) ≡ Ok type
@@ -83,7 +85,7 @@ type_again Type1 = refl
 type_again Type2 = refl
 
 -- the words of an edit are read back
-edit_again : (edit : Edit) → IsEditInRange edit → (branch : ℕ) → after_branch branch (edit_words edit) ≡ Ok (branch, command.Edit edit)
+edit_again : (edit : Edit) → IsScripted edit → (branch : ℕ) → after_branch branch (edit_words edit) ≡ Ok (branch, command.Edit edit)
 unfolding after_branch command_of edit_of route_edit_of cost_of drop_link_of fail_link_of fail_net_of fail_router_of
     add_stub_of summary_of add_summary_of add_external_of drop_external_of refresh_of router_of
 edit_again (Cost area router link metric) h branch =
@@ -121,6 +123,7 @@ edit_again (AddExternal router prefix type metric forward tag) h branch =
 edit_again (DropExternal router prefix) h branch =
     simp (address_again router.0 h.0, prefix_again prefix h.1)
 edit_again Refresh h branch = refl
+edit_again (of_event event) h branch = absurd h
 
 -- the words of a command are read back
 read_again : (c : Command) → IsInRange c → (branch : ℕ) → after_branch branch (command_words c) ≡ Ok (branch, c)
@@ -147,6 +150,9 @@ without_branch (command.Edit (AddSummary area router prefix metric)) = refl
 without_branch (command.Edit (AddExternal router prefix type metric forward tag)) = refl
 without_branch (command.Edit (DropExternal router prefix)) = refl
 without_branch (command.Edit Refresh) = refl
+without_branch (command.Edit (of_event (events.Cut router neighbor address))) = refl
+without_branch (command.Edit (of_event (events.SetCost router far metric both))) = refl
+without_branch (command.Edit (of_event (events.Drain router))) = refl
 without_branch (command.Undo count) = refl
 without_branch (command.Redo count) = refl
 without_branch (command.Table router) = refl
@@ -167,5 +173,5 @@ means words branch c h says =
       | inr bare ↦ rw (bare.0, bare.1) (without_branch c ∙ read_again c h 0)
     ]
 
-pub reads_back : (edit : Edit) → IsEditInRange edit → meaning (spelling edit) ≡ Ok (0, command.Edit edit)
+pub reads_back : (edit : Edit) → IsScripted edit → meaning (spelling edit) ≡ Ok (0, command.Edit edit)
 reads_back edit h = ap meaning_of_words (words_again edit h) ∙ means (edit_words edit) 0 (command.Edit edit) h (omega arith, inr (refl, refl))

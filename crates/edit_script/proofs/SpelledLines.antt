@@ -17,7 +17,7 @@ use Rattle.edit_script.specs.Reading.{cost_of, drop_link_of, fail_link_of, fail_
 use Rattle.edit_script.specs.Reading.{add_external_of, drop_external_of, refresh_of}
 use Rattle.edit_script.specs.Line.{branch_of, in_branch, after_branch, meaning_of_words}
 use Rattle.edit_script.specs.Spelling.{command_words, branch_word, Says}
-use Rattle.edit_script.specs.Spelling.{IsInRange, edit_words, IsEditInRange}
+use Rattle.edit_script.specs.Spelling.{IsInRange, edit_words, IsScripted}
 use Rattle.text_words.proofs.NumberLemmas.{number_spelled}
 use Rattle.edit_script.proofs.SpelledArguments.{IsOf, of_spelled, none_are, two_read, three_read, four_read, six_read, count_read, router_read}
 use Rattle.edit_script.proofs.OneArgument.{then_ok, same_ok, of_ok, areas, routers, addrs, prefixes, types, numbers16, metrics24, numbers32}
@@ -26,7 +26,7 @@ use Rattle.edit_script.proofs.OneArgument.{then_ok, same_ok, of_ok, areas, route
 
 -- words that are an edit's, whose numbers are in range
 abbrev IsEdit : List Word → Edit → Type 0
-IsEdit = IsOf edit_words IsEditInRange
+IsEdit = IsOf edit_words IsScripted
 
 -- words that are a command's, whose numbers are in range
 abbrev IsCommand : List Word → Command → Type 0

@@ -3,6 +3,7 @@
 ghost use Rattle.std.specs.Prelude.{Some};
 ghost use Rattle.edit_script.specs.Spelling.{spelling, type_text};
 
+use crate::event::Event;
 use lsa_codec::{Addr, AreaId, Decimal, Metric, Prefix, RouterId};
 use std::fmt;
 
@@ -18,7 +19,7 @@ pub enum MetricType {
     Type2,
 }
 
-/// An edit of the link state database.
+/// An edit of the link state database: one that a line of a script means, or an event.
 ///
 /// Its `Display` is its line: the command word and the arguments, each after a single space,
 /// without a branch and without an end of line.
@@ -130,6 +131,8 @@ pub enum Edit {
     /// `refresh`: all summary-LSAs whose metrics follow from the database get the metrics that
     /// their originators announce (RFC 2328, 12.4.3).
     Refresh,
+    /// An event, which no line of a script means.
+    Event(Event),
 }
 
 impl fmt::Display for MetricType {
@@ -205,6 +208,7 @@ impl fmt::Display for Edit {
             }
             Edit::DropExternal { router, prefix } => write!(f, "drop-external {router} {prefix}"),
             Edit::Refresh => write!(f, "refresh"),
+            Edit::Event(event) => write!(f, "{event}"),
         }
     }
 }

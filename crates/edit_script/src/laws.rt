@@ -5,7 +5,7 @@ ghost use Rattle.edit_script.specs.declared.command.Command.{Command};
 ghost use Rattle.edit_script.specs.declared.command.Command.TheVariants as command;
 ghost use Rattle.edit_script.specs.declared.edit.Edit.{Edit};
 ghost use Rattle.edit_script.specs.Line.{meaning};
-ghost use Rattle.edit_script.specs.Spelling.{spelling, IsEditInRange, IsInRange, IsPrefix, Says};
+ghost use Rattle.edit_script.specs.Spelling.{spelling, IsScripted, IsScriptedUnlessEvent, IsInRange, IsPrefix, Says};
 ghost use Rattle.edit_script.specs.Words.{words};
 
 use crate::edit::Edit;
@@ -21,27 +21,27 @@ pub fn reads_what_is_said()
         → (meaning line ≡ Ok (branch, c)) ↔ (IsInRange c × Says (words line) branch c) }
 {}
 
-/// The line of an edit means that edit, in branch 0.
+/// The line of an edit that is no event means that edit, in branch 0.
 ///
 /// The function does nothing: its contract is the law.
 pub fn reads_back()
-    ensures { (edit : Edit) → IsEditInRange edit
+    ensures { (edit : Edit) → IsScripted edit
         → meaning (spelling edit) ≡ Ok (0, command.Edit edit) }
 {}
 
-/// The line of an edit has no line feed.
+/// The line of an edit that is no event has no line feed.
 ///
 /// The function does nothing: its contract is the law.
 pub fn spelled_on_one_line()
-    ensures { (edit : Edit) → IsEditInRange edit → All (λ byte. byte ≢ 10) (spelling edit) }
+    ensures { (edit : Edit) → IsScripted edit → All (λ byte. byte ≢ 10) (spelling edit) }
 {}
 
 /// Each number of an edit is in the range of its type: the condition of [`reads_back`] holds for
-/// every edit.
+/// every edit that is no event.
 ///
 /// The function does nothing: its contract is the law.
 pub fn edits_are_in_range(edit: &Edit)
-    ensures { IsEditInRange edit.now }
+    ensures { IsScriptedUnlessEvent edit.now }
 {
     match *edit {
         Edit::Cost {
@@ -115,7 +115,7 @@ pub fn edits_are_in_range(edit: &Edit)
             numbers_are_in_range(router.0);
             prefixes_are_in_range(prefix);
         }
-        Edit::Refresh => {}
+        Edit::Refresh | Edit::Event(_) => {}
     }
 }
 

@@ -13,6 +13,7 @@ mod command;
 mod commands;
 mod edit;
 mod edits;
+mod event;
 mod fault;
 mod laws;
 mod line;
@@ -22,6 +23,7 @@ mod words;
 
 pub use command::Command;
 pub use edit::{Edit, MetricType};
+pub use event::Event;
 pub use fault::ScriptFault;
 pub use laws::{edits_are_in_range, reads_back, reads_what_is_said, spelled_on_one_line};
 pub use line::parse;

@@ -16,7 +16,7 @@ use Rattle.lsdb.specs.declared.section.Section.TheVariants.{Area, AsWide}
 use Rattle.lsdb.specs.Lists.{AreaHead, Lists, has_key, is_head_of, lsas_of}
 use Rattle.edit_script.specs.declared.edit.Edit.{Edit}
 use Rattle.edit_script.specs.declared.edit.Edit.TheVariants.{Cost, DropLink, FailLink, FailNet, FailRouter, AddStub, Summary, AddSummary}
-use Rattle.edit_script.specs.declared.edit.Edit.TheVariants.{AddExternal, DropExternal, Refresh}
+use Rattle.edit_script.specs.declared.edit.Edit.TheVariants.{AddExternal, DropExternal, Refresh, Event as of_event}
 use Rattle.edit_history.specs.declared.fault.EditFault.{EditFault}
 use Rattle.edit_history.specs.declared.fault.EditFault.TheVariants.{NoRouter, NoSummary, NoExternal}
 use Rattle.edit_history.specs.Rules.{Fate, stays, removed, rewritten, Rule, Change, one_lsa, adding, change_of, addition, with_added}
@@ -171,6 +171,7 @@ module _ (area : AreaId) where
   route_leaves db (FailNet of network) h = absurd (true≢false (sym h))
   route_leaves db (FailRouter router) h = absurd (true≢false (sym h))
   route_leaves db (AddStub of router prefix metric) h = absurd (true≢false (sym h))
+  route_leaves db (of_event event) h = absurd (true≢false (sym h))
 
 pub routes_touch_none : (db : Lists) (e : Edit) (area : AreaId) → is_of_route e ≡ true → edit_touches area db e ≡ false
 routes_touch_none db e area h = (route_leaves area db e h).touches

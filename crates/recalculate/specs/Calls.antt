@@ -6,7 +6,7 @@ use Rattle.lsdb.specs.Lists.{AreaHead}
 use Rattle.area_routes.specs.Attached.{attached_areas}
 use Rattle.edit_script.specs.declared.edit.Edit.{Edit}
 use Rattle.edit_script.specs.declared.edit.Edit.TheVariants.{Cost, DropLink, FailLink, FailNet, FailRouter, AddStub, Summary, AddSummary}
-use Rattle.edit_script.specs.declared.edit.Edit.TheVariants.{AddExternal, DropExternal, Refresh}
+use Rattle.edit_script.specs.declared.edit.Edit.TheVariants.{AddExternal, DropExternal, Refresh, Event as of_event}
 use Rattle.edit_history.specs.Effect.{edit_touches}
 use Rattle.edit_history.specs.Session.{Session, Request, edit, undo, redo, after_request, edited, redo_touches, state, undo_touches}
 use Rattle.routing_table.specs.KeptTrees.{IsWithin, areas_without_tree, is_kept, less_touched}
@@ -112,3 +112,4 @@ is_of_route (AddSummary area router prefix metric) = true
 is_of_route (AddExternal router prefix metric_type metric forward tag) = true
 is_of_route (DropExternal router prefix) = true
 is_of_route Refresh = true
+is_of_route (of_event event) = false

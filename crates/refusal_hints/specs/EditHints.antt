@@ -10,15 +10,11 @@ use Rattle.edit_script.specs.declared.edit.Edit.{Edit}
 use Rattle.edit_script.specs.declared.edit.Edit.TheVariants as edit
 use Rattle.edit_history.specs.declared.fault.EditFault.{EditFault}
 use Rattle.edit_history.specs.declared.fault.EditFault.TheVariants as fault
-use Rattle.refusal_hints.specs.Advice.{AdviceValue, advice, no_advice}
+use Rattle.refusal_hints.specs.Advice.{AdviceValue, advice}
 use Rattle.refusal_hints.specs.Described.{count_originated, is_described}
+use Rattle.refusal_hints.specs.EventHints.{event_advice}
+use Rattle.refusal_hints.specs.LimitHints.{limit_advice}
 use Rattle.refusal_hints.specs.RouterHints.{anywhere_hint, area_hint, link_hint, network_hint, router_hint}
-
--- E11 and E12, of any edit: the command word
-abbrev pub limit_advice : EditFault → AdviceValue
-limit_advice fault.Full = advice 0 (codes "a limit of the dump is reached")
-limit_advice fault.HistoryFull = advice 0 (codes "10000 edits are done")
-limit_advice _ = no_advice
 
 -- `EDIT AREA ..`
 abbrev pub area_advice : Lists → AreaId → EditFault → AdviceValue
@@ -86,3 +82,4 @@ edit_advice db (edit.AddSummary area router prefix metric) why = router_advice d
 edit_advice db (edit.AddExternal router prefix metric_type metric forward tag) why = anywhere_advice db router why
 edit_advice db (edit.DropExternal router prefix) why = anywhere_advice db router why
 edit_advice db edit.Refresh why = limit_advice why
+edit_advice db (edit.Event event) why = event_advice db event why

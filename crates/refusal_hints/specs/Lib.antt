@@ -3,6 +3,8 @@ pub mod Situation
 pub mod Nearest
 pub mod Described
 pub mod RouterHints
+pub mod LimitHints
+pub mod EventHints
 pub mod EditHints
 pub mod CommandHints
 pub mod QuestionHints

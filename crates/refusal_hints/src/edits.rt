@@ -3,10 +3,13 @@
 ghost use Rattle.std.specs.Prelude.{◌≡◌, ◌++◌, IfOk, codes, decimal};
 ghost use Rattle.lsa_codec.specs.Spelling.{address_text};
 ghost use Rattle.lsdb.specs.Slots.{lists_of};
-ghost use Rattle.refusal_hints.specs.EditHints.{anywhere_advice, area_advice, edit_advice, end_advice, ends_advice, externals_hint, limit_advice, network_advice, no_link_hint, router_advice, summaries_hint};
+ghost use Rattle.refusal_hints.specs.EditHints.{anywhere_advice, area_advice, edit_advice, end_advice, ends_advice, externals_hint, network_advice, no_link_hint, router_advice, summaries_hint};
+ghost use Rattle.refusal_hints.specs.LimitHints.{limit_advice};
 
 use crate::advice::Advice;
 use crate::described::{count_originated, is_described};
+use crate::events::event_advice;
+use crate::limit::limit_advice;
 use crate::routers::{anywhere_hint, area_hint, link_hint, network_hint, router_hint};
 use edit_history::EditFault;
 use edit_script::Edit;
@@ -82,11 +85,7 @@ impl<'d, A: Allocator + Copy> Refused<'d, A> {
     fn limit(&self) -> Result<Advice<A>, AllocError>
         ensures { IfOk result (λ it. it ≡ limit_advice self.now.why) }
     {
-        match self.why {
-            EditFault::Full => Advice::of(self.alloc, 0, "a limit of the dump is reached"),
-            EditFault::HistoryFull => Advice::of(self.alloc, 0, "10000 edits are done"),
-            _ => Advice::none(self.alloc),
-        }
+        limit_advice(self.alloc, self.why)
     }
 
     /// Of an edit in an area.
@@ -214,5 +213,6 @@ pub(crate) fn edit_advice<A: Allocator + Copy>(
         | Edit::AddExternal { router, .. }
         | Edit::DropExternal { router, .. } => refused.anywhere(router),
         Edit::Refresh => refused.limit(),
+        Edit::Event(event) => event_advice(alloc, database, event, why),
     }
 }

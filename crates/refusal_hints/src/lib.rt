@@ -21,6 +21,8 @@ mod router_word;
 
 // What would have been right in an edit.
 mod edits;
+mod events;
+mod limit;
 
 // What would have been right in any line.
 mod commands;

@@ -10,5 +10,6 @@ pub mod LinesTaken
 pub mod LinesAgain
 pub mod SessionAgain
 pub mod SessionTaken
+pub mod RecordEdits
 pub mod CanSave
 pub mod OpenedEdits

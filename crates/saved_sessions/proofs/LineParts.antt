@@ -12,7 +12,7 @@ use Rattle.edit_script.specs.declared.command.Command.TheVariants as command
 use Rattle.edit_script.specs.declared.edit.Edit.{Edit}
 use Rattle.edit_script.specs.declared.fault.ScriptFault.{ScriptFault}
 use Rattle.edit_script.specs.Line.{meaning}
-use Rattle.edit_script.specs.Spelling.{spelling, IsEditInRange}
+use Rattle.edit_script.specs.Spelling.{spelling, IsScripted}
 use Rattle.saved_sessions.specs.Lines.{line_feed, line_of, if_spelled, edit_in, edit_meant, edit_spelled, line_up_to, edit_line}
 
 abbrev pub is_feed : ℕ → Bool
@@ -97,10 +97,10 @@ meant line (Ok found) edit h =
 
 -- what a line means is in range
 abbrev pub KeepsRange : Type 0
-KeepsRange = (line : List ℕ) (branch : ℕ) (edit : Edit) → meaning line ≡ Ok (branch, command.Edit edit) → IsEditInRange edit
+KeepsRange = (line : List ℕ) (branch : ℕ) (edit : Edit) → meaning line ≡ Ok (branch, command.Edit edit) → IsScripted edit
 
 abbrev IsLineRead : List ℕ → Edit → ℕ → Type 0
-IsLineRead bytes edit byte_count = IsEditInRange edit × (byte_count ≡ length (line_of edit)) × (bytes ≡ line_of edit ++ drop byte_count bytes)
+IsLineRead bytes edit byte_count = IsScripted edit × (byte_count ≡ length (line_of edit)) × (bytes ≡ line_of edit ++ drop byte_count bytes)
 
 line_read : KeepsRange → (bytes : List ℕ) (o : Option ℕ) (edit : Edit) (byte_count : ℕ) → position is_feed bytes ≡ o
     → line_up_to bytes o ≡ Some (edit, byte_count) → IsLineRead bytes edit byte_count
@@ -116,19 +116,19 @@ line_read range bytes (Some end) edit byte_count is h =
     (range line found.branch edit found.means, sym m.1 ∙ sym size, subst (λ (n : ℕ). bytes ≡ line_of edit ++ drop n bytes) m.1 whole)
 
 pub edit_line_is : KeepsRange → (bytes : List ℕ) (edit : Edit) (byte_count : ℕ) → edit_line bytes ≡ Some (edit, byte_count)
-    → IsEditInRange edit × (byte_count ≡ length (line_of edit)) × (bytes ≡ line_of edit ++ drop byte_count bytes)
+    → IsScripted edit × (byte_count ≡ length (line_of edit)) × (bytes ≡ line_of edit ++ drop byte_count bytes)
 unfolding edit_line
 edit_line_is range bytes edit byte_count h = line_read range bytes (position is_feed bytes) edit byte_count refl h
 
 -- ---- reading back
 
 abbrev pub ReadsBack : Type 0
-ReadsBack = (edit : Edit) → IsEditInRange edit → meaning (spelling edit) ≡ Ok (0, command.Edit edit)
+ReadsBack = (edit : Edit) → IsScripted edit → meaning (spelling edit) ≡ Ok (0, command.Edit edit)
 
 abbrev pub OnOneLine : Type 0
-OnOneLine = (edit : Edit) → IsEditInRange edit → All (λ byte. byte ≢ 10) (spelling edit)
+OnOneLine = (edit : Edit) → IsScripted edit → All (λ byte. byte ≢ 10) (spelling edit)
 
-pub edit_line_again : ReadsBack → OnOneLine → (edit : Edit) (rest : List ℕ) → IsEditInRange edit
+pub edit_line_again : ReadsBack → OnOneLine → (edit : Edit) (rest : List ℕ) → IsScripted edit
     → edit_line (line_of edit ++ rest) ≡ Some (edit, length (line_of edit))
 unfolding edit_line
 edit_line_again back one edit rest range =

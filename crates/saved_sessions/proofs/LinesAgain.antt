@@ -9,7 +9,7 @@ use Rattle.lsdb.specs.Lists.{Lists}
 use Rattle.lsdb.specs.Loading.{◌>>=◌, At}
 use Rattle.lsdb.proofs.NumberLemmas.{here}
 use Rattle.edit_script.specs.declared.edit.Edit.{Edit}
-use Rattle.edit_script.specs.Spelling.{IsEditInRange}
+use Rattle.edit_script.specs.Spelling.{IsScripted}
 use Rattle.edit_history.specs.declared.fault.EditFault.{EditFault}
 use Rattle.edit_history.specs.Session.{Session, after_edits, unless_refused, effects, edited, most_edits}
 use Rattle.saved_sessions.specs.Lines.{line_of, lines_of, edit_line}
@@ -18,7 +18,7 @@ use Rattle.saved_sessions.proofs.Doing.{doing, edited_again, after_snoc, leads}
 
 -- the line of an edit is read as it, whatever follows
 abbrev pub LineIsRead : Type 0
-LineIsRead = (edit : Edit) (rest : List ℕ) → IsEditInRange edit → edit_line (line_of edit ++ rest) ≡ Some (edit, length (line_of edit))
+LineIsRead = (edit : Edit) (rest : List ℕ) → IsScripted edit → edit_line (line_of edit ++ rest) ≡ Some (edit, length (line_of edit))
 
 -- ---- one line
 
@@ -28,7 +28,7 @@ Line = Result (Edit × At) DumpFault
 abbrev Next : Type 0
 Next = Result (Session × At) DumpFault
 
-line_again : LineIsRead → (line o : ℕ) (base : Lists) (done : List Edit) (e : Edit) (after : Lists) (rest : List ℕ) → IsEditInRange e
+line_again : LineIsRead → (line o : ℕ) (base : Lists) (done : List Edit) (e : Edit) (after : Lists) (rest : List ℕ) → IsScripted e
     → edited (doing base done) e ≡ Ok (doing base (done ++ e ∷ []))
     → line_at line (doing base done) (here o (line_of e ++ rest)) ≡ Ok (doing base (done ++ e ∷ []), here (o + length (line_of e)) rest)
 unfolding line_at
@@ -47,7 +47,7 @@ line_again law line o base done e after rest fits is =
 abbrev read : Session → At → Next
 read s at = Ok (s, at)
 
-pub lines_again : LineIsRead → (es : List Edit) (line o : ℕ) (base : Lists) (done : List Edit) (rest : List ℕ) → All IsEditInRange es
+pub lines_again : LineIsRead → (es : List Edit) (line o : ℕ) (base : Lists) (done : List Edit) (rest : List ℕ) → All IsScripted es
     → length done + length es ≤ most_edits → IsOk (effects (after_edits base done) es)
     → lines_from (length es) line (doing base done) (here o (lines_of es ++ rest))
     ≡ Ok (doing base (done ++ es), here (o + length (lines_of es)) rest)
@@ -63,10 +63,10 @@ lines_again law (e ∷ es) line o base done rest fit few ok =
     let whole : lines_of (e ∷ es) ++ rest ≡ line_of e ++ (lines_of es ++ rest) =
     ap (λ (xs : List ℕ). xs ++ rest) parts ∙ append_assoc (line_of e) (lines_of es) rest in
     let is = edited_again base done e first.after (omega arith) first.is in
-    let one = line_again law line o base done e first.after (lines_of es ++ rest) (All-head IsEditInRange e es fit) is in
+    let one = line_again law line o base done e first.after (lines_of es ++ rest) (All-head IsScripted e es fit) is in
     let state : after_edits base next ≡ first.after =
     after_snoc base done e ∙ ap (unless_refused (after_edits base done)) first.is in
-    let more = lines_again law es (line + 1) (o + m) base next rest (All-tail IsEditInRange e es fit)
+    let more = lines_again law es (line + 1) (o + m) base next rest (All-tail IsScripted e es fit)
     (omega (arith, length-append done (e ∷ []))) (subst (λ (db : Lists). IsOk (effects db es)) (sym state) first.rest) in
     ap (λ (xs : List ℕ). lines_from (suc (length es)) line (doing base done) (here o xs)) whole
     ∙ ap (λ (r : Next). r >>= λ (x : Session × At). lines_from (length es) (line + 1) x.0 x.1) one

@@ -6,7 +6,7 @@ use Rattle.lsdb.specs.Lists.{Lists}
 use Rattle.lsdb.specs.Loading.{◌>>=◌, At, advanced}
 use Rattle.lsdb.proofs.NumberLemmas.{bind_ok, ok_is}
 use Rattle.edit_script.specs.declared.edit.Edit.{Edit}
-use Rattle.edit_script.specs.Spelling.{IsEditInRange}
+use Rattle.edit_script.specs.Spelling.{IsScripted}
 use Rattle.edit_history.specs.declared.fault.EditFault.{EditFault}
 use Rattle.edit_history.specs.Session.{Session, edited}
 use Rattle.saved_sessions.specs.Lines.{line_of, lines_of, edit_line}
@@ -16,13 +16,13 @@ use Rattle.saved_sessions.proofs.Doing.{doing, edited_is}
 -- what is read as an edit is its line
 abbrev pub LineIsSpelled : Type 0
 LineIsSpelled = (bytes : List ℕ) (edit : Edit) (byte_count : ℕ) → edit_line bytes ≡ Some (edit, byte_count)
-    → IsEditInRange edit × (byte_count ≡ length (line_of edit)) × (bytes ≡ line_of edit ++ drop byte_count bytes)
+    → IsScripted edit × (byte_count ≡ length (line_of edit)) × (bytes ≡ line_of edit ++ drop byte_count bytes)
 
 -- ---- one line
 
 pub record TakesLine (base : Lists) (done : List Edit) (at : At) (t : Session) (after : At) : Type 0 where
   pub edit : Edit
-  pub fits : IsEditInRange edit
+  pub fits : IsScripted edit
   pub session : t ≡ doing base (done ++ edit ∷ [])
   pub parts : at.rest ≡ line_of edit ++ after.rest
 

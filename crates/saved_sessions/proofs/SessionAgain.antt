@@ -14,7 +14,7 @@ use Rattle.lsdb.specs.Loading.{◌>>=◌, At, ended, loaded}
 use Rattle.lsdb.specs.BaseLoading.{begins_session, base_loaded}
 use Rattle.lsdb.proofs.NumberLemmas.{here}
 use Rattle.edit_script.specs.declared.edit.Edit.{Edit}
-use Rattle.edit_script.specs.Spelling.{IsEditInRange}
+use Rattle.edit_script.specs.Spelling.{IsScripted}
 use Rattle.edit_history.specs.Session.{Session, start, effects, moved_back}
 use Rattle.saved_sessions.specs.Lines.{lines_of, longest_line}
 use Rattle.saved_sessions.specs.Text.{history_text, session_text, IsHistory}
@@ -48,7 +48,7 @@ all_lines : LineIsRead → (base : Lists) (d u : List Edit) (o : ℕ) → CanBeS
 all_lines law base d u o can =
     let es : List Edit = d ++ u in
     let count : length es ≡ length d + length u = length-append d u in
-    let fit : All IsEditInRange es = All-append IsEditInRange d u can.done_fit can.undone_fit in
+    let fit : All IsScripted es = All-append IsScripted d u can.done_fit can.undone_fit in
     let ok : IsOk (effects base es) = none_refused base d u _ can.accepted.done can.accepted.undone in
     ap (λ (n : ℕ). lines_from n 0 (start base) (here o (lines_of es))) (sym count)
     ∙ ap (λ (xs : List ℕ). lines_from (length es) 0 (start base) (here o xs)) (sym (append-nil (lines_of es)))

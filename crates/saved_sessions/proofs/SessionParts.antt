@@ -8,7 +8,7 @@ use Rattle.std.proofs.lemmas.List.Concat.{flat_map-cons}
 use Rattle.std.proofs.lemmas.List.Elements.{All-head, All-tail, All-append}
 use Rattle.std.proofs.lemmas.Nat.{from_be_bytes-to_be_bytes_2}
 use Rattle.edit_script.specs.declared.edit.Edit.{Edit}
-use Rattle.edit_script.specs.Spelling.{spelling, IsEditInRange}
+use Rattle.edit_script.specs.Spelling.{spelling, IsScripted}
 use Rattle.lsdb.specs.declared.fault.DumpFault.{DumpFault}
 use Rattle.lsdb.specs.Limits.{longest_session}
 use Rattle.lsdb.specs.Lists.{Lists, IsDatabase}
@@ -20,7 +20,7 @@ use Rattle.saved_sessions.specs.Text.{history_text, session_text, IsHistory}
 -- ---- the lines
 
 abbrev pub LineIsRead : Type 0
-LineIsRead = (edit : Edit) (rest : List ℕ) → IsEditInRange edit → edit_line (line_of edit ++ rest) ≡ Some (edit, length (line_of edit))
+LineIsRead = (edit : Edit) (rest : List ℕ) → IsScripted edit → edit_line (line_of edit ++ rest) ≡ Some (edit, length (line_of edit))
 
 abbrev read : Edit → ℕ → Option (Edit × ℕ)
 read edit byte_count = Some (edit, byte_count)
@@ -33,19 +33,19 @@ some_bytes edit rest e = let none : 0 ≡ length (line_of edit) + length rest = 
     let size : length (line_of edit) ≡ length (spelling edit) + 1 = length-append (spelling edit) (line_feed ∷ []) in
     omega arith
 
-first_same : LineIsRead → (x y : Edit) (a b : List ℕ) → IsEditInRange x → IsEditInRange y → line_of x ++ a ≡ line_of y ++ b → (x ≡ y) × (a ≡ b)
+first_same : LineIsRead → (x y : Edit) (a b : List ℕ) → IsScripted x → IsScripted y → line_of x ++ a ≡ line_of y ++ b → (x ≡ y) × (a ≡ b)
 first_same law x y a b p q e =
     let same : x ≡ y = same_edit x y (length (line_of x)) (length (line_of y)) (sym (law x a p) ∙ ap edit_line e ∙ law y b q) in
     (same, append_cancel_left (line_of x) a b (e ∙ ap (λ (z : Edit). line_of z ++ b) (sym same)))
 
-lines_same : LineIsRead → (xs ys : List Edit) → All IsEditInRange xs → All IsEditInRange ys → lines_of xs ≡ lines_of ys → xs ≡ ys
+lines_same : LineIsRead → (xs ys : List Edit) → All IsScripted xs → All IsScripted ys → lines_of xs ≡ lines_of ys → xs ≡ ys
 lines_same law [] [] p q e = refl
 lines_same law [] (y ∷ ys) p q e = absurd (some_bytes y (lines_of ys) (e ∙ flat_map-cons line_of y ys))
 lines_same law (x ∷ xs) [] p q e = absurd (some_bytes x (lines_of xs) (sym e ∙ flat_map-cons line_of x xs))
 lines_same law (x ∷ xs) (y ∷ ys) p q e =
-    let both = first_same law x y (lines_of xs) (lines_of ys) (All-head IsEditInRange x xs p) (All-head IsEditInRange y ys q)
+    let both = first_same law x y (lines_of xs) (lines_of ys) (All-head IsScripted x xs p) (All-head IsScripted y ys q)
     (sym (flat_map-cons line_of x xs) ∙ e ∙ flat_map-cons line_of y ys) in
-    let rest : xs ≡ ys = lines_same law xs ys (All-tail IsEditInRange x xs p) (All-tail IsEditInRange y ys q) both.1 in
+    let rest : xs ≡ ys = lines_same law xs ys (All-tail IsScripted x xs p) (All-tail IsScripted y ys q) both.1 in
     ap (λ (z : Edit). z ∷ xs) both.0 ∙ ap (λ (zs : List Edit). y ∷ zs) rest
 
 -- ---- the numbers before the lines
@@ -64,8 +64,8 @@ history_same : LineIsRead → (d u e v : List Edit) → IsHistory d u → IsHist
 history_same law d u e v p q h =
     let first = number_same (length d) (length e) _ _ p.few_done q.few_done (sym (history-split d u) ∙ h ∙ history-split e v) in
     let second = number_same (length u) (length v) _ _ p.few_undone q.few_undone first.1 in
-    let all : d ++ u ≡ e ++ v = lines_same law (d ++ u) (e ++ v) (All-append IsEditInRange d u p.done_fit p.undone_fit)
-    (All-append IsEditInRange e v q.done_fit q.undone_fit) second.1 in
+    let all : d ++ u ≡ e ++ v = lines_same law (d ++ u) (e ++ v) (All-append IsScripted d u p.done_fit p.undone_fit)
+    (All-append IsScripted e v q.done_fit q.undone_fit) second.1 in
     let done : d ≡ e = sym (take_at d u (length d) refl) ∙ ap (take (length d)) all ∙ take_at e v (length d) (sym first.0) in
     let undone : u ≡ v = sym (drop_at d u (length d) refl) ∙ ap (drop (length d)) all ∙ drop_at e v (length d) (sym first.0) in
     (done, undone)

@@ -11,11 +11,12 @@ use Rattle.lsa_codec.specs.Prefix.{Net}
 use Rattle.lsa_codec.specs.Spelling.{address_text, prefix_text}
 use Rattle.edit_script.specs.declared.edit.Edit.{Edit}
 use Rattle.edit_script.specs.declared.edit.Edit.TheVariants.{Cost, DropLink, FailLink, FailNet, FailRouter, AddStub, Summary, AddSummary, AddExternal}
-use Rattle.edit_script.specs.declared.edit.Edit.TheVariants.{DropExternal, Refresh}
+use Rattle.edit_script.specs.declared.edit.Edit.TheVariants.{DropExternal, Refresh, Event as of_event}
+use Rattle.edit_script.specs.declared.event.Event.TheVariants as events
 use Rattle.edit_script.specs.declared.edit.MetricType.{MetricType}
 use Rattle.edit_script.specs.declared.edit.MetricType.TheVariants.{Type1, Type2}
 use Rattle.edit_script.specs.Words.{Word}
-use Rattle.edit_script.specs.Spelling.{spelling, type_text, edit_words, IsEditInRange, IsPrefix}
+use Rattle.edit_script.specs.Spelling.{spelling, type_text, edit_words, IsScripted, IsPrefix}
 use Rattle.lsdb.specs.Limits.{longest_dump}
 use Rattle.lsdb.specs.Lists.{Lists, IsDatabase, size}
 use Rattle.lsdb.specs.BaseText.{base_text}
@@ -71,7 +72,7 @@ joined word (next ∷ words) =
     let all : length (word ++ 32 ∷ rest) + 1 ≡ length word + 1 + room (next ∷ words) = omega (arith, outer, after) in
     all
 
-few_bytes : (edit : Edit) → IsEditInRange edit → room (edit_words edit) ≤ 86
+few_bytes : (edit : Edit) → IsScripted edit → room (edit_words edit) ≤ 86
 few_bytes (Cost area router link metric) h =
     omega (arith, address area.0, address router.0, number 5 link (omega arith) (omega arith) (omega arith), number 5 metric (omega arith) (omega arith) (omega arith))
 few_bytes (DropLink area router link) h =
@@ -97,6 +98,7 @@ few_bytes (AddExternal router net t metric forward tag) h =
     )
 few_bytes (DropExternal router net) h = omega (arith, address router.0, prefix net h.1)
 few_bytes Refresh h = omega arith
+few_bytes (of_event event) h = absurd h
 
 as_joined : (words : List Word) → 0 < length words → length (join_with_byte 32 words) + 1 ≡ room words
 as_joined [] some = absurd (omega arith)
@@ -114,17 +116,20 @@ some_words (AddSummary area router net metric) = omega arith
 some_words (AddExternal router net t metric forward tag) = omega arith
 some_words (DropExternal router net) = omega arith
 some_words Refresh = omega arith
+some_words (of_event (events.Cut router neighbor address)) = omega arith
+some_words (of_event (events.SetCost router far metric both)) = omega arith
+some_words (of_event (events.Drain router)) = omega arith
 
-pub short_line : (edit : Edit) → IsEditInRange edit → length (line_of edit) ≤ longest_line
+pub short_line : (edit : Edit) → IsScripted edit → length (line_of edit) ≤ longest_line
 short_line edit h =
     let size : length (line_of edit) ≡ length (spelling edit) + 1 = length-append (spelling edit) (line_feed ∷ []) in
     omega (arith, size, as_joined (edit_words edit) (some_words edit), few_bytes edit h)
 
-short_lines : (edits : List Edit) → All IsEditInRange edits → length (lines_of edits) ≤ longest_line * length edits
+short_lines : (edits : List Edit) → All IsScripted edits → length (lines_of edits) ≤ longest_line * length edits
 short_lines [] h = omega arith
 short_lines (edit ∷ edits) h =
-    let one = short_line edit (All-head IsEditInRange edit edits h) in
-    let rest = short_lines edits (All-tail IsEditInRange edit edits h) in
+    let one = short_line edit (All-head IsScripted edit edits h) in
+    let rest = short_lines edits (All-tail IsScripted edit edits h) in
     let both : length (lines_of (edit ∷ edits)) ≡ length (line_of edit) + length (lines_of edits) =
     ap length (flat_map-cons line_of edit edits) ∙ length-append (line_of edit) (lines_of edits) in
     omega arith
@@ -136,7 +141,7 @@ pub short_session : (base : Lists) (done undone : List Edit) → length (base_te
 unfolding session_text
 short_session base done undone byte_count good fine =
     let numbers : List ℕ = to_be_bytes w16 (length done) ++ to_be_bytes w16 (length undone) in
-    let lines = short_lines (done ++ undone) (All-append IsEditInRange done undone fine.done_fit fine.undone_fit) in
+    let lines = short_lines (done ++ undone) (All-append IsScripted done undone fine.done_fit fine.undone_fit) in
     let count = length-append done undone in
     let whole = length-append (base_text base) (history_text done undone) in
     let history : length (history_text done undone) ≡ 4 + length (lines_of (done ++ undone)) = length-append numbers (lines_of (done ++ undone)) in

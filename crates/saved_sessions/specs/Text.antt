@@ -4,7 +4,7 @@ use Rattle.std.specs.Int.{w16, to_be_bytes}
 use Rattle.lsdb.specs.Lists.{Lists}
 use Rattle.lsdb.specs.BaseText.{base_text}
 use Rattle.edit_script.specs.declared.edit.Edit.{Edit}
-use Rattle.edit_script.specs.Spelling.{IsEditInRange}
+use Rattle.edit_script.specs.Spelling.{IsScripted}
 use Rattle.saved_sessions.specs.Lines.{lines_of}
 
 -- the number of edits done and the number of edits undone, and their lines
@@ -14,9 +14,9 @@ history_text done undone = to_be_bytes w16 (length done) ++ to_be_bytes w16 (len
 unfoldable pub session_text : Lists → List Edit → List Edit → List ℕ
 session_text base done undone = base_text base ++ history_text done undone
 
--- edits that fit into such a dump: their numbers have 16 bits, and each number of an edit is in the range of its type
+-- edits that fit into such a dump: their numbers have 16 bits, and a line of a script means each
 pub record IsHistory (done undone : List Edit) : Type 0 where
   pub few_done : length done < 2 ^ 16
   pub few_undone : length undone < 2 ^ 16
-  pub done_fit : All IsEditInRange done
-  pub undone_fit : All IsEditInRange undone
+  pub done_fit : All IsScripted done
+  pub undone_fit : All IsScripted undone

@@ -2,7 +2,7 @@
 
 ghost use Rattle.std.specs.Prelude.{◌≡◌, ◌≤◌, ◌+◌, ◌*◌, ◌++◌, ℕ, List, Some, Ok, length, drop};
 ghost use Rattle.edit_script.specs.declared.edit.Edit.{Edit};
-ghost use Rattle.edit_script.specs.Spelling.{IsEditInRange};
+ghost use Rattle.edit_script.specs.Spelling.{IsScripted};
 ghost use Rattle.lsdb.specs.Limits.{longest_dump, longest_session};
 ghost use Rattle.lsdb.specs.Lists.{Lists, IsDatabase};
 ghost use Rattle.lsdb.specs.Text.{text};
@@ -21,13 +21,13 @@ use lsdb::{base_laws, text_laws};
 ///
 /// The function does nothing: its contract is the law.
 pub fn line_laws()
-    ensures again { (edit : Edit) (rest : List ℕ) → IsEditInRange edit
+    ensures again { (edit : Edit) (rest : List ℕ) → IsScripted edit
         → edit_line (line_of edit ++ rest) ≡ Some (edit, length (line_of edit)) }
     ensures spelled { (bytes : List ℕ) (edit : Edit) (byte_count : ℕ)
         → edit_line bytes ≡ Some (edit, byte_count)
-        → IsEditInRange edit × (byte_count ≡ length (line_of edit))
+        → IsScripted edit × (byte_count ≡ length (line_of edit))
         × (bytes ≡ line_of edit ++ drop byte_count bytes) }
-    ensures short { (edit : Edit) → IsEditInRange edit
+    ensures short { (edit : Edit) → IsScripted edit
         → length (line_of edit) ≤ longest_line }
 {
     reads_back();

@@ -1,7 +1,7 @@
 //! One line of an edit.
 
 ghost use Rattle.std.specs.Prelude.{◌≡◌, ◌==◌, ◌++◌, position, IfOk, OnOk};
-ghost use Rattle.edit_script.specs.Spelling.{spelling, IsEditInRange};
+ghost use Rattle.edit_script.specs.Spelling.{spelling, IsScriptedUnlessEvent};
 ghost use Rattle.saved_sessions.specs.Lines.{line_feed, line_of, edit_spelled, edit_line};
 
 use edit_script::{Command, Edit, edits_are_in_range, parse, print};
@@ -53,7 +53,7 @@ pub fn edit_line<A: Allocator + Copy>(
 }
 
 /// Writes the line of an edit after what was written before. Each number of an edit is in the range
-/// of its type, so [`edit_line`] reads the line back.
+/// of its type, so [`edit_line`] reads the line back, if the edit is no event.
 ///
 /// # Errors
 ///
@@ -64,7 +64,7 @@ pub fn put_line<A: Allocator + Copy>(
     edit: &Edit,
 ) -> Result<(), AllocError>
     ensures written { OnOk result (out.new.items ≡ out.old.items ++ line_of edit.now) }
-    ensures range { IsEditInRange edit.now }
+    ensures range { IsScriptedUnlessEvent edit.now }
 {
     edits_are_in_range(edit);
     let spelled = print(alloc, edit)?;

@@ -1,13 +1,13 @@
 //! Saving a session.
 
 ghost use Rattle.std.specs.Prelude.{◌≡◌, ◌++◌, All, Ok, OnOk, IfOk};
-ghost use Rattle.edit_script.specs.Spelling.{IsEditInRange};
+ghost use Rattle.edit_script.specs.Spelling.{IsScriptedUnlessEvent};
 ghost use Rattle.edit_history.specs.Session.{edits_of};
 ghost use Rattle.lsdb.specs.Lists.{IsDatabase};
 ghost use Rattle.saved_sessions.specs.Lines.{lines_of};
 ghost use Rattle.saved_sessions.specs.Text.{history_text};
 ghost use Rattle.saved_sessions.specs.Opening.{opened};
-ghost use Rattle.saved_sessions.specs.Saved.{CanBeSaved, saved_text};
+ghost use Rattle.saved_sessions.specs.Saved.{CanBeSaved, HasNoEvents, saved_text};
 
 use crate::laws::sessions_open_again;
 use crate::line::put_line;
@@ -23,7 +23,7 @@ fn put_lines<A: Allocator + Copy>(
 ) -> Result<(), AllocError>
     ensures written { OnOk result
         (out.new.items ≡ out.old.items ++ lines_of (edits_of records.now)) }
-    ensures range { OnOk result (All IsEditInRange (edits_of records.now)) }
+    ensures range { OnOk result (All IsScriptedUnlessEvent (edits_of records.now)) }
 {
     for record in records {
         put_line(alloc, out, &record.edit())?;
@@ -39,7 +39,8 @@ fn put_history<A: Allocator + Copy>(
     requires { IsDatabase planner.now.session.base }
     ensures written { OnOk result (out.new.items ≡ out.old.items
         ++ history_text planner.now.session.done planner.now.session.undone) }
-    ensures session { OnOk result (CanBeSaved planner.now.session) }
+    ensures session { HasNoEvents planner.now.session
+        → OnOk result (CanBeSaved planner.now.session) }
 {
     let records = planner.records();
     let (done, undone) = (planner.done() as u16, planner.undone() as u16);
@@ -49,13 +50,15 @@ fn put_history<A: Allocator + Copy>(
 }
 
 /// The dump of a session, version 2: its base, how many edits are done and how many are undone,
-/// and the lines of the edits. [`open`](crate::open) makes the same session of it. The planner is
-/// as it was, also where memory runs out, which is the error.
+/// and the lines of the edits. [`open`](crate::open) makes the same session of it, unless one of
+/// the edits is an event. The planner is as it was, also where memory runs out, which is the error.
 #[tactic(auto, unfolding(crate::specs::Text::session_text))]
 pub fn save<A: Allocator + Copy>(planner: &mut Planner<A>) -> Result<Vec<u8, A>, AllocError>
     ensures text { IfOk result (λ bytes. bytes.items ≡ saved_text planner.old.session) }
-    ensures opens { IfOk result (λ bytes. opened bytes.items ≡ Ok planner.old.session) }
-    ensures session { OnOk result (CanBeSaved planner.old.session) }
+    ensures opens { HasNoEvents planner.old.session
+        → IfOk result (λ bytes. opened bytes.items ≡ Ok planner.old.session) }
+    ensures session { HasNoEvents planner.old.session
+        → OnOk result (CanBeSaved planner.old.session) }
     ensures kept { planner.new ≡ planner.old }
 {
     let mut out = planner.dump_base()?;

@@ -2,7 +2,7 @@
 
 ghost use Rattle.std.specs.Prelude.{◌≡◌, Ok, OnOk, IfOk};
 ghost use Rattle.saved_sessions.specs.Opening.{Opens, opened};
-ghost use Rattle.saved_sessions.specs.Saved.{CanBeSaved, saved_text};
+ghost use Rattle.saved_sessions.specs.Saved.{CanBeSaved, HasNoEvents, saved_text};
 
 use crate::opening::open;
 use crate::saving::save;
@@ -34,8 +34,10 @@ impl<A: Allocator + Copy> SavedSession<A> for Planner<A> {
 
     fn save(&mut self) -> Result<Vec<u8, A>, AllocError>
         ensures text { IfOk result (λ bytes. bytes.items ≡ saved_text self.old.session) }
-        ensures opens { IfOk result (λ bytes. opened bytes.items ≡ Ok self.old.session) }
-        ensures session { OnOk result (CanBeSaved self.old.session) }
+        ensures opens { HasNoEvents self.old.session
+            → IfOk result (λ bytes. opened bytes.items ≡ Ok self.old.session) }
+        ensures session { HasNoEvents self.old.session
+            → OnOk result (CanBeSaved self.old.session) }
         ensures kept { self.new ≡ self.old }
     {
         save(self)

@@ -104,3 +104,25 @@ one_or_two_of read_a read_b line = do
   a ← read_at read_a first.0
   b ← if_given read_b second
   Ok (a, b)
+
+-- two arguments, or three
+unfoldable pub two_or_three_of : {A B C : Type 0} → Read A → Read B → Read C → At → Result (A × B × Option C) FaultAt
+two_or_three_of read_a read_b read_c line = do
+  first ← argument line.0 line.1
+  second ← argument line.0 first.1
+  third ← optional_word second
+  a ← read_at read_a first.0
+  b ← read_at read_b second.0
+  c ← if_given read_c third
+  Ok (a, b, c)
+
+-- three arguments, or four
+unfoldable pub three_or_four_of : {A B C D : Type 0} → Read A → Read B → Read C → Read D → At → Result (A × B × C × Option D) FaultAt
+three_or_four_of read_a read_b read_c read_d line = do
+  word ← three_words line.0 line.1
+  fourth ← optional_word word.2
+  a ← read_at read_a word.0.0
+  b ← read_at read_b word.1.0
+  c ← read_at read_c word.2.0
+  d ← if_given read_d fourth
+  Ok (a, b, c, d)

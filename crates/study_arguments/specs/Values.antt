@@ -1,5 +1,5 @@
 -- What one word of a line means: a number, an address, a prefix, a link, a word of the language; or what is wrong with it.
-use Rattle.std.specs.Prelude.{ℕ, Option, Some, None, Result, Ok, ok_or}
+use Rattle.std.specs.Prelude.{ℕ, Option, Some, None, Result, Ok, Err, ok_or, bytes_eq, codes, if◌then◌else◌}
 use Rattle.std.specs.Option.{option_or}
 use Rattle.lsa_codec.specs.Prefix.{Net}
 use Rattle.lsa_codec.specs.declared.address.Addr.{Addr}
@@ -18,6 +18,8 @@ use Rattle.study_words.specs.AuditKinds.{audit_kind_of}
 use Rattle.study_words.specs.Comparisons.{comparison_of}
 use Rattle.study_words.specs.StudyWords.{study_word_of}
 use Rattle.study_arguments.specs.declared.addresses.Dotted.{Dotted}
+use Rattle.study_arguments.specs.declared.language.Ends.{Ends}
+use Rattle.study_arguments.specs.declared.language.Ends.TheVariants.{Both}
 use Rattle.study_arguments.specs.declared.fault.FaultKind.{FaultKind}
 use Rattle.study_arguments.specs.declared.fault.FaultKind.TheVariants.{Script, BadWord}
 use Rattle.study_arguments.specs.declared.link.LinkName.{LinkName}
@@ -92,3 +94,7 @@ comparison names word = ok_or (comparison_of word) BadWord
 
 abbrev pub study_word : Means StudyWord
 study_word names word = ok_or (study_word_of word) BadWord
+
+-- the word `both`
+abbrev pub ends : Means Ends
+ends names word = if bytes_eq word (codes "both") then Ok Both else Err BadWord

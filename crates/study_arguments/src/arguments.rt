@@ -3,7 +3,7 @@
 ghost use Rattle.std.specs.Prelude.{◌≡◌, option_map};
 ghost use Rattle.edit_script.specs.Words.{words};
 ghost use Rattle.network_names.specs.Names.{stands_for};
-ghost use Rattle.study_arguments.specs.Arguments.{argument, four_of, if_given, one_of, one_or_two_of, optional_of, optional_word, six_of, three_of, three_words, two_of};
+ghost use Rattle.study_arguments.specs.Arguments.{argument, four_of, if_given, one_of, one_or_two_of, optional_of, optional_word, six_of, three_of, three_or_four_of, three_words, two_of, two_or_three_of};
 ghost use Rattle.study_arguments.specs.Fault.{Gives, Is};
 ghost use Rattle.study_arguments.specs.Positions.{words_at};
 
@@ -224,4 +224,51 @@ pub fn one_or_two<'a, T: Argument, U: Argument, A: Allocator + Copy>(
     let first = value_of(names, first.word)?;
     let second = if_given(names, second)?;
     Ok((first, second))
+}
+
+/// The two arguments of a command, and a third one, which may be left out.
+///
+/// # Errors
+///
+/// S3 for the command word where there are fewer than two; S4 for a fourth word; the faults of the
+/// arguments.
+#[tactic(auto, unfolding(crate::specs::Arguments::two_or_three_of))]
+pub fn two_or_three<'a, T: Argument, U: Argument, V: Argument, A: Allocator + Copy>(
+    names: &Names<'_, A>,
+    line: Position<'a>,
+) -> Result<(T, U, Option<V>), Fault<'a>>
+    ensures { Is result (two_or_three_of (T.means (stands_for names.now))
+        (U.means (stands_for names.now)) (V.means (stands_for names.now)) (words_at line.entry)) }
+{
+    let first = argument(line.word, line.rest)?;
+    let second = argument(line.word, first.rest)?;
+    let third = optional_word(second)?;
+    let first = value_of(names, first.word)?;
+    let second = value_of(names, second.word)?;
+    let third = if_given(names, third)?;
+    Ok((first, second, third))
+}
+
+/// The three arguments of a command, and a fourth one, which may be left out.
+///
+/// # Errors
+///
+/// S3 for the command word where there are fewer than three; S4 for a fifth word; the faults of the
+/// arguments.
+#[tactic(auto, unfolding(crate::specs::Arguments::three_or_four_of))]
+pub fn three_or_four<'a, T: Argument, U: Argument, V: Argument, W: Argument, A: Allocator + Copy>(
+    names: &Names<'_, A>,
+    line: Position<'a>,
+) -> Result<(T, U, V, Option<W>), Fault<'a>>
+    ensures { Is result (three_or_four_of (T.means (stands_for names.now))
+        (U.means (stands_for names.now)) (V.means (stands_for names.now))
+        (W.means (stands_for names.now)) (words_at line.entry)) }
+{
+    let (first, second, third) = three_words(line.word, line.rest)?;
+    let fourth = optional_word(third)?;
+    let first = value_of(names, first.word)?;
+    let second = value_of(names, second.word)?;
+    let third = value_of(names, third.word)?;
+    let fourth = if_given(names, fourth)?;
+    Ok((first, second, third, fourth))
 }

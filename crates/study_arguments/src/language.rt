@@ -26,6 +26,27 @@ impl Argument for Comparison {
     }
 }
 
+/// Which ends of links an event is of, where it is not that of one router.
+#[derive(Clone, Copy, Debug, PartialEq, Eq)]
+pub enum Ends {
+    /// `both`.
+    Both,
+}
+
+impl Argument for Ends {
+    ghost use Rattle.study_arguments.specs.Values.{ends};
+
+    ghost means = { ends };
+
+    fn read<A: Allocator + Copy>(_names: &Names<'_, A>, word: &[u8]) -> Result<Self, FaultKind> {
+        if word == b"both".as_slice() {
+            Ok(Ends::Both)
+        } else {
+            Err(FaultKind::BadWord)
+        }
+    }
+}
+
 impl Argument for StudyWord {
     ghost use Rattle.study_arguments.specs.Values.{study_word};
 

@@ -24,8 +24,11 @@ mod lists;
 
 pub use addresses::Dotted;
 pub use argument::{Argument, next_as};
-pub use arguments::{four, one, one_or_two, optional, six, three, two};
+pub use arguments::{
+    four, one, one_or_two, optional, six, three, three_or_four, two, two_or_three,
+};
 pub use fault::{Fault, FaultKind, ParseError};
+pub use language::Ends;
 pub use link::LinkName;
 pub use lists::{neighbors, one_or_more};
 pub use position::{Position, end, first_word, next};

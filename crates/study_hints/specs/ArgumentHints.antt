@@ -124,6 +124,7 @@ argument_hint known role.MetricType word = range_hint role.MetricType
 argument_hint known role.Tag word = range_hint role.Tag
 argument_hint known role.Count word = range_hint role.Count
 argument_hint known role.Number word = range_hint role.Number
+argument_hint known role.Both word = codes "both"
 
 -- of words in their roles, from left to right, the hint for the first that does not fit
 unfoldable pub first_hint : Lookup → List Word → List Role → List Word → List ℕ

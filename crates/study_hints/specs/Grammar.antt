@@ -2,8 +2,9 @@
 use Rattle.std.specs.Prelude.{ℕ, List, [], ◌∷◌, codes}
 use Rattle.study_words.specs.declared.plan_word.PlanWord.TheVariants as plan
 use Rattle.study_words.specs.declared.see_word.SeeWord.TheVariants as see
+use Rattle.study_words.specs.declared.event_word.EventWord.TheVariants as event
 use Rattle.study_words.specs.declared.study_word.StudyWord.{StudyWord}
-use Rattle.study_words.specs.declared.study_word.StudyWord.TheVariants.{Plan, See, Expect}
+use Rattle.study_words.specs.declared.study_word.StudyWord.TheVariants.{Plan, See, Event, Expect}
 use Rattle.study_words.specs.declared.condition_word.ConditionWord.{ConditionWord}
 use Rattle.study_words.specs.declared.condition_word.ConditionWord.TheVariants as condition
 use Rattle.study_hints.specs.declared.role.Role.{Role}
@@ -43,6 +44,10 @@ command_text (See see.Microloops) = codes "microloops [COUNT]"
 command_text (See see.Audit) = codes "audit [KIND]"
 command_text (See see.Log) = codes "log"
 command_text (See see.Help) = codes "help [WORD]"
+command_text (Event event.Cut) = codes "cut ROUTER NEIGHBOR [ADDRESS]"
+command_text (Event event.SetCost) = codes "set-cost ROUTER NEIGHBOR METRIC [both]"
+command_text (Event event.Drain) = codes "drain ROUTER"
+command_text (Event event.Back) = codes "back COUNT"
 command_text Expect = codes "expect [not] CONDITION"
 
 -- the roles of these arguments, in their order; an expectation has no fixed number of words
@@ -79,6 +84,10 @@ roles_of (See see.Microloops) = role.Count ∷ []
 roles_of (See see.Audit) = role.Kind ∷ []
 roles_of (See see.Log) = []
 roles_of (See see.Help) = role.Word ∷ []
+roles_of (Event event.Cut) = role.Router ∷ role.Neighbor ∷ role.Address ∷ []
+roles_of (Event event.SetCost) = role.Router ∷ role.Neighbor ∷ role.Cost ∷ role.Both ∷ []
+roles_of (Event event.Drain) = role.Router ∷ []
+roles_of (Event event.Back) = role.Count ∷ []
 roles_of Expect = []
 
 -- a condition after `expect`, and its words

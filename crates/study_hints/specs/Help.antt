@@ -2,18 +2,20 @@
 use Rattle.std.specs.Prelude.{ℕ, List, [], ◌∷◌, ◌++◌, map, codes, Option, Some, None}
 use Rattle.study_words.specs.declared.plan_word.PlanWord.TheVariants as plan
 use Rattle.study_words.specs.declared.see_word.SeeWord.TheVariants as see
+use Rattle.study_words.specs.declared.event_word.EventWord.TheVariants as event
 use Rattle.study_words.specs.declared.study_word.StudyWord.{StudyWord}
-use Rattle.study_words.specs.declared.study_word.StudyWord.TheVariants.{Plan, See, Expect}
+use Rattle.study_words.specs.declared.study_word.StudyWord.TheVariants.{Plan, See, Event, Expect}
 use Rattle.study_words.specs.StudyWords.{study_text}
 use Rattle.text_words.specs.Words.{Word}
 use Rattle.study_words.specs.PlanWords.{plan_words}
 use Rattle.study_words.specs.SeeWords.{see_words}
+use Rattle.study_words.specs.EventWords.{event_words}
 use Rattle.study_words.specs.ConditionWords.{condition_words}
 use Rattle.study_hints.specs.Grammar.{command_text, expectation_text}
 
 -- all command words, in the order of `help`
 abbrev pub commands : List StudyWord
-commands = map Plan plan_words ++ map See see_words ++ Expect ∷ []
+commands = map Plan plan_words ++ map Event event_words ++ map See see_words ++ Expect ∷ []
 
 abbrev pub command_texts : List Word
 command_texts = map study_text commands
@@ -52,6 +54,10 @@ command_meaning (See see.Microloops) = codes "what may loop while routers change
 command_meaning (See see.Audit) = codes "what the answers may not be trusted for; with a kind each place"
 command_meaning (See see.Log) = codes "the edits that are done, as lines"
 command_meaning (See see.Help) = codes "the words, or what one means"
+command_meaning (Event event.Cut) = codes "the links of two routers go at both ends, with their stubs; one, by an address"
+command_meaning (Event event.SetCost) = codes "sets the cost of the interfaces to a neighbor, or of that with an address"
+command_meaning (Event event.Drain) = codes "the links of a router to routers and networks cost 65535"
+command_meaning (Event event.Back) = codes "takes the last edits and events back"
 command_meaning Expect = codes "answers ok where the condition holds, else failed and what was found"
 
 -- a line with its end
@@ -68,6 +74,7 @@ condition_lines = map expectation_text condition_words
 abbrev pub conditions_after : StudyWord → List (List ℕ)
 conditions_after (Plan word) = []
 conditions_after (See word) = []
+conditions_after (Event word) = []
 conditions_after Expect = condition_lines
 
 -- the line of each command, and after the last one, which is `expect`, a line for each condition; of one word its line, and for

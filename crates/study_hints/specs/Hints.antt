@@ -7,7 +7,7 @@ use Rattle.study_arguments.specs.declared.fault.FaultKind.TheVariants.{Script}
 use Rattle.study_arguments.specs.Fault.{FaultAt, code_of, name_of}
 use Rattle.study_arguments.specs.Values.{Lookup}
 use Rattle.study_words.specs.declared.study_word.StudyWord.{StudyWord}
-use Rattle.study_words.specs.declared.study_word.StudyWord.TheVariants.{Plan, See, Expect}
+use Rattle.study_words.specs.declared.study_word.StudyWord.TheVariants.{Plan, See, Event, Expect}
 use Rattle.study_words.specs.StudyWords.{study_word_of}
 use Rattle.study_hints.specs.ArgumentHints.{first_hint, or_near}
 use Rattle.study_hints.specs.ConditionHints.{expectation_hint}
@@ -31,6 +31,7 @@ abbrev pub command_hint : Lookup → List Word → Option StudyWord → List Wor
 command_hint names known None words kind word = or_near (near word command_texts) (codes "see help")
 command_hint names known (Some (Plan command)) words kind word = arguments_hint names known (Plan command) words kind
 command_hint names known (Some (See command)) words kind word = arguments_hint names known (See command) words kind
+command_hint names known (Some (Event command)) words kind word = arguments_hint names known (Event command) words kind
 command_hint names known (Some Expect) words kind word = expectation_hint known words kind word
 
 abbrev pub hint_at : Lookup → List Word → List Word → FaultKind → Word → List ℕ

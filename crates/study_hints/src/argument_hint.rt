@@ -228,6 +228,7 @@ fn push_argument_hint<A: Allocator + Copy>(
         Role::Prefix => push_prefix_hint(text, word),
         Role::Word => push_near(text, word, commands(), "see help"),
         Role::Kind => push_kind_hint(text, word),
+        Role::Both => text.extend_from_slice(b"both"),
         _ => push_range(text, role),
     }
 }

@@ -1,11 +1,11 @@
 //! What follows a command word, and the word of a condition.
 
 ghost use Rattle.std.specs.Prelude.{◌≡◌};
-ghost use Rattle.study_words.specs.declared.study_word.StudyWord.TheVariants.{Plan, See};
+ghost use Rattle.study_words.specs.declared.study_word.StudyWord.TheVariants.{Event, Plan, See};
 ghost use Rattle.study_hints.specs.Grammar.{command_text, expectation_text, roles_of};
 
 use crate::role::Role;
-use study_words::{ConditionWord, PlanWord, SeeWord, StudyWord};
+use study_words::{ConditionWord, EventWord, PlanWord, SeeWord, StudyWord};
 
 /// The same of a word that `ospf-plan` has, too.
 #[tactic(auto, unfolding(crate::specs::Grammar::command_text))]
@@ -57,6 +57,19 @@ fn see_command_text(word: SeeWord) -> &'static str
     }
 }
 
+/// The same of an event, and of taking events back.
+#[tactic(auto, unfolding(crate::specs::Grammar::command_text))]
+fn event_command_text(word: EventWord) -> &'static str
+    ensures { result.now ≡ command_text (Event word) }
+{
+    match word {
+        EventWord::Cut => "cut ROUTER NEIGHBOR [ADDRESS]",
+        EventWord::SetCost => "set-cost ROUTER NEIGHBOR METRIC [both]",
+        EventWord::Drain => "drain ROUTER",
+        EventWord::Back => "back COUNT",
+    }
+}
+
 /// A command word and its arguments; brackets stand around one that may be left out.
 #[tactic(auto, unfolding(crate::specs::Grammar::command_text))]
 pub fn command_text(word: StudyWord) -> &'static str
@@ -65,6 +78,7 @@ pub fn command_text(word: StudyWord) -> &'static str
     match word {
         StudyWord::Plan(word) => plan_command_text(word),
         StudyWord::See(word) => see_command_text(word),
+        StudyWord::Event(word) => event_command_text(word),
         StudyWord::Expect => "expect [not] CONDITION",
     }
 }
@@ -126,6 +140,19 @@ fn see_roles_of(word: SeeWord) -> &'static [Role]
     }
 }
 
+/// The same of an event, and of taking events back.
+#[tactic(auto, unfolding(crate::specs::Grammar::roles_of))]
+fn event_roles_of(word: EventWord) -> &'static [Role]
+    ensures { result.now ≡ roles_of (Event word) }
+{
+    match word {
+        EventWord::Cut => &[Role::Router, Role::Neighbor, Role::Address],
+        EventWord::SetCost => &[Role::Router, Role::Neighbor, Role::Cost, Role::Both],
+        EventWord::Drain => &[Role::Router],
+        EventWord::Back => &[Role::Count],
+    }
+}
+
 /// The roles of the arguments of a command, in their order. An expectation has no fixed number of
 /// words.
 #[tactic(auto, unfolding(crate::specs::Grammar::roles_of))]
@@ -135,6 +162,7 @@ pub(crate) fn roles_of(word: StudyWord) -> &'static [Role]
     match word {
         StudyWord::Plan(word) => plan_roles_of(word),
         StudyWord::See(word) => see_roles_of(word),
+        StudyWord::Event(word) => event_roles_of(word),
         StudyWord::Expect => &[],
     }
 }

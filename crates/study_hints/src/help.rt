@@ -1,13 +1,13 @@
 //! The lines of `help`.
 
 ghost use Rattle.std.specs.Prelude.{◌≡◌, ◌++◌, OnOk, flat_map, length, map};
-ghost use Rattle.study_words.specs.declared.study_word.StudyWord.TheVariants.{Plan, See};
+ghost use Rattle.study_words.specs.declared.study_word.StudyWord.TheVariants.{Event, Plan, See};
 ghost use Rattle.study_hints.specs.Help.{command_line, command_meaning, commands, condition_lines, conditions_after, help_lines, with_end};
 ghost use Rattle.study_hints.specs.Grammar.{expectation_text};
 
 use crate::grammar::{command_text, expectation_text};
 use std::alloc::{AllocError, Allocator};
-use study_words::{ConditionWord, PlanWord, SeeWord, StudyWord, Word};
+use study_words::{ConditionWord, EventWord, PlanWord, SeeWord, StudyWord, Word};
 
 /// All command words, in the order of `help`.
 pub fn commands() -> &'static [StudyWord]
@@ -31,6 +31,10 @@ pub fn commands() -> &'static [StudyWord]
         StudyWord::Plan(PlanWord::Tables),
         StudyWord::Plan(PlanWord::Compare),
         StudyWord::Plan(PlanWord::Info),
+        StudyWord::Event(EventWord::Cut),
+        StudyWord::Event(EventWord::SetCost),
+        StudyWord::Event(EventWord::Drain),
+        StudyWord::Event(EventWord::Back),
         StudyWord::See(SeeWord::Routers),
         StudyWord::See(SeeWord::Links),
         StudyWord::See(SeeWord::Networks),
@@ -100,6 +104,23 @@ fn see_command_meaning(word: SeeWord) -> &'static str
     }
 }
 
+/// What an event is, and taking events back.
+#[tactic(auto, unfolding(crate::specs::Help::command_meaning))]
+fn event_command_meaning(word: EventWord) -> &'static str
+    ensures { result.now ≡ command_meaning (Event word) }
+{
+    match word {
+        EventWord::Cut => {
+            "the links of two routers go at both ends, with their stubs; one, by an address"
+        }
+        EventWord::SetCost => {
+            "sets the cost of the interfaces to a neighbor, or of that with an address"
+        }
+        EventWord::Drain => "the links of a router to routers and networks cost 65535",
+        EventWord::Back => "takes the last edits and events back",
+    }
+}
+
 /// What a command does.
 #[tactic(auto, unfolding(crate::specs::Help::command_meaning))]
 pub fn command_meaning(word: StudyWord) -> &'static str
@@ -108,6 +129,7 @@ pub fn command_meaning(word: StudyWord) -> &'static str
     match word {
         StudyWord::Plan(word) => plan_command_meaning(word),
         StudyWord::See(word) => see_command_meaning(word),
+        StudyWord::Event(word) => event_command_meaning(word),
         StudyWord::Expect => "answers ok where the condition holds, else failed and what was found",
     }
 }
@@ -169,7 +191,7 @@ fn push_conditions_after<A: Allocator + Copy>(
         ≡ text.old.items ++ flat_map with_end (conditions_after word)) }
 {
     match word {
-        StudyWord::Plan(_) | StudyWord::See(_) => Ok(()),
+        StudyWord::Plan(_) | StudyWord::See(_) | StudyWord::Event(_) => Ok(()),
         StudyWord::Expect => push_conditions(text),
     }
 }
@@ -179,7 +201,7 @@ fn count_conditions_after(word: StudyWord) -> usize
     ensures { result ≡ length (conditions_after word) }
 {
     match word {
-        StudyWord::Plan(_) | StudyWord::See(_) => 0,
+        StudyWord::Plan(_) | StudyWord::See(_) | StudyWord::Event(_) => 0,
         StudyWord::Expect => ConditionWord::all().len(),
     }
 }

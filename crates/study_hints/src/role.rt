@@ -8,7 +8,7 @@ use edit_script::MetricType;
 use lsa_codec::{Addr, AreaId, Metric, Prefix, RouterId};
 use network_names::Names;
 use std::alloc::Allocator;
-use study_arguments::{Argument, Dotted, LinkName};
+use study_arguments::{Argument, Dotted, Ends, LinkName};
 use study_words::{AuditKind, StudyWord};
 
 /// What a word of a line is to be.
@@ -44,6 +44,8 @@ pub(crate) enum Role {
     Word,
     /// A kind of audit findings.
     Kind,
+    /// The word `both`.
+    Both,
 }
 
 impl Role {
@@ -64,6 +66,7 @@ impl Role {
             Role::Tag | Role::Count | Role::Number => u32::read(names, word).is_ok(),
             Role::Word => StudyWord::read(names, word).is_ok(),
             Role::Kind => AuditKind::read(names, word).is_ok(),
+            Role::Both => Ends::read(names, word).is_ok(),
         }
     }
 }

@@ -1,5 +1,6 @@
 pub mod Expected
 pub mod PlanLines
+pub mod EventLines
 pub mod Questions
 pub mod Conditions
 pub mod Line

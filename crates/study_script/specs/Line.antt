@@ -16,6 +16,7 @@ use Rattle.study_arguments.specs.Fault.{◌>>=◌, FaultAt, bad_branch, made, un
 use Rattle.study_arguments.specs.Positions.{At, next}
 use Rattle.study_arguments.specs.Values.{Lookup}
 use Rattle.study_script.specs.PlanLines.{plan_line_of}
+use Rattle.study_script.specs.EventLines.{event_line_of}
 use Rattle.study_script.specs.Questions.{question_of}
 use Rattle.study_script.specs.Expected.{Expected, expectation}
 use Rattle.study_script.specs.Conditions.{expectation_of}
@@ -37,6 +38,7 @@ asked (study.Expect e) = expect (expectation e).0 (expectation e).1
 abbrev pub asked_by : Lookup → At → StudyWord → Result Asked FaultAt
 asked_by names line (study_word.Plan w) = made named (plan_line_of names w line)
 asked_by names line (study_word.See w) = made see (question_of names w line)
+asked_by names line (study_word.Event w) = made named (event_line_of names w line)
 asked_by names line study_word.Expect = expectation_of names line >>= λ e. Ok (expect e.0 e.1)
 
 unfoldable pub asked_of : Lookup → At → Result Asked FaultAt

@@ -12,7 +12,7 @@ pub enum StudyCommand<A: Allocator = Global> {
     /// A command whose line `ospf-plan` takes, too, with the same meaning.
     Plan(Command),
     /// A command of `ospf-plan` whose line it does not take: names stand for addresses, or a link
-    /// is named.
+    /// is named. Or an event.
     Named(NamedCommand),
     /// A question that only studies have.
     See(Question),

@@ -7,6 +7,8 @@ ghost use Rattle.edit_script.specs.Line.{meaning as plan_meaning};
 ghost use Rattle.edit_script.specs.Reading.{command_of};
 ghost use Rattle.edit_script.specs.Words.{Word, words};
 ghost use Rattle.study_words.specs.SeeWords.{see_text};
+ghost use Rattle.study_words.specs.EventWords.{event_text};
+ghost use Rattle.study_words.specs.declared.event_word.EventWord.{EventWord as AnyEventWord};
 ghost use Rattle.study_words.specs.declared.see_word.SeeWord.{SeeWord as AnySeeWord};
 ghost use Rattle.study_arguments.specs.Values.{Lookup};
 ghost use Rattle.study_script.specs.declared.question.Question.{Question as AnyQuestion};
@@ -35,6 +37,8 @@ pub fn plan_lines_mean_the_same()
 pub fn new_words_are_unknown_to_plans()
     ensures question { (word : AnySeeWord) (arguments : List Word)
         → command_of (see_text word) arguments ≡ Err NotKnown }
+    ensures event { (word : AnyEventWord) (arguments : List Word)
+        → command_of (event_text word) arguments ≡ Err NotKnown }
     ensures expect { (arguments : List Word)
         → command_of (codes "expect") arguments ≡ Err NotKnown }
 {}

@@ -1,9 +1,9 @@
-//! The lines of a study: commands, questions and expectations, read from a line.
+//! The lines of a study: commands, events, questions and expectations, read from a line.
 //!
 //! Each line that `ospf-plan` takes means the same here. Beside these there are the same commands
-//! with names in place of addresses and with links that are named by an address or a prefix, the
-//! questions that only studies have, and expectations. [`parse`] reads a line, or returns its first
-//! fault with the word at fault.
+//! with names in place of addresses and with links that are named by an address or a prefix,
+//! events, the questions that only studies have, and expectations. [`parse`] reads a line, or
+//! returns its first fault with the word at fault.
 #![tactic(auto)]
 
 // What lines ask for.
@@ -13,6 +13,7 @@ mod named_command;
 mod question;
 
 // Reading lines.
+mod event_lines;
 mod line;
 mod plan_edits;
 mod plan_lines;

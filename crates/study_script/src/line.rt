@@ -8,6 +8,7 @@ ghost use Rattle.study_arguments.specs.Positions.{words_at};
 ghost use Rattle.study_script.specs.Line.{after_branch, asked, asked_of, branch_of, meaning, study_meaning};
 
 use crate::command::StudyCommand;
+use crate::event_lines::event_line;
 use crate::expectations::expectation;
 use crate::plan_lines::plan_line;
 use crate::questions::question;
@@ -35,6 +36,10 @@ fn command<'a, A: Allocator + Copy>(
         Some(StudyWord::See(word)) => {
             let question = question(names, word, line)?;
             Ok(StudyCommand::See(question))
+        }
+        Some(StudyWord::Event(word)) => {
+            let command = event_line(names, word, line)?;
+            Ok(StudyCommand::Named(command))
         }
         Some(StudyWord::Expect) => {
             let expectation = expectation(alloc, names, line)?;

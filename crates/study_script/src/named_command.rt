@@ -4,10 +4,10 @@ use edit_script::Command;
 use lsa_codec::{AreaId, RouterId};
 use study_arguments::LinkName;
 
-/// A command of `ospf-plan` whose line `ospf-plan` does not take.
+/// A command of `ospf-plan` whose line `ospf-plan` does not take, or an event.
 #[derive(Clone, Copy, Debug, PartialEq, Eq)]
 pub enum NamedCommand {
-    /// A command other than the next two, where names stand for addresses.
+    /// A command other than the next two, where names stand for addresses, or an event.
     Command(Command),
     /// `cost AREA ROUTER LINK METRIC`: a link of a router-LSA gets another metric.
     Cost {

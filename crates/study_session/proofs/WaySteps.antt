@@ -34,9 +34,11 @@ module _ (branch : ℕ) (all : Sessions) where
   edit_steps (edit.AddExternal router prefix kind metric forward tag) = refl
   edit_steps (edit.DropExternal router prefix) = refl
   edit_steps edit.Refresh = refl
+  edit_steps (edit.Event event) = refl
 
   plan_steps : (says : Bool) (c : Command) → way_stepped (plan_way says c) ≡ stepped branch c all
   unfolding plan_way way_stepped
+  plan_steps says (command.Edit (edit.Event event)) = refl
   plan_steps true (command.Edit e) = edit_steps e
   plan_steps true (command.Undo count) = refl
   plan_steps true (command.Redo count) = refl

@@ -17,8 +17,9 @@ edit_way (edit.Cost area router number metric) = Link area router (Number number
 edit_way (edit.DropLink area router number) = Link area router (Number number) link.Drop
 edit_way other = Differing other
 
--- a command of `ospf-plan`: edits may say what they changed
+-- a command of `ospf-plan`: edits may say what they changed, and events do
 unfoldable pub plan_way : Bool → Command → Way
+plan_way says (command.Edit (edit.Event event)) = Differing (edit.Event event)
 plan_way true (command.Edit edit) = edit_way edit
 plan_way says c = Plain c
 

@@ -10,6 +10,7 @@ ghost use Rattle.study_session.specs.Studies.{Study};
 ghost use Rattle.study_session.specs.Lines.{IsAnswerTo, after_line};
 
 use crate::format::Format;
+use edit_script::reads_what_is_said;
 use study_script::plan_lines_mean_the_same;
 
 /// A line that `ospf-plan` takes has the reply that it gives, unless edits say what they changed or
@@ -26,4 +27,5 @@ pub fn plan_lines_are_answered_alike()
         → (after_line s line).sessions ≡ stepped branch c s.sessions }
 {
     plan_lines_mean_the_same();
+    reads_what_is_said();
 }

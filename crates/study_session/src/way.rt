@@ -61,6 +61,7 @@ pub(crate) fn way_of(is_verbose: bool, command: &NamedCommand) -> Way
             link,
             LinkEdit::Drop,
         ),
+        NamedCommand::Command(Command::Edit(edit @ Edit::Event(_))) => Way::Differing(edit),
         NamedCommand::Command(Command::Edit(edit)) if is_verbose => edit_way(edit),
         NamedCommand::Command(command) => Way::Plain(command),
     }

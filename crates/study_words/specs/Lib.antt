@@ -2,6 +2,7 @@ pub mod Named
 pub mod Written
 pub mod PlanWords
 pub mod SeeWords
+pub mod EventWords
 pub mod StudyWords
 pub mod ConditionWords
 pub mod RouteKinds

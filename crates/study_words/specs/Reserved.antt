@@ -7,11 +7,11 @@ use Rattle.study_words.specs.RouteKinds.{route_kind_of}
 use Rattle.study_words.specs.AuditKinds.{audit_kind_of}
 use Rattle.study_words.specs.Comparisons.{comparison_of}
 
--- the other words that stand in expectations
+-- the other words that stand in events and expectations
 unfoldable pub is_particle : List ℕ → Bool
 is_particle word =
     bytes_eq word (codes "not") || bytes_eq word (codes "via") || bytes_eq word (codes "avoids") || bytes_eq word (codes "delivered")
-    || bytes_eq word (codes "none") || bytes_eq word (codes "only") || bytes_eq word (codes "clean")
+    || bytes_eq word (codes "none") || bytes_eq word (codes "only") || bytes_eq word (codes "clean") || bytes_eq word (codes "both")
 
 -- a word of the language
 unfoldable pub is_reserved : List ℕ → Bool

@@ -4,6 +4,8 @@ use Rattle.study_words.specs.declared.plan_word.PlanWord.{PlanWord}
 use Rattle.study_words.specs.declared.plan_word.PlanWord.TheVariants as plan_word
 use Rattle.study_words.specs.declared.see_word.SeeWord.{SeeWord}
 use Rattle.study_words.specs.declared.see_word.SeeWord.TheVariants as see_word
+use Rattle.study_words.specs.declared.event_word.EventWord.{EventWord}
+use Rattle.study_words.specs.declared.event_word.EventWord.TheVariants as event_word
 use Rattle.study_words.specs.declared.condition_word.ConditionWord.{ConditionWord}
 use Rattle.study_words.specs.declared.condition_word.ConditionWord.TheVariants as condition_word
 use Rattle.study_words.specs.declared.route_kind.RouteKind.{RouteKind}
@@ -17,6 +19,7 @@ use Rattle.study_words.specs.declared.comparison.Comparison.TheVariants as compa
 pub data Word : Type 0 where
   plan : PlanWord → Word
   see : SeeWord → Word
+  event : EventWord → Word
   condition : ConditionWord → Word
   route : RouteKind → Word
   audit : AuditKind → Word
@@ -55,6 +58,10 @@ written (see see_word.Microloops) = codes "microloops"
 written (see see_word.Audit) = codes "audit"
 written (see see_word.Log) = codes "log"
 written (see see_word.Help) = codes "help"
+written (event event_word.Cut) = codes "cut"
+written (event event_word.SetCost) = codes "set-cost"
+written (event event_word.Drain) = codes "drain"
+written (event event_word.Back) = codes "back"
 written (condition condition_word.Route) = codes "route"
 written (condition condition_word.NoRoute) = codes "no-route"
 written (condition condition_word.Hops) = codes "hops"

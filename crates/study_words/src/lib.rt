@@ -9,6 +9,7 @@
 mod word;
 
 // Command words.
+mod event_word;
 mod plan_word;
 mod see_word;
 mod study_word;
@@ -26,6 +27,7 @@ mod reserved;
 pub use audit_kind::AuditKind;
 pub use comparison::Comparison;
 pub use condition_word::ConditionWord;
+pub use event_word::EventWord;
 pub use laws::texts_are_found;
 pub use plan_word::PlanWord;
 pub use reserved::is_reserved;

@@ -10,7 +10,8 @@ use crate::route_kind::RouteKind;
 use crate::study_word::StudyWord;
 use crate::word::Word;
 
-/// Whether a word stands in expectations, beside the words of conditions, kinds and comparisons.
+/// Whether a word stands in events or expectations, beside the words of conditions, kinds and
+/// comparisons.
 #[tactic(auto, unfolding(crate::specs::Reserved::is_particle))]
 fn is_particle(word: &[u8]) -> bool
     ensures { result ≡ is_particle word.now }
@@ -22,11 +23,12 @@ fn is_particle(word: &[u8]) -> bool
         || word == b"none".as_slice()
         || word == b"only".as_slice()
         || word == b"clean".as_slice()
+        || word == b"both".as_slice()
 }
 
 /// Whether a word is one of the language of studies: a command word, the word of a condition, of a
 /// kind of routes or of audit findings, a comparison, or `not`, `via`, `avoids`, `delivered`,
-/// `none`, `only` or `clean`.
+/// `none`, `only`, `clean` or `both`.
 #[tactic(auto, unfolding(crate::specs::Reserved::is_reserved))]
 pub fn is_reserved(word: &[u8]) -> bool
     ensures { result ≡ is_reserved word.now }

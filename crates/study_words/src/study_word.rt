@@ -3,6 +3,7 @@
 ghost use Rattle.std.specs.Prelude.{◌≡◌};
 ghost use Rattle.study_words.specs.StudyWords.{study_text, study_word_of};
 
+use crate::event_word::EventWord;
 use crate::plan_word::PlanWord;
 use crate::see_word::SeeWord;
 use crate::word::Word;
@@ -14,6 +15,8 @@ pub enum StudyWord {
     Plan(PlanWord),
     /// A question that only studies have.
     See(SeeWord),
+    /// An event, or `back`.
+    Event(EventWord),
     /// `expect [not] CONDITION`: answers whether the condition holds, and what was found.
     Expect,
 }
@@ -26,6 +29,7 @@ impl StudyWord {
         match self {
             StudyWord::Plan(word) => word.text(),
             StudyWord::See(word) => word.text(),
+            StudyWord::Event(word) => word.text(),
             StudyWord::Expect => "expect",
         }
     }
@@ -40,6 +44,9 @@ impl StudyWord {
         }
         if let Some(see) = SeeWord::of(word) {
             return Some(StudyWord::See(see));
+        }
+        if let Some(event) = EventWord::of(word) {
+            return Some(StudyWord::Event(event));
         }
         if word == b"expect".as_slice() {
             Some(StudyWord::Expect)

@@ -20,7 +20,7 @@ const LINES: &[(&str, &str)] = &[
     ("@1 #", "script S2 UnknownWord # (see help)"),
     (
         "drian r1",
-        "script S2 UnknownWord drian (did you mean drop-link)",
+        "script S2 UnknownWord drian (did you mean drain)",
     ),
     (
         "Cost 1 2 3 4",
