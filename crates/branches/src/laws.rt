@@ -4,12 +4,14 @@ ghost use Rattle.std.specs.Prelude.{◌≡◌, ℕ, List, Ok, true};
 ghost use Rattle.lsdb.specs.Lists.{Lists};
 ghost use Rattle.edit_script.specs.declared.command.Command.{Command};
 ghost use Rattle.edit_history.specs.Session.{NoneRefused, Session};
+ghost use Rattle.edit_script.specs.Spelling.{IsInRange};
 ghost use Rattle.saved_sessions.specs.Opening.{opened};
+ghost use Rattle.saved_sessions.specs.Saved.{HasNoEvents};
 ghost use Rattle.branches.specs.Branches.{Sessions, all_begin, resumed, with_session};
 ghost use Rattle.branches.specs.Replies.{reply_to, after, is_refusal};
 
 use edit_history::no_edit_is_refused;
-use saved_sessions::opened_sessions_refuse_no_edit;
+use saved_sessions::{opened_sessions_have_no_events, opened_sessions_refuse_no_edit};
 
 /// A refused command leaves the session as it was: its database, and the edits done and undone.
 pub fn refused_commands_change_nothing()
@@ -30,4 +32,20 @@ pub fn branches_refuse_no_edit()
 {
     no_edit_is_refused();
     opened_sessions_refuse_no_edit();
+}
+
+/// No edit of a branch is an event, so that its session is saved as bytes that open again. This
+/// holds in each branch where branches begin at a database or an opened session, and it stays so
+/// in each with every command that a line of a script means.
+pub fn branches_have_no_events()
+    ensures begin { (base : Lists) (branch : ℕ) → HasNoEvents (all_begin base branch) }
+    ensures resumed { (bytes : List ℕ) (s : Session) (branch : ℕ) → opened bytes ≡ Ok s
+        → HasNoEvents (resumed s branch) }
+    ensures command { (s : Session) (c : Command) → IsInRange c → HasNoEvents s
+        → HasNoEvents (after s c) }
+    ensures step { (all : Sessions) (branch : ℕ) (c : Command) → IsInRange c
+        → ((other : ℕ) → HasNoEvents (all other))
+        → (other : ℕ) → HasNoEvents (with_session branch (after (all branch) c) all other) }
+{
+    opened_sessions_have_no_events();
 }

@@ -13,5 +13,5 @@ mod laws;
 mod reply;
 
 pub use branches::Branches;
-pub use laws::{branches_refuse_no_edit, refused_commands_change_nothing};
+pub use laws::{branches_have_no_events, branches_refuse_no_edit, refused_commands_change_nothing};
 pub use reply::{Answer, Refusal, Reply, reply_text, script_text, tables_head};

@@ -26,36 +26,25 @@ full = Err HistoryFull
 
 -- ---- one edit more
 
-accepted_is : (base : Lists) (done : List Edit) (e : Edit) (r : Result Lists EditFault) (t : Session) → accepted (doing base done) e r ≡ Ok t
-    → t ≡ doing base (done ++ e ∷ [])
-accepted_is base done e (Ok db) t h = let same : doing base (done ++ e ∷ []) ≡ t = cc in sym same
-accepted_is base done e (Err f) t h = absurd cc
+accepted_is : (s : Session) (e : Edit) (r : Result Lists EditFault) (t : Session) → accepted s e r ≡ Ok t → t ≡ doing s.base (s.done ++ e ∷ [])
+accepted_is s e (Ok db) t h = let same : doing s.base (s.done ++ e ∷ []) ≡ t = cc in sym same
+accepted_is s e (Err f) t h = absurd cc
 
--- an edit that is not refused is done after the others
-pub edited_is : (base : Lists) (done : List Edit) (e : Edit) (t : Session) → edited (doing base done) e ≡ Ok t → t ≡ doing base (done ++ e ∷ [])
+-- an edit that is not refused is done after the others, and none is undone
+pub one_done : (s t : Session) (e : Edit) → edited s e ≡ Ok t → t ≡ doing s.base (s.done ++ e ∷ [])
 unfolding edited
-edited_is base done e t h =
-    let s : Session = doing base done in
-    elim (cases_Bool (ltb (length done) most_edits)) [
-      | inl holds ↦ accepted_is base done e (effect (state s) e) t (sym (cond-true _ (accepted s e (effect (state s) e)) full holds) ∙ h)
+one_done s t e h =
+    elim (cases_Bool (ltb (length s.done) most_edits)) [
+      | inl holds ↦ accepted_is s e (effect (state s) e) t (sym (cond-true _ (accepted s e (effect (state s) e)) full holds) ∙ h)
       | inr fails ↦ absurd (let refused : full ≡ taken t = sym (cond-false _ (accepted s e (effect (state s) e)) full fails) ∙ h in cc)
     ]
 
-accepted_length : (s : Session) (e : Edit) (r : Result Lists EditFault) (t : Session) → accepted s e r ≡ Ok t → length t.done ≡ length s.done + 1
-accepted_length s e (Ok db) t h =
-    let same : session_of s.base (s.done ++ e ∷ []) [] ≡ t = cc in
-    let size : length t.done ≡ length s.done + 1 = ap (λ (x : Session). length x.done) (sym same) ∙ length-append s.done (e ∷ []) in
-    size
-accepted_length s e (Err f) t h = absurd cc
+pub edited_is : (base : Lists) (done : List Edit) (e : Edit) (t : Session) → edited (doing base done) e ≡ Ok t → t ≡ doing base (done ++ e ∷ [])
+edited_is base done e t h = one_done (doing base done) t e h
 
 -- the session has one done edit more
 pub one_more : (s t : Session) (e : Edit) → edited s e ≡ Ok t → length t.done ≡ length s.done + 1
-unfolding edited
-one_more s t e h =
-    elim (cases_Bool (ltb (length s.done) most_edits)) [
-      | inl holds ↦ accepted_length s e (effect (state s) e) t (sym (cond-true _ (accepted s e (effect (state s) e)) full holds) ∙ h)
-      | inr fails ↦ absurd (let refused : full ≡ taken t = sym (cond-false _ (accepted s e (effect (state s) e)) full fails) ∙ h in cc)
-    ]
+one_more s t e h = ap (λ (x : Session). length x.done) (one_done s t e h) ∙ length-append s.done (e ∷ [])
 
 -- an edit that has an effect is done, where there is room
 pub edited_again : (base : Lists) (done : List Edit) (e : Edit) (after : Lists) → length done < most_edits → effect (after_edits base done) e ≡ Ok after

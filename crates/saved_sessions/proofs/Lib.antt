@@ -13,3 +13,4 @@ pub mod SessionTaken
 pub mod RecordEdits
 pub mod CanSave
 pub mod OpenedEdits
+pub mod NoEventLemmas

@@ -26,12 +26,13 @@ pub record TakesLine (base : Lists) (done : List Edit) (at : At) (t : Session) (
   pub session : t ≡ doing base (done ++ edit ∷ [])
   pub parts : at.rest ≡ line_of edit ++ after.rest
 
-record Found (at : At) (x : Edit × At) (o : Option (Edit × ℕ)) : Type 0 where
+-- an edit that is read, and the position after its line
+pub record Found (at : At) (x : Edit × At) (o : Option (Edit × ℕ)) : Type 0 where
   pub byte_count : ℕ
   pub is : o ≡ Some (x.0, byte_count)
   pub after : x.1 ≡ advanced byte_count at
 
-found : (line : ℕ) (at : At) (o : Option (Edit × ℕ)) (x : Edit × At) → edit_found line at o ≡ Ok x → Found at x o
+pub found : (line : ℕ) (at : At) (o : Option (Edit × ℕ)) (x : Edit × At) → edit_found line at o ≡ Ok x → Found at x o
 found line at None x h = absurd cc
 found line at (Some e) x h =
     let same : (e.0, advanced e.1 at) ≡ x = ok_is (e.0, advanced e.1 at) x h in

@@ -9,7 +9,7 @@ ghost use Rattle.lsdb.specs.Text.{text};
 ghost use Rattle.edit_history.specs.Session.{NoneRefused, Session, start};
 ghost use Rattle.saved_sessions.specs.Lines.{line_of, longest_line, edit_line};
 ghost use Rattle.saved_sessions.specs.Opening.{opened};
-ghost use Rattle.saved_sessions.specs.Saved.{CanBeSaved, saved_text};
+ghost use Rattle.saved_sessions.specs.Saved.{CanBeSaved, HasNoEvents, saved_text};
 ghost use Rattle.saved_sessions.specs.Text.{session_text, IsHistory};
 
 use edit_history::no_edit_is_refused;
@@ -77,4 +77,14 @@ pub fn opened_sessions_refuse_no_edit()
     ensures { (bytes : List ℕ) (s : Session) → opened bytes ≡ Ok s → NoneRefused s }
 {
     no_edit_is_refused();
+    line_laws();
+}
+
+/// No edit of an opened session is an event: each is what a line of a script means.
+///
+/// The function does nothing: its contract is the law.
+pub fn opened_sessions_have_no_events()
+    ensures { (bytes : List ℕ) (s : Session) → opened bytes ≡ Ok s → HasNoEvents s }
+{
+    line_laws();
 }

@@ -21,7 +21,10 @@ mod read;
 mod saving;
 mod session;
 
-pub use laws::{line_laws, opened_sessions_refuse_no_edit, session_laws, sessions_open_again};
+pub use laws::{
+    line_laws, opened_sessions_have_no_events, opened_sessions_refuse_no_edit, session_laws,
+    sessions_open_again,
+};
 pub use line::{edit_line, put_line};
 pub use opening::{begins_session, open};
 pub use saving::save;

@@ -17,7 +17,7 @@ mod script;
 
 pub use fault::RunFault;
 pub use inputs::read_dump;
-pub use laws::{branches_are_apart, runs_refuse_no_edit};
+pub use laws::{branches_are_apart, runs_have_no_events, runs_refuse_no_edit};
 pub use running::run;
 pub use sample::SAMPLE;
 pub use script::Summary;

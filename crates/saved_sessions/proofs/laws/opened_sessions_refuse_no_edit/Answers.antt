@@ -1,10 +1,14 @@
+use Rattle.edit_history.specs.Session.{NoneRefused}
 use Rattle.saved_sessions.proofs.OpenedEdits.{opened_keeps}
 use Rattle.saved_sessions.proofs.laws.opened_sessions_refuse_no_edit.Goals as goal
 
 pub returns : goal.returns
-returns c = opened_keeps
+returns c =
+    let kept = c.no_edit_is_refused.ensures in
+    opened_keeps NoneRefused
     (record {
-      start = c.no_edit_is_refused.ensures.start;
-      edited = c.no_edit_is_refused.ensures.edited;
-      undone = c.no_edit_is_refused.ensures.undone;
+      start = kept.start;
+      edited = λ s t edit fits. kept.edited s t edit;
+      undone = kept.undone;
     })
+    c.line_laws.ensures.spelled
