@@ -13,7 +13,7 @@ use Rattle.event_links.specs.declared.fault.EventFault.{EventFault}
 use Rattle.event_links.specs.declared.selection.LinkEdit.{LinkEdit}
 use Rattle.event_links.specs.Events.{resolved}
 use Rattle.event_lsas.specs.declared.fault.ChangeFault.{ChangeFault}
-use Rattle.event_lsas.specs.declared.fault.ChangeFault.TheVariants.{Refused, NotMade, OutOfMemory as memory}
+use Rattle.event_lsas.specs.declared.fault.ChangeFault.TheVariants.{Refused, OutOfMemory as memory}
 use Rattle.event_lsas.specs.LinkEvents.{AreChanges, IsRefusal, carried, link_event, outcome_of}
 use Rattle.event_lsas.specs.Outcomes.{LsaChange, kept, becomes, Outcome, SlotChangeData, section_name as name_of_section}
 use Rattle.event_lsas.specs.SlotChanges.{slot_change, slot_of, section_changes, changes_from}
@@ -106,5 +106,4 @@ pub event_refused : (d : Slots) (event : Event) (happens : LinkEvent) (fault : C
 event_refused d event happens (Refused fault) is refused =
     event_refused_as d event (refusal_of fault)
     (event_ruled (lists_of d) event happens (Err fault) is (carried_err (lists_of d) (resolved (lists_of d) happens) fault refused))
-event_refused d event happens (NotMade fault) is refused = no_memory_for_event d event
 event_refused d event happens memory is refused = no_memory_for_event d event

@@ -108,13 +108,13 @@ fn refusal(fault: EventFault) -> EditFault
     }
 }
 
-/// Why an event is not carried out. An LSA that could not be rebuilt counts as want of memory.
+/// Why an event is not carried out.
 fn fault_of(fault: ChangeFault) -> EditFault
     ensures { result ≡ fault_by fault }
 {
     match fault {
         ChangeFault::Refused(fault) => refusal(fault),
-        ChangeFault::NotMade(_) | ChangeFault::OutOfMemory => EditFault::OutOfMemory,
+        ChangeFault::OutOfMemory => EditFault::OutOfMemory,
     }
 }
 

@@ -1,5 +1,5 @@
 -- What follows for an event from the links that it changes.
-use Rattle.std.proofs.Common.{◌≡◌, true, false, List, Result, Ok, Err, refl, sym, ap, ◌∙◌}
+use Rattle.std.proofs.Common.{◌≡◌, List, Result, Ok, Err, refl, sym, ap, ◌∙◌}
 use Rattle.lsdb.specs.Lists.{Lists}
 use Rattle.lsdb.specs.Slots.{Slots, lists_of}
 use Rattle.event_links.specs.declared.event.LinkEvent.{LinkEvent}
@@ -8,8 +8,8 @@ use Rattle.event_links.specs.declared.fault.EventFault.TheVariants as event
 use Rattle.event_links.specs.declared.selection.LinkEdit.{LinkEdit}
 use Rattle.event_links.specs.Events.{resolved, IsFault}
 use Rattle.event_lsas.specs.declared.fault.ChangeFault.{ChangeFault}
-use Rattle.event_lsas.specs.declared.fault.ChangeFault.TheVariants.{Refused, NotMade, OutOfMemory}
-use Rattle.event_lsas.specs.LinkEvents.{carried, outcome_of, link_event, fault_of_event, is_late, IsRefusal}
+use Rattle.event_lsas.specs.declared.fault.ChangeFault.TheVariants.{Refused, OutOfMemory}
+use Rattle.event_lsas.specs.LinkEvents.{carried, outcome_of, link_event, fault_of_event, IsRefusal}
 use Rattle.event_lsas.specs.Outcomes.{SlotChangeData, changed_slots}
 use Rattle.event_lsas.specs.SlotChanges.{changes_from}
 use Rattle.event_lsas.proofs.Walked.{changes_lead}
@@ -31,9 +31,3 @@ refused db happens (event.NoInterface router address) is = ap (carried db) is
 refused db happens (event.UnclearEnd router address) is = ap (carried db) is
 refused db happens event.ZeroCost is = ap (carried db) is
 refused db happens event.OutOfMemory is = tt
-
--- a late fault says nothing
-pub late_refusal : (db : Lists) (happens : LinkEvent) (fault : ChangeFault) → is_late fault ≡ true → IsRefusal fault (link_event db happens)
-late_refusal db happens (Refused fault) late = absurd (let e : true ≡ false = sym late in cc)
-late_refusal db happens (NotMade fault) late = tt
-late_refusal db happens OutOfMemory late = tt

@@ -1,3 +1,4 @@
 pub mod Outcomes
 pub mod SlotChanges
 pub mod LinkEvents
+pub mod steps

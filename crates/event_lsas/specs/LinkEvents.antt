@@ -1,5 +1,5 @@
 -- The database after each event of links and of the costs of interfaces, or the first refusal.
-use Rattle.std.specs.Prelude.{◌≡◌, Bool, true, false, List, Result, Ok, Err}
+use Rattle.std.specs.Prelude.{◌≡◌, List, Result, Ok, Err}
 use Rattle.lsdb.specs.Lists.{Lists}
 use Rattle.lsdb.specs.Slots.{Slots, lists_of}
 use Rattle.event_links.specs.declared.event.LinkEvent.{LinkEvent}
@@ -9,7 +9,7 @@ use Rattle.event_links.specs.declared.selection.LinkEdit.{LinkEdit}
 use Rattle.event_links.specs.Events.{resolved}
 use Rattle.event_links.specs.Selections.{chosen_in}
 use Rattle.event_lsas.specs.declared.fault.ChangeFault.{ChangeFault}
-use Rattle.event_lsas.specs.declared.fault.ChangeFault.TheVariants.{Refused, NotMade, OutOfMemory}
+use Rattle.event_lsas.specs.declared.fault.ChangeFault.TheVariants.{Refused, OutOfMemory}
 use Rattle.event_lsas.specs.Outcomes.{Outcome, in_areas, where_chosen, after, SlotChangeData}
 use Rattle.event_lsas.specs.SlotChanges.{changes_from}
 
@@ -42,14 +42,7 @@ fault_of_event (event.UnclearEnd router address) = Refused (event.UnclearEnd rou
 fault_of_event event.ZeroCost = Refused event.ZeroCost
 fault_of_event event.OutOfMemory = OutOfMemory
 
--- the event is refused with the first refusal; an LSA that cannot be made, and memory, say nothing of it
+-- the event is refused with the first refusal; want of memory says nothing of it
 abbrev pub IsRefusal : ChangeFault → Result Lists EventFault → Type 0
 IsRefusal (Refused fault) answer = answer ≡ Err fault
-IsRefusal (NotMade fault) answer = Unit {0}
 IsRefusal OutOfMemory answer = Unit {0}
-
--- a fault that says nothing of the event
-abbrev pub is_late : ChangeFault → Bool
-is_late (Refused fault) = false
-is_late (NotMade fault) = true
-is_late OutOfMemory = true

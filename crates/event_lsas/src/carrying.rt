@@ -7,14 +7,14 @@ ghost use Rattle.event_lsas.specs.Outcomes.{where_chosen, section_name, changed_
 ghost use Rattle.event_lsas.specs.LinkEvents.{outcome_of, link_event, AreChanges, IsRefusal};
 ghost use Rattle.event_lsas.specs.SlotChanges.{change_at, section_changes, changes_from};
 
-use crate::fault::{ChangeFault, of_event, of_remaking};
+use crate::fault::{ChangeFault, of_event};
 use crate::rebuilding::change_for;
 use crate::slot_change::SlotChange;
 use event_links::{ChosenLinks, LinkEdit, LinkEvent, chosen_in, resolve};
 use lsa_codec::AreaId;
-use lsa_remaking::{LinkChange, RemakeFault};
+use lsa_remaking::LinkChange;
 use lsdb::{Database, SlotId};
-use std::alloc::Allocator;
+use std::alloc::{AllocError, Allocator};
 
 /// Adds the change of a slot of an area, if its LSA changes.
 fn add_change<A: Allocator + Copy>(
@@ -24,7 +24,7 @@ fn add_change<A: Allocator + Copy>(
     change: LinkChange,
     chosen: &ChosenLinks<A>,
     changes: &mut Vec<SlotChange<A>, A>,
-) -> Result<(), RemakeFault>
+) -> Result<(), AllocError>
     ensures { OnOk result (changes.new.items ≡ changes.old.items
         ++ option_to_list (change_at (where_chosen change chosen.now) slot (Area area)
         (slot_at database.now slot))) }
@@ -35,9 +35,7 @@ fn add_change<A: Allocator + Copy>(
     let Some(new) = change_for(database.alloc(), slot, area, lsa, change, chosen)? else {
         return Ok(());
     };
-    if changes.push(new).is_err() {
-        return Err(RemakeFault::OutOfMemory);
-    }
+    changes.push(new)?;
     Ok(())
 }
 
@@ -49,7 +47,7 @@ fn add_area_changes<A: Allocator + Copy>(
     change: LinkChange,
     chosen: &ChosenLinks<A>,
     changes: &mut Vec<SlotChange<A>, A>,
-) -> Result<(), RemakeFault>
+) -> Result<(), AllocError>
     requires { IsSome (item_at database.now number) }
     ensures { OnOk result (changes.new.items ≡ changes.old.items
         ++ section_changes (where_chosen change chosen.now) number (Area area) 0
@@ -71,7 +69,7 @@ fn add_section_changes<A: Allocator + Copy>(
     number: usize,
     edit: LinkEdit,
     changes: &mut Vec<SlotChange<A>, A>,
-) -> Result<(), RemakeFault>
+) -> Result<(), AllocError>
     requires { IsSome (item_at database.now number) }
     ensures { OnOk result (let head = head_or_none (item_at database.now number) in
         changes.new.items ≡ changes.old.items
@@ -89,7 +87,7 @@ fn add_section_changes<A: Allocator + Copy>(
 fn changes_of<A: Allocator + Copy>(
     database: &Database<A>,
     edit: LinkEdit,
-) -> Result<Vec<SlotChange<A>, A>, RemakeFault>
+) -> Result<Vec<SlotChange<A>, A>, AllocError>
     ensures { IfOk result (λ v. v.items
         ≡ changes_from (outcome_of (lists_of database.now) edit) 0 database.now) }
 {
@@ -105,8 +103,7 @@ fn changes_of<A: Allocator + Copy>(
 ///
 /// # Errors
 ///
-/// `Refused` with the first refusal of the event; then `NotMade` where an LSA could not be rebuilt;
-/// `OutOfMemory` before or after.
+/// `Refused` with the first refusal of the event; `OutOfMemory` before or after.
 pub fn link_changes<A: Allocator + Copy>(
     database: &Database<A>,
     event: LinkEvent,
@@ -120,7 +117,7 @@ pub fn link_changes<A: Allocator + Copy>(
     match resolve(database, event) {
         Ok(edit) => match changes_of(database, edit) {
             Ok(changes) => Ok(changes),
-            Err(fault) => Err(of_remaking(fault)),
+            Err(_) => Err(ChangeFault::OutOfMemory),
         },
         Err(fault) => Err(of_event(fault)),
     }

@@ -1,11 +1,14 @@
 //! Router-LSAs whose chosen links change.
 
-ghost use Rattle.std.specs.Prelude.{◌≡◌, IfOk};
+ghost use Rattle.std.specs.Prelude.{◌≡◌, ◌<◌, ◌^◌, All, length, IfOk, IfErr};
+ghost use Rattle.lsa_codec.specs.Accepted.{IsAccepted};
 ghost use Rattle.lsa_codec.specs.Fields.{kind_of};
 ghost use Rattle.lsdb.specs.declared.section.Section.TheVariants.{Area};
 ghost use Rattle.lsa_codec.specs.LsTypes.{router_lsa};
+ghost use Rattle.lsa_remaking.specs.Relinking.{IsWithin};
 ghost use Rattle.event_lsas.specs.Outcomes.{can_replace, change_of_chosen, replaced, with_chosen, unless_empty, relinked_where, where_chosen};
 ghost use Rattle.event_lsas.specs.SlotChanges.{slot_change};
+ghost use Rattle.event_lsas.specs.steps.Keeping.{IsKeptFor};
 
 use crate::slot_change::SlotChange;
 use event_links::{ChosenLinks, is_among};
@@ -42,26 +45,31 @@ fn with_chosen<A: Allocator + Copy>(
         .collect(alloc)
 }
 
-/// A router-LSA whose chosen links change; `None` where no link is left, so that it is withdrawn.
-#[tactic(auto, using(crate::proofs::RouterLinks::long, crate::proofs::RouterLinks::within, crate::proofs::RouterLinks::few))]
+/// A router-LSA whose links change; `None` where no link is left, so that it is withdrawn.
+///
+/// # Errors
+///
+/// The fault for which the LSA is kept, or want of memory.
 fn rebuilt<A: Allocator + Copy>(
     alloc: A,
     lsa: &Lsa<A>,
-    change: LinkChange,
-    chosen: &[Link],
+    links: &[ChangedLink],
 ) -> Result<Option<Lsa<A>>, RemakeFault>
+    requires accepted { IsAccepted lsa.now }
     requires router { kind_of lsa.now ≡ router_lsa }
-    ensures made { IfOk result (λ new. new
-        ≡ unless_empty (with_chosen change chosen.now lsa.now) lsa.now) }
+    requires links { All (IsWithin lsa.now) links.now }
+    requires few { length links.now < 2 ^ 16 }
+    ensures made { IfOk result (λ new. new ≡ unless_empty links.now lsa.now) }
+    ensures kept { IfErr result (λ fault. IsKeptFor fault
+        (replaced lsa.now (unless_empty links.now lsa.now))) }
 {
-    let Some(view) = lsa.router() else {
-        return Ok(None);
-    };
-    let links = with_chosen(alloc, &view, change, chosen)?;
-    if count_left(&links) == 0 {
+    if count_left(links) == 0 {
         return Ok(None);
     }
-    Ok(Some(relink(alloc, lsa, &links)?))
+    match relink(alloc, lsa, links) {
+        Ok(new) => Ok(Some(new)),
+        Err(fault) => Err(fault),
+    }
 }
 
 /// Whether an LSA can take the place of another: it has its key, and is no longer.
@@ -93,6 +101,7 @@ fn change_to<A: Allocator + Copy>(
 }
 
 /// The change of the slot of a router-LSA whose chosen links change.
+#[tactic(auto, using(crate::proofs::RouterLinks::within, crate::proofs::RouterLinks::few))]
 fn change_where<A: Allocator + Copy>(
     alloc: A,
     slot: SlotId,
@@ -100,7 +109,7 @@ fn change_where<A: Allocator + Copy>(
     lsa: &Lsa<A>,
     change: LinkChange,
     chosen: &[Link],
-) -> Result<Option<SlotChange<A>>, RemakeFault>
+) -> Result<Option<SlotChange<A>>, AllocError>
     requires router { kind_of lsa.now ≡ router_lsa }
     ensures made { IfOk result (λ new. new
         ≡ slot_change slot (Area area) lsa.now (relinked_where change chosen.now lsa.now)) }
@@ -108,8 +117,15 @@ fn change_where<A: Allocator + Copy>(
     if chosen.is_empty() {
         return Ok(None);
     }
-    let new = rebuilt(alloc, lsa, change, chosen)?;
-    Ok(change_to(slot, area, lsa, new))
+    let Some(view) = lsa.router() else {
+        return Ok(None);
+    };
+    let links = with_chosen(alloc, &view, change, chosen)?;
+    match rebuilt(alloc, lsa, &links) {
+        Ok(new) => Ok(change_to(slot, area, lsa, new)),
+        Err(RemakeFault::OutOfMemory) => Err(AllocError),
+        Err(_) => Ok(None),
+    }
 }
 
 /// The change of the slot of an LSA of an area, where it is a router-LSA with chosen links.
@@ -120,7 +136,7 @@ pub(crate) fn change_for<A: Allocator + Copy>(
     lsa: &Lsa<A>,
     change: LinkChange,
     chosen: &ChosenLinks<A>,
-) -> Result<Option<SlotChange<A>>, RemakeFault>
+) -> Result<Option<SlotChange<A>>, AllocError>
     ensures made { IfOk result (λ new. new
         ≡ slot_change slot (Area area) lsa.now (where_chosen change chosen.now lsa.now)) }
 {

@@ -12,5 +12,4 @@ swap_by c = record { slot = c.slot; section = c.section; kind = c.kind; other = 
 
 abbrev pub fault_by : ChangeFault → EditFault
 fault_by (change.Refused fault) = refusal_of fault
-fault_by (change.NotMade fault) = OutOfMemory
 fault_by change.OutOfMemory = OutOfMemory
