@@ -89,9 +89,9 @@ async function open(browser, url, width = 1280, height = 800) {
     if (!at) throw new Error(`no ${selector}`);
     await clickAt(...at);
   };
-  const clickAt = async (x, y) => {
+  const clickAt = async (x, y, button = 'left') => {
     await send('Input.dispatchMouseEvent', { type: 'mouseMoved', x, y });
-    for (const type of ['mousePressed', 'mouseReleased']) await send('Input.dispatchMouseEvent', { type, x, y, button: 'left', clickCount: 1 });
+    for (const type of ['mousePressed', 'mouseReleased']) await send('Input.dispatchMouseEvent', { type, x, y, button, clickCount: 1 });
   };
   // `modifiers` are 1 for Alt, 2 for Control and 8 for Shift, added.
   const key = async (name, code = 0, modifiers = 0) => {

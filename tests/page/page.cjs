@@ -356,6 +356,73 @@ async function foresee(_browser, tab) {
   await tab.evaluate('select(null)');
 }
 
+const menuOf = (tab) => tab.evaluate('[...document.querySelectorAll("#menu:popover-open [role=menuitem]")].map((item) => item.firstChild.textContent)');
+const offeredIn = (tab) => tab.evaluate('[...document.querySelectorAll("#card .actions button")].map((item) => item.firstChild.textContent)');
+const focused = (tab) => tab.evaluate('document.activeElement.id || document.activeElement.firstChild?.textContent');
+
+// The second button of a mouse opens a menu at a router, with what its card offers; it is closed without a line, or adds one.
+async function openMenus(_browser, tab) {
+  await setText(tab, ['']);
+  await tab.evaluate('select(null)');
+  await tab.clickAt(...await tab.evaluate('picture.placeOf("4.4.4.4")'), 'right');
+  check('a menu at a router', JSON.stringify(await menuOf(tab)) === '["Fail","Drain","Path from here","Path to here","Routes"]', JSON.stringify(await menuOf(tab)));
+  check('it offers what the card offers', JSON.stringify(await menuOf(tab)) === JSON.stringify(await offeredIn(tab)), JSON.stringify(await offeredIn(tab)));
+  check('it is of that router', (await tab.evaluate('document.getElementById("menu").getAttribute("aria-label")')) === 'r4' && (await textOf(tab, '#card h2')) === 'r4');
+  await tab.until('/\\d/.test(document.querySelector("#menu [data-key=f] .forecast").textContent)');
+  const said = await textOf(tab, '#menu [data-key=f] .forecast');
+  check('what the menu foresees', said === wordsOf(answers(['fail-router r4', 'changes'])[1].counts), said);
+  await tab.picture(path.join(folder, 'menu.png'));
+  await tab.clickAt(...await tab.evaluate('(({ left, bottom }) => [left + 30, bottom - 60])(document.getElementById("map").getBoundingClientRect())'));
+  check('a click beside it closes it', (await menuOf(tab)).length === 0 && (await valueOf(tab, 'text')) === '');
+  const key = await tab.evaluate('[...state.graph.edges.values()].find((edge) => edge.a === "1.1.1.1" && edge.b === "2.2.2.2").key');
+  await tab.clickAt(...await middleOf(tab, key), 'right');
+  check('a menu at a link', JSON.stringify(await menuOf(tab)) === '["Cut","Set cost r1 to r2","Set cost r2 to r1"]', JSON.stringify(await menuOf(tab)));
+  await tab.key('Escape', 27);
+  await tab.clickAt(...await tab.evaluate('picture.placeOf("net 0.0.0.1 10.1.0.5")'), 'right');
+  check('a menu at a LAN', JSON.stringify(await menuOf(tab)) === '["Fail the LAN"]', JSON.stringify(await menuOf(tab)));
+  await tab.click('#menu [data-key=f]');
+  await tab.settle();
+  check('a line of the menu', (await valueOf(tab, 'text')) === 'fail-net 0.0.0.1 10.1.0.5\n' && (await menuOf(tab)).length === 0, await valueOf(tab, 'text'));
+  await tab.clickAt(...await tab.evaluate('picture.placeOf("net 0.0.0.1 10.1.0.5")'), 'right');
+  check('what failed is taken back there', JSON.stringify(await menuOf(tab)) === '["Remove line 1"]', JSON.stringify(await menuOf(tab)));
+  await tab.key('Enter', 13);
+  await tab.settle();
+  check('its line goes', (await valueOf(tab, 'text')) === '', await valueOf(tab, 'text'));
+}
+
+// The same without a mouse: from the picture and from a row of the elements.
+async function openMenusByKeys(_browser, tab) {
+  await setText(tab, ['']);
+  await tab.evaluate('document.getElementById("picture").focus(), select("5.5.5.5")');
+  await tab.key('F10', 121, 8);
+  check('Shift and F10 open the menu', (await menuOf(tab)).length === 5 && (await focused(tab)) === 'Fail', await focused(tab));
+  const { left, top, x, y } = await tab.evaluate('(() => { const { left, top } = document.getElementById("menu").getBoundingClientRect(), [x, y] = picture.placeOf("5.5.5.5"); return { left, top, x, y }; })()');
+  check('at the router', Math.abs(left - x) < 12 && Math.abs(top - y) < 200, JSON.stringify([left, top, x, y]));
+  await tab.key('ArrowDown', 40);
+  await tab.key('ArrowDown', 40);
+  check('arrows go from action to action', (await focused(tab)) === 'Path from here', await focused(tab));
+  await tab.key('End', 35);
+  await tab.key('ArrowDown', 40);
+  check('and around', (await focused(tab)) === 'Fail', await focused(tab));
+  await tab.key('Escape', 27);
+  check('Escape closes it, and the picture has the keys', (await menuOf(tab)).length === 0 && (await focused(tab)) === 'picture' && (await textOf(tab, '#card h2')) === 'r5', await focused(tab));
+  await tab.key('ContextMenu', 93);
+  check('the Menu key opens it', (await menuOf(tab)).length === 5);
+  await tab.key('f');
+  await tab.settle();
+  check('a letter does its action', (await valueOf(tab, 'text')) === 'fail-router r5\n', await valueOf(tab, 'text'));
+  await tab.click('#tab-Elements');
+  await tab.evaluate('document.querySelector("#pane [data-element=\'2.2.2.2\']").focus()');
+  await tab.key('ContextMenu', 93);
+  check('a menu at a row', (await tab.evaluate('document.getElementById("menu").getAttribute("aria-label")')) === 'r2' && (await menuOf(tab)).length === 5);
+  await tab.key('Escape', 27);
+  check('the row has the keys again', (await tab.evaluate('document.activeElement.dataset.element')) === '2.2.2.2');
+  await setText(tab, ['']);
+  await tab.evaluate('select(null), document.getElementById("picture").focus()');
+  await tab.key('ContextMenu', 93);
+  check('no menu of nothing', (await menuOf(tab)).length === 0);
+}
+
 async function print(_browser, tab) {
   await setText(tab, ['cost 0.0.0.0 r1 r2 40', 'expect lost none', 'fail-link 0.0.0.0 r1 r2', 'fail-router r4', 'expect lost none']);
   await tab.evaluate('makeReport().then(() => 0)');
@@ -464,7 +531,7 @@ async function beQuiet(_browser, tab) {
 
 // What is done, in this order: in a page in which the files are open, and with others beside it.
 const PARTS = [
-  cutByMouse, useKeys, editStudy, showPaths, sweepAll, foresee, endEarly, typeAbove, complete, findAndDo, saveAll, print, dropFiles, openCaptures, openSession, refuse,
+  cutByMouse, useKeys, editStudy, showPaths, sweepAll, foresee, openMenus, openMenusByKeys, endEarly, typeAbove, complete, findAndDo, saveAll, print, dropFiles, openCaptures, openSession, refuse,
   readOut, beQuiet, beForbidden, moveThousand, listThousands,
 ];
 

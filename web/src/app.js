@@ -43,12 +43,12 @@ const state = {
   dump: null, dumpName: '', names: new Uint8Array(), shown: null, chosen: null, selected: null, tab: 'Changes', kind: null, group: 'router',
   filter: '', folded: new Set(), path: null, table: null, answers: null, graph: null, audit: null, sweep: null, sweepKind: 'all',
   found: null, asked: 0, done: 0, savedVerdict: null, networks: [], network: null, baseline: null, picksBaseline: false, isStrict: false,
-  stopped: 0, grammar: null, differences: null, audited: 'findings', sort: { column: null, isDown: false }, places: null,
+  stopped: 0, grammar: null, differences: null, foreseen: null, menuFrom: null, audited: 'findings', sort: { column: null, isDown: false }, places: null,
 };
 const calculator = new Calculator(parts);
 let timer = null;
 
-const picture = new Picture($('picture'), { select: (id) => select(id) });
+const picture = new Picture($('picture'), { select: (id) => select(id), menu: (id, x, y) => openMenu(id, x, y) });
 const editor = new Editor({ text: $('text'), gutter: $('gutter'), drawn: $('drawn') }, {
   change: (nearest) => {
     if (state.chosen) state.chosen.number = nearest(state.chosen.number);
@@ -445,6 +445,10 @@ function onKey(event) {
     return;
   }
   if (isTyped && event.key !== 'F8') return;
+  if (isMenuKey(event) || (event.key === 'Enter' && event.target === $('picture'))) {
+    if (openMenuByKey(event.target)) event.preventDefault();
+    return;
+  }
   const offered = state.selected ? [...$('card').querySelectorAll('[data-key]')] : [];
   const own = [event.key, event.key.toLowerCase()].map((key) => offered.find((one) => one.dataset.key === key)).find(Boolean);
   const tab = Object.keys(tabs())[Number(event.key) - 1];
@@ -538,6 +542,7 @@ function listen() {
   listenToLines();
   listenToFiles();
   listenToPicture();
+  listenToMenu();
   document.addEventListener('keydown', onKey);
   $('earlier').onclick = () => step(-1);
   $('later').onclick = () => step(1);

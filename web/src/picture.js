@@ -94,6 +94,13 @@ class Picture {
     this.draw();
   }
 
+  // The place of a node, or of the middle of an edge, in the window; null where it is not drawn.
+  placeOf(id) {
+    const edge = this.edges.get(id), at = this.places.get(id), { left, top } = this.canvas.getBoundingClientRect();
+    const place = edge ? this.endsOf(edge) && this.middle(edge) : at && this.onScreen(at);
+    return place ? [left + place[0], top + place[1]] : null;
+  }
+
   onScreen([x, y]) {
     return [this.view.x + this.view.scale * x, this.view.y + this.view.scale * y];
   }
@@ -111,6 +118,10 @@ class Picture {
     this.listenToPointer();
     const { canvas } = this;
     canvas.addEventListener('pointerleave', () => this.hover(null));
+    canvas.addEventListener('contextmenu', (event) => {
+      const id = this.at(event.offsetX, event.offsetY);
+      if (id && this.on.menu?.(id, event.clientX, event.clientY)) event.preventDefault();
+    });
     canvas.addEventListener('keydown', (event) => {
       const by = { ArrowLeft: [60, 0], ArrowRight: [-60, 0], ArrowUp: [0, 60], ArrowDown: [0, -60] }[event.key];
       if (!by) return;
@@ -127,6 +138,7 @@ class Picture {
     const { canvas } = this;
     let drag = null;
     canvas.addEventListener('pointerdown', (event) => {
+      if (event.button) return;
       drag = { x: event.offsetX, y: event.offsetY, moved: false };
       canvas.setPointerCapture(event.pointerId);
     });
