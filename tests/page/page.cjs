@@ -299,6 +299,34 @@ async function sweepAll(_browser, tab) {
   await tab.picture(path.join(folder, 'sweep.png'));
 }
 
+// A sweep within an area fails what is there, and a sweep of all areas shows what is in a chosen one.
+async function sweepWithin(_browser, tab) {
+  await setText(tab, ['']);
+  await tab.click('#tab-Sweep');
+  const choose = (area) => tab.evaluate(`{ const within = document.getElementById('within'); within.value = '${area}'; within.dispatchEvent(new Event('change')); }`);
+  const swept = async () => {
+    await tab.click('#sweep');
+    await tab.until('state.sweep?.isDone');
+    return (await rowsOf(tab)).map(([line]) => line).sort().join(', ');
+  };
+  await tab.click('[data-sweep="routers"]');
+  check('areas to choose from', (await tab.evaluate('[...document.getElementById("within").options].map((option) => option.textContent).join(", ")')) === 'all areas, backbone 0.0.0.0, area 0.0.0.1');
+  await choose('0.0.0.0');
+  const backbone = await swept(), rows = await rowsOf(tab), failed = answers(['fail-router r1', 'changes'])[1].counts;
+  check('routers of the backbone', backbone === 'fail-router r1, fail-router r2, fail-router r3', backbone);
+  check('what one of them does', rows.some(([line, , lost, gone, dearer]) => line === 'fail-router r1' && [lost, gone, dearer].join() === [failed.lost, failed.gone, failed.dearer].join()), JSON.stringify(rows));
+  await choose('');
+  const all = await swept();
+  check('routers of all areas', all === 'fail-router r1, fail-router r2, fail-router r3, fail-router r4, fail-router r5', all);
+  await choose('0.0.0.1');
+  const shown = (await rowsOf(tab)).map(([line]) => line).sort().join(', ');
+  check('of them those of an area', shown === 'fail-router r2, fail-router r3, fail-router r4, fail-router r5' && (await tab.evaluate('picture.heat.size')) === 4, shown);
+  await tab.picture(path.join(folder, 'within.png'));
+  await choose('');
+  await tab.click('[data-sweep="all"]');
+  await setText(tab, ['']);
+}
+
 // A saved page in which somebody put another dump says that its outcome is another one.
 async function changeSaved(browser, html) {
   const other = path.join(folder, 'other.oswp'), changed = path.join(folder, 'changed.html');
@@ -531,7 +559,7 @@ async function beQuiet(_browser, tab) {
 
 // What is done, in this order: in a page in which the files are open, and with others beside it.
 const PARTS = [
-  cutByMouse, useKeys, editStudy, showPaths, sweepAll, foresee, openMenus, openMenusByKeys, endEarly, typeAbove, complete, findAndDo, saveAll, print, dropFiles, openCaptures, openSession, refuse,
+  cutByMouse, useKeys, editStudy, showPaths, sweepAll, sweepWithin, foresee, openMenus, openMenusByKeys, endEarly, typeAbove, complete, findAndDo, saveAll, print, dropFiles, openCaptures, openSession, refuse,
   readOut, beQuiet, beForbidden, moveThousand, listThousands,
 ];
 

@@ -7,10 +7,10 @@ const path = require('node:path');
 const vm = require('node:vm');
 
 const source = path.join(__dirname, '..', '..', 'web', 'src'), read = (name) => fs.readFileSync(path.join(source, name), 'utf8');
-const scripts = ['model.js', 'grammar.js', 'editor.js', 'files.js', 'card.js', 'sweep.js'].map(read).join('\n');
+const scripts = ['model.js', 'grammar.js', 'editor.js', 'files.js', 'card.js', 'sweep.js', 'tabs.js', 'picture.js'].map(read).join('\n');
 const page = 'const text = (array) => new TextDecoder().decode(array), state = {}, nameOf = (router) => router;';
-const names = ['Grammar', 'lineMoves', 'kindOf', 'topology', 'edgeOneWay', 'edgeFailed', 'sweepLines', 'cutLine', 'state'];
-const { Grammar, lineMoves, kindOf, topology, edgeOneWay, edgeFailed, sweepLines, cutLine, state } = vm.runInThisContext(`'use strict'; (() => { ${page} ${scripts}; return { ${names} }; })()`);
+const names = ['Grammar', 'lineMoves', 'kindOf', 'topology', 'edgeOneWay', 'edgeFailed', 'sweepLines', 'areasNow', 'sweptRows', 'cutLine', 'state'];
+const { Grammar, lineMoves, kindOf, topology, edgeOneWay, edgeFailed, sweepLines, areasNow, sweptRows, cutLine, state } = vm.runInThisContext(`'use strict'; (() => { ${page} ${scripts}; return { ${names} }; })()`);
 let passed = 0, failed = 0;
 
 function check(name, got, wanted) {
@@ -89,6 +89,23 @@ function checkFailures() {
   check('one of them', cuts, ['cut 1.1.1.1 2.2.2.2 10.0.0.1', 'cut 1.1.1.1 2.2.2.2 10.0.1.1']);
 }
 
+// What fails within an area: its links, its LANs, and its routers, of which border routers are in several.
+function checkAreas() {
+  const [first, second] = ['0.0.0.0', '0.0.0.7'], between = (one, other, area, net) => [{ ...end(one, other, `${net}.1`, `${net}.2`), area }, { ...end(other, one, `${net}.2`, `${net}.1`), area }];
+  const routers = [['1.1.1.1', [first]], ['2.2.2.2', [first, second]], ['3.3.3.3', [second]]].map(([id, areas]) => ({ ...router(id), areas }));
+  const links = [...between('1.1.1.1', '2.2.2.2', first, '10.0.0'), ...between('2.2.2.2', '3.3.3.3', second, '10.7.0')];
+  const networks = [{ area: second, prefix: '10.8.0.0/24', address: '10.8.0.3', members: ['2.2.2.2', '3.3.3.3'] }];
+  state.graph = topology({ routers: { routers }, links: { links }, networks: { networks } }, {});
+  const within = (kind, area) => sweepLines(kind, area).map(([line]) => line).join(', ');
+  check('links within an area', [within('links', first), within('links', second), within('links', '0.0.0.9')], ['cut 1.1.1.1 2.2.2.2', 'cut 2.2.2.2 3.3.3.3', '']);
+  check('all within an area', [within('all', first), within('all', second)], ['cut 1.1.1.1 2.2.2.2, fail-router 1.1.1.1, fail-router 2.2.2.2', 'cut 2.2.2.2 3.3.3.3, fail-net 0.0.0.7 10.8.0.3, fail-router 2.2.2.2, fail-router 3.3.3.3']);
+  check('the areas', areasNow(), [first, second]);
+  state.sweepArea = second;
+  const rows = [{ key: '1.1.1.1', lost: 9, gone: 0, dearer: 0 }, { key: '3.3.3.3', lost: 1, gone: 0, dearer: 0 }, { key: '2.2.2.2', lost: 4, gone: 0, dearer: 0 }];
+  check('rows of an area, the worst first', sweptRows({ rows }).map(({ key }) => key), ['2.2.2.2', '3.3.3.3']);
+  state.sweepArea = null;
+}
+
 // The colors of texts on what they stand on, in both themes: 4.5 to 1, as WCAG 2.1 has it for texts.
 const STANDS = {
   'bg panel raised sunk map': 'text dim faint lost dearer moved better', 'panel raised': 'accent ok bad refused verb expect name number', map: 'cost down now dearer',
@@ -116,6 +133,7 @@ checkLines();
 checkKinds();
 checkLinks();
 checkFailures();
+checkAreas();
 checkContrast();
 console.log(`the parts: ${passed} passed, ${failed} failed`);
 process.exit(failed || !passed ? 1 : 0);

@@ -41,7 +41,7 @@ function switched(label, options, chosen, choose, key) {
 
 const state = {
   dump: null, dumpName: '', names: new Uint8Array(), shown: null, chosen: null, selected: null, tab: 'Changes', kind: null, group: 'router',
-  filter: '', folded: new Set(), path: null, table: null, answers: null, graph: null, audit: null, sweep: null, sweepKind: 'all',
+  filter: '', folded: new Set(), path: null, table: null, answers: null, graph: null, audit: null, sweep: null, sweepKind: 'all', sweepArea: null,
   found: null, asked: 0, done: 0, savedVerdict: null, networks: [], network: null, baseline: null, picksBaseline: false, isStrict: false,
   stopped: 0, grammar: null, differences: null, foreseen: null, menuFrom: null, audited: 'findings', sort: { column: null, isDown: false }, places: null,
 };

@@ -61,9 +61,9 @@ function routerSection() {
 
 function sweepSection() {
   if (!state.sweep?.isDone) return [];
-  const rows = [...state.sweep.rows].sort((a, b) => b.lost - a.lost || b.gone - a.gone || b.dearer - a.dearer), losing = rows.filter(({ lost }) => lost).length;
+  const rows = sweptRows(state.sweep), losing = rows.filter(({ lost }) => lost).length;
   return [
-    element('h2', {}, `One more failure: ${losing} of ${rows.length} lose routes`),
+    element('h2', {}, `One more failure${state.sweepArea ? ` within area ${state.sweepArea}` : ''}: ${losing} of ${rows.length} lose routes`),
     table(['Failure', 'Lost', 'Gone', 'Dearer', 'Moved', 'Loops'], rows.slice(0, MOST_FAILURES).map((one) => row([one.line, ...['lost', 'gone', 'dearer', 'moved', 'loops'].map((kind) => String(one[kind]))]))),
   ];
 }

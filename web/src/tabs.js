@@ -22,7 +22,7 @@ function showTab(name) {
 
 function badges() {
   const { changes, loops } = state.answers.now, { sweep, audit, found: findings } = state;
-  const losing = sweep?.rows.filter(({ lost }) => lost).length;
+  const losing = sweep && sweptRows(sweep).filter(({ lost }) => lost).length;
   const wrong = audit?.findings.filter((finding) => finding.class === 'wrong').length;
   return {
     Changes: [changes?.changes.length], Loops: [loops && loops.loops.length + loops.blackholes.length, 'bad'],
