@@ -70,6 +70,25 @@ async function openFiles(tab) {
   check('its names', JSON.stringify(await tab.evaluate('[...state.graph.nodes.values()].map((node) => node.label)')) === JSON.stringify(['r1', 'r2', 'r3', 'r4', 'r5', '10.1.0.0/24']));
 }
 
+// The networks that come with the page: their small pictures are drawn, and the study of each has the outcome of ospf-study.
+async function trySamples(browser) {
+  const tab = await open(browser, `file://${page}`), root = path.join(__dirname, '..', '..');
+  await tab.settle();
+  const networks = [['examples', 'two-areas', 'hosts', 'maintenance'], ...['campus', 'region', 'carrier'].map((name) => ['web/samples', name, `${name}.hosts`, name])];
+  await tab.until('document.querySelectorAll("#samples canvas").length === 4 && [...document.querySelectorAll("#samples canvas")].every((one) => one.getContext("2d").getImageData(0, 0, one.width, one.height).data.some((byte) => byte))');
+  check('four networks to try', (await tab.evaluate('[...document.querySelectorAll("#samples b")].map((one) => one.textContent).join()')) === 'Two areas,Campus,Region,Carrier');
+  await tab.picture(path.join(folder, 'samples.png'));
+  for (const [k, [room, name, names, lines]] of networks.entries()) {
+    const given = ['--dump', path.join(root, room, `${name}.oswp`), '--names', path.join(root, room, names), '--format', 'json', path.join(root, room, `${lines}.study`)];
+    const { summary } = JSON.parse(spawnSync(program, given, { encoding: 'utf8' }).stdout.trim().split('\n').at(-1));
+    await tab.evaluate(`document.querySelectorAll('#samples button')[${k}].click()`);
+    await tab.settle(120);
+    const wanted = `Study holds: ${summary.expectations} of ${summary.expectations} expectations hold`;
+    check(`the study of ${name}`, summary.result === 'ok' && summary.expectations > 4 && (await tab.evaluate('outcomeText()')) === wanted, await tab.evaluate('outcomeText()'));
+    await tab.picture(path.join(folder, `sample-${name}.png`));
+  }
+}
+
 async function cutByMouse(_browser, tab) {
   const key = await tab.evaluate('[...state.graph.edges.values()].find((edge) => edge.a === "1.1.1.1" && edge.b === "2.2.2.2").key');
   await tab.clickAt(...await middleOf(tab, key));
@@ -560,7 +579,7 @@ async function beQuiet(_browser, tab) {
 // What is done, in this order: in a page in which the files are open, and with others beside it.
 const PARTS = [
   cutByMouse, useKeys, editStudy, showPaths, sweepAll, sweepWithin, foresee, openMenus, openMenusByKeys, endEarly, typeAbove, complete, findAndDo, saveAll, print, dropFiles, openCaptures, openSession, refuse,
-  readOut, beQuiet, beForbidden, moveThousand, listThousands,
+  readOut, beQuiet, beForbidden, trySamples, moveThousand, listThousands,
 ];
 
 async function main() {

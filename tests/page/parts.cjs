@@ -9,8 +9,8 @@ const vm = require('node:vm');
 const source = path.join(__dirname, '..', '..', 'web', 'src'), read = (name) => fs.readFileSync(path.join(source, name), 'utf8');
 const scripts = ['model.js', 'grammar.js', 'editor.js', 'files.js', 'card.js', 'sweep.js', 'tabs.js', 'picture.js'].map(read).join('\n');
 const page = 'const text = (array) => new TextDecoder().decode(array), state = {}, nameOf = (router) => router;';
-const names = ['Grammar', 'lineMoves', 'kindOf', 'topology', 'edgeOneWay', 'edgeFailed', 'sweepLines', 'areasNow', 'sweptRows', 'cutLine', 'state'];
-const { Grammar, lineMoves, kindOf, topology, edgeOneWay, edgeFailed, sweepLines, areasNow, sweptRows, cutLine, state } = vm.runInThisContext(`'use strict'; (() => { ${page} ${scripts}; return { ${names} }; })()`);
+const names = ['Grammar', 'lineMoves', 'kindOf', 'topology', 'edgeOneWay', 'edgeFailed', 'sweepLines', 'areasNow', 'sweptRows', 'cutLine', 'shownByDefault', 'state'];
+const { Grammar, lineMoves, kindOf, topology, edgeOneWay, edgeFailed, sweepLines, areasNow, sweptRows, cutLine, shownByDefault, state } = vm.runInThisContext(`'use strict'; (() => { ${page} ${scripts}; return { ${names} }; })()`);
 let passed = 0, failed = 0;
 
 function check(name, got, wanted) {
@@ -48,6 +48,13 @@ function checkLines() {
   check('a line that is written again', moves(['a', 'b', 'c'], ['a', 'x', 'c']), [[1, 1], [null, 2], [3, 3]]);
   check('a line in two', moves(['a', 'bc'], ['a', 'b', 'c']), [[1, 1], [null, 2]]);
   check('no line of before', moves(['a'], ['x', 'y']), [[null, 1]]);
+}
+
+// The line after which a network is shown at first: the last that is not blank, or the last of these before edits are undone.
+function checkShown() {
+  const shown = (...lines) => shownByDefault(lines);
+  check('the shown line', [shown(''), shown('cost 0.0.0.0 r1 1 1', 'expect lost none', ''), shown('# plan', 'refresh', '# why', '', 'undo 1', 'expect same')], [0, 2, 3]);
+  check('edits after what is undone', shown('refresh', 'undo 1', 'refresh', 'expect same'), 4);
 }
 
 function checkKinds() {
@@ -130,6 +137,7 @@ function checkContrast() {
 
 checkGrammar(JSON.parse(fs.readFileSync(process.argv[2], 'utf8').split('\n')[0]).words);
 checkLines();
+checkShown();
 checkKinds();
 checkLinks();
 checkFailures();

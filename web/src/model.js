@@ -69,8 +69,7 @@ function readAnswers(replies, all) {
 function shownByDefault(lines) {
   const undone = lines.findLastIndex((line) => /^\s*(@0\s+)?(undo|back)\s/.test(line));
   const edited = lines.findLastIndex((line) => EDITS.has(line.trim().split(/\s+/)[0]));
-  if (undone > edited && edited >= 0) return undone;
-  let last = lines.length;
+  let last = undone > edited && edited >= 0 ? undone : lines.length;
   while (last > 0 && !lines[last - 1].trim()) last--;
   return last;
 }

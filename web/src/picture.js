@@ -266,7 +266,7 @@ class Picture {
   }
 
   radius(usual) {
-    return usual < 17 ? 3.5 : Math.max(6, RADIUS * Math.min(1.15, this.view.scale));
+    return usual < 17 ? (this.width < 200 ? 2 : 3.5) : Math.max(6, RADIUS * Math.min(1.15, this.view.scale));
   }
 
   // The rectangles of nodes with their rings.
