@@ -485,6 +485,20 @@ async function print(_browser, tab) {
   check('the picture is printed', await tab.evaluate('document.querySelector("#report canvas").getContext("2d").getImageData(0, 0, 2000, 1000).data.some((byte) => byte)'));
 }
 
+// The report has the paths that lines name, as loaded and at their lines: of examples/README.md, by hand.
+async function printPaths(_browser, tab) {
+  await setText(tab, ['path r4 10.0.12.1', 'cost 0.0.0.0 r1 r3 20', 'expect route r1 10.1.5.0/24 cost <= 31', 'expect path r1 10.1.5.1 delivered', 'fail-router r3', 'expect path r1 10.1.5.1 avoids r3', 'path r9 10.1.5.1', '# path r1 10.0.0.1']);
+  await tab.evaluate('makeReport().then(() => 0)');
+  const rows = await tab.evaluate('[...[...document.querySelectorAll("#report h2")].find((one) => one.textContent === "Paths that the study names").nextSibling.tBodies[0].rows].map((one) => [...one.cells].map((cell) => cell.textContent).join(" | "))');
+  const wanted = [
+    'r4, 10.0.12.1 | r4 → r2 (20) | r4 → r2 (20) | 1', 'r1, 10.1.5.1 | r1 → r3 → r5 (21) | r1 → r2 → r4 → r5 or r1 → r3 → r5 (31) | 3, 4', 'r1, 10.1.5.1 | r1 → r3 → r5 (21) | r1 → r2 → r4 → r5 (31) | 6',
+  ];
+  check('named paths', JSON.stringify(rows) === JSON.stringify(wanted), JSON.stringify(rows));
+  await setText(tab, ['expect lost none']);
+  await tab.evaluate('makeReport().then(() => 0)');
+  check('no paths where no line names one', !(await tab.evaluate('document.getElementById("report").textContent')).includes('Paths that'));
+}
+
 async function refuse(_browser, tab) {
   const bad = path.join(folder, 'bad.oswp');
   fs.writeFileSync(bad, fs.readFileSync(dump).subarray(0, 100));
@@ -578,7 +592,7 @@ async function beQuiet(_browser, tab) {
 
 // What is done, in this order: in a page in which the files are open, and with others beside it.
 const PARTS = [
-  cutByMouse, useKeys, editStudy, showPaths, sweepAll, sweepWithin, foresee, openMenus, openMenusByKeys, endEarly, typeAbove, complete, findAndDo, saveAll, print, dropFiles, openCaptures, openSession, refuse,
+  cutByMouse, useKeys, editStudy, showPaths, sweepAll, sweepWithin, foresee, openMenus, openMenusByKeys, endEarly, typeAbove, complete, findAndDo, saveAll, print, printPaths, dropFiles, openCaptures, openSession, refuse,
   readOut, beQuiet, beForbidden, trySamples, moveThousand, listThousands,
 ];
 

@@ -7,10 +7,10 @@ const path = require('node:path');
 const vm = require('node:vm');
 
 const source = path.join(__dirname, '..', '..', 'web', 'src'), read = (name) => fs.readFileSync(path.join(source, name), 'utf8');
-const scripts = ['model.js', 'grammar.js', 'editor.js', 'files.js', 'card.js', 'sweep.js', 'tabs.js', 'picture.js'].map(read).join('\n');
+const scripts = ['model.js', 'grammar.js', 'editor.js', 'files.js', 'card.js', 'sweep.js', 'tabs.js', 'picture.js', 'completion.js'].map(read).join('\n');
 const page = 'const text = (array) => new TextDecoder().decode(array), state = {}, nameOf = (router) => router;';
-const names = ['Grammar', 'lineMoves', 'kindOf', 'topology', 'edgeOneWay', 'edgeFailed', 'sweepLines', 'areasNow', 'sweptRows', 'cutLine', 'shownByDefault', 'state'];
-const { Grammar, lineMoves, kindOf, topology, edgeOneWay, edgeFailed, sweepLines, areasNow, sweptRows, cutLine, shownByDefault, state } = vm.runInThisContext(`'use strict'; (() => { ${page} ${scripts}; return { ${names} }; })()`);
+const names = ['Grammar', 'lineMoves', 'kindOf', 'topology', 'edgeOneWay', 'edgeFailed', 'sweepLines', 'areasNow', 'sweptRows', 'cutLine', 'shownByDefault', 'pathNamed', 'pathText', 'state'];
+const { Grammar, lineMoves, kindOf, topology, edgeOneWay, edgeFailed, sweepLines, areasNow, sweptRows, cutLine, shownByDefault, pathNamed, pathText, state } = vm.runInThisContext(`'use strict'; (() => { ${page} ${scripts}; return { ${names} }; })()`);
 let passed = 0, failed = 0;
 
 function check(name, got, wanted) {
@@ -113,6 +113,23 @@ function checkAreas() {
   state.sweepArea = null;
 }
 
+// Paths that lines name, by docs/STUDY.md, and how the one of its example is written.
+function checkPaths() {
+  const named = (line) => Object.values(pathNamed(line) ?? {}).join(' ');
+  check('paths that are named', ['path r1 10.1.5.1', '  @2 path r1 10.1.5.1 # why', 'expect path r1 10.1.5.1 avoids r2', 'expect not path r1 10.1.5.1 delivered'].map(named), Array(4).fill('r1 10.1.5.1'));
+  check('of a route', ['expect route r1 10.1.5.0/24 via r2', 'expect not no-route r1 10.1.5.0/24', 'expect hops r1 10.1.5.7/32 >= 2'].map(named), ['r1 10.1.5.1', 'r1 10.1.5.1', 'r1 10.1.5.7']);
+  check('none', ['', '# path r1 10.1.5.1', 'routes r1 10.1.5.1', 'expect lost none', 'expect path r1', 'fail-router path'].map(named), Array(6).fill(''));
+  const route = (cost) => ({ prefix: '0.0.0.0/0', kind: 'intra', cost }), step = (router, to, cost) => ({ router, to, route: route(cost) });
+  const several = { router: 'r4', ends: ['external'], steps: [step('r4', 'r2', 20), step('r4', 'r3', 20), step('r2', 'r1', 10), step('r3', 'r1', 10), { router: 'r1', end: 'external', route: route(0) }] };
+  const written = (path) => pathText(path, (router) => router.toUpperCase());
+  check('several ways', written(several), 'R4 → R2 → R1 or R4 → R3 → R1, external (20)');
+  check('delivered', written({ router: 'r1', ends: ['delivered'], steps: [step('r1', 'r2', 7), { router: 'r2', end: 'delivered', route: route(3) }] }), 'R1 → R2 (7)');
+  check('no match', written({ router: 'r1', ends: ['blackhole'], steps: [{ router: 'r1', end: 'blackhole' }] }), 'R1, blackhole');
+  const fan = ['r2', 'r3', 'r4', 'r5'].flatMap((way) => [step('r1', way, 9), step(way, 'r6', 4)]);
+  check('more ways than are listed', written({ router: 'r1', ends: ['delivered'], steps: fan }), 'R1 → R2 → R6 or R1 → R3 → R6 or R1 → R4 → R6 or other ways (9)');
+  check('two ends', written({ router: 'r1', ends: ['delivered', 'loop'], steps: [step('r1', 'r2', 7), step('r2', 'r1', 7)] }), 'R1 → R2 → R1, delivered, loop (7)');
+}
+
 // The colors of texts on what they stand on, in both themes: 4.5 to 1, as WCAG 2.1 has it for texts.
 const STANDS = {
   'bg panel raised sunk map': 'text dim faint lost dearer moved better', 'panel raised': 'accent ok bad refused verb expect name number', map: 'cost down now dearer',
@@ -142,6 +159,7 @@ checkKinds();
 checkLinks();
 checkFailures();
 checkAreas();
+checkPaths();
 checkContrast();
 console.log(`the parts: ${passed} passed, ${failed} failed`);
 process.exit(failed || !passed ? 1 : 0);

@@ -157,3 +157,34 @@ const wayText = (way, name) => way.kind === 'via' ? `via ${name(way.router)}` : 
 const costText = (route) => !route ? 'none' : route.kind === 'own' ? `own ${route.metric}` : route.kind === 'ext2'
   ? `${route.metric} + ${route.cost}` : String(route.cost);
 const waysText = (route, name) => !route ? 'none' : route.kind === 'own' ? 'its own' : route.ways.map((way) => wayText(way, name)).join(', ');
+
+// The router and the address whose path a line of a study is about; of a line about a route, the first address of its prefix.
+function pathNamed(line) {
+  const words = line.replace(/#.*/, '').replace(/^\s*@[0-7]\s/, '').trim().split(/\s+/), isExpected = words[0] === 'expect';
+  const [word, router, where] = words.slice(!isExpected ? 0 : words[1] === 'not' ? 2 : 1);
+  if (!where) return null;
+  if (word === 'path') return { router, address: where };
+  return isExpected && ['route', 'no-route', 'hops'].includes(word) ? { router, address: hostIn(where) } : null;
+}
+
+// The ways of a path, each as its routers, in the order of its steps; a way ends where it comes to a router again. At most `most`.
+function waysOf({ router: from, steps }, most) {
+  const next = new Map(), found = [];
+  for (const { router, to } of steps ?? []) if (to) next.set(router, new Set([...(next.get(router) ?? []), to]));
+  const walk = (way) => {
+    const last = way.at(-1), more = way.indexOf(last) < way.length - 1 ? [] : [...(next.get(last) ?? [])];
+    if (!more.length) found.push(way);
+    for (const to of more) if (found.length < most) walk([...way, to]);
+  };
+  walk([from]);
+  return found;
+}
+
+const MOST_WAYS = 3;
+
+// A path in a line: its ways, where they end if it is not delivered, and its cost.
+function pathText(path, name) {
+  const ways = waysOf(path, MOST_WAYS + 1).map((way) => way.map(name).join(' → ')), shown = ways.slice(0, MOST_WAYS);
+  const ends = path.ends.filter((end) => end !== 'delivered' || path.ends.length > 1), cost = path.steps?.[0]?.route ? ` (${costText(path.steps[0].route)})` : '';
+  return `${[[...shown, ...(ways.length > MOST_WAYS ? ['other ways'] : [])].join(' or '), ...ends].join(', ')}${cost}`;
+}

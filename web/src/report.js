@@ -1,9 +1,10 @@
 // What is printed, for an approver: outcome, a picture after each change, lines with their answers, what is lost, what one more
-// failure would do, what the answers rest on, and signatures.
+// failure would do, the paths that lines name, what the answers rest on, and signatures.
 
 const MOST_PRINTED = 40;
 const MOST_STEPS = 6;
 const MOST_FAILURES = 8;
+const MOST_PATHS = 20;
 
 // The lines after which the report has a picture: the last of each row of edits, and the shown line in any case.
 function stepLines() {
@@ -27,6 +28,38 @@ async function stepsAfter(numbers) {
     if (number) answered.get(number)[word] = document;
   }
   return numbers.map((number) => ({ number, line: study[number - 1], now: answered.get(number) }));
+}
+
+// The paths that lines name, by their lines: as loaded, and after the line, which is where the study asks for them.
+async function namedPaths() {
+  const isAnswered = (number) => state.answers.study.has(number) && !state.answers.study.get(number).code, all = [];
+  const named = editor.lines().map((line, k) => ({ line, number: k + 1, ...pathNamed(line) })).filter(({ address, number }) => address && isAnswered(number)).slice(0, MOST_PATHS);
+  const ask = ({ router, address }) => `path ${router} ${address}`;
+  named.forEach((one) => all.push({ line: ask(one), number: one.number, when: 'before' }));
+  editor.lines().slice(0, named.at(-1)?.number ?? 0).forEach((line, k) => {
+    const one = named.find(({ number }) => number === k + 1);
+    all.push({ line }, ...(one ? [{ line: `@${branchOf(line)} ${ask(one)}`, number: k + 1, when: 'now' }] : []));
+  });
+  const found = new Map(named.map(({ number }) => [number, {}]));
+  for (const document of documentsOf(await calculator.study(asked(all.map(({ line }) => line).join('\n'))))) {
+    const { number, when } = all[document.line - 1] ?? {};
+    if (number && document.ends) found.get(number)[when] = document;
+  }
+  return named.map((one) => ({ ...one, ...found.get(one.number) }));
+}
+
+// The named paths; a path that several lines name is in one row where it is the same at all of them.
+function pathSection(paths) {
+  const said = (path) => path ? pathText(path, nameOf) : 'none', rows = new Map();
+  for (const { router, address, before, now, number } of paths) {
+    const cells = [`${nameOf(idOf(router))}, ${address}`, said(before), said(now)], key = cells.join();
+    rows.set(key, { cells, numbers: [...(rows.get(key)?.numbers ?? []), number] });
+  }
+  const changed = ([, before, now]) => before === now ? '' : 'changed';
+  return rows.size ? [
+    element('h2', {}, 'Paths that the study names'),
+    table(['From, to', 'As loaded', 'At the line', 'Line'], [...rows.values()].map(({ cells, numbers }) => row([...cells, numbers.join(', ')], null, { class: changed(cells) }))),
+  ] : [];
 }
 
 async function digestOf(content) {
@@ -92,6 +125,7 @@ function stepFigure({ number, line, now }) {
 async function makeReport() {
   const steps = state.isLarge || $('picture').hidden ? [] : await stepsAfter(stepLines());
   if (!state.audit) await askFor('audit', 'audit', []);
+  const paths = await namedPaths();
   const sums = { dump: await digestOf(state.dump), study: await digestOf(bytes(editor.text.value)) };
   const { changes, loops } = state.answers.now;
   $('report').replaceChildren(
@@ -101,7 +135,7 @@ async function makeReport() {
       changes ? countsText(changes.counts) || `every table is as in ${baselineName()}` : 'nothing is edited', loops ? `; loops ${loops.loops.length}, blackholes ${loops.blackholes.length}` : ''),
     element('div', { class: 'steps' }, steps.map(stepFigure)), steps.length ? '' : element('canvas', { id: 'printed' }),
     element('h2', {}, 'The study, and what each line answers'), element('ol', {}, editor.text.value.trimEnd().split('\n').map((line, k) => reportLine(line, k + 1))),
-    ...changeSection(), ...routerSection(), ...sweepSection(), ...basisSection(sums),
+    ...changeSection(), ...routerSection(), ...sweepSection(), ...pathSection(paths), ...basisSection(sums),
     element('div', { class: 'sign' }, element('div', {}, 'Planned by, date'), element('div', {}, 'Approved by, date')),
   );
   for (const step of steps) {
