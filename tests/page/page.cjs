@@ -128,13 +128,13 @@ async function editStudy(_browser, tab) {
   const lines = ['fail-link 0.0.0.0 r1 r2', 'expect lost none', 'nonsense', 'cost 0.0.0.9 r1 1 1', 'expect gone none'];
   await setText(tab, lines);
   const wanted = answers(lines);
-  check('a failed expectation is shown', (await textOf(tab, '#faults .failed')).includes(wanted[1].found.replace(/\b(\d)\.\1\.\1\.\1\b(?!\/)/g, 'r$1')), await textOf(tab, '#faults .failed'));
-  check('a fault is shown', (await textOf(tab, '#faults .fault')).includes(`S2 UnknownWord nonsense (${wanted[2].hint})`));
-  check('a refusal is shown', (await textOf(tab, '#faults .refused')).includes('E1 NoArea 0.0.0.9'));
-  await tab.evaluate('[...document.querySelectorAll("#faults button")].find((one) => one.textContent === "Expect what was found").click()');
+  check('a failed expectation is shown', (await textOf(tab, '#drawn .failed .answer')).includes(wanted[1].found.replace(/\b(\d)\.\1\.\1\.\1\b(?!\/)/g, 'r$1')), await textOf(tab, '#drawn .failed .answer'));
+  check('a fault is shown', (await textOf(tab, '#drawn .fault .answer')).includes(`S2 UnknownWord nonsense (${wanted[2].hint})`));
+  check('a refusal is shown', (await textOf(tab, '#drawn .refused .answer')).includes('E1 NoArea 0.0.0.9'));
+  await tab.evaluate('[...document.querySelectorAll("#drawn button")].find((one) => one.textContent === "Expect what was found").click()');
   await tab.settle();
   check('what was found is expected', (await valueOf(tab, 'text')).split('\n')[1] === `expect lost <= ${/\d+/.exec(wanted[1].found)[0]}`, await valueOf(tab, 'text'));
-  await tab.evaluate('[...document.querySelectorAll("#faults button")].find((one) => one.textContent.startsWith("Write 0.0.0.")).click()');
+  await tab.evaluate('[...document.querySelectorAll("#drawn button")].find((one) => one.textContent.startsWith("Write 0.0.0.")).click()');
   await tab.settle();
   check('a hint is written', (await valueOf(tab, 'text')).split('\n')[3] === `cost ${wanted[3].hint.split(' ').at(-1)} r1 1 1`, await valueOf(tab, 'text'));
   await setText(tab, lines);
@@ -168,6 +168,68 @@ async function endEarly(_browser, tab) {
   await tab.settle();
   const { answer } = answers(lines).find(({ line }) => line === lines.length);
   check('the others are run again', (await marksOf(tab)).trim() === `edit failed edit   ${answer}`, await marksOf(tab));
+}
+
+// The text of the study, as it is typed in, deleted, copied and taken back.
+async function typeLines(_browser, tab) {
+  const text = () => valueOf(tab, 'text'), caret = () => tab.evaluate('document.getElementById("text").selectionStart');
+  await tab.evaluate('editor.set("")');
+  await tab.evaluate('editor.reveal(1)');
+  await tab.type('refresh');
+  await tab.key('Enter', 13);
+  await tab.key('Enter', 13);
+  await tab.type('# one two');
+  check('lines are typed', (await text()) === 'refresh\n\n# one two' && (await caret()) === 18, `${await text()} ${await caret()}`);
+  await tab.key('Backspace', 8, 2);
+  await tab.key('Backspace', 8);
+  check('a word and a character are deleted', (await text()) === 'refresh\n\n# one', await text());
+  await tab.key('ArrowUp', 38);
+  await tab.key('Backspace', 8);
+  check('a line is joined to the one above', (await text()) === 'refresh\n# one' && (await caret()) === 7, `${await text()} ${await caret()}`);
+  await tab.key('Delete', 46);
+  check('and to the one below', (await text()) === 'refresh# one', await text());
+  await tab.key('z', 90, 2);
+  await tab.key('z', 90, 2);
+  check('both are taken back', (await text()) === 'refresh\n\n# one', await text());
+  await tab.key('y', 89, 2);
+  check('one of them is done again', (await text()) === 'refresh\n# one', await text());
+  await tab.settle();
+  await tab.command('selectAll');
+  await tab.command('copy');
+  await tab.key('ArrowRight', 39);
+  await tab.command('paste');
+  check('what is copied has no answers', (await text()) === 'refresh\n# onerefresh\n# one', await text());
+  await tab.key('Home', 36);
+  await tab.key('ArrowUp', 38, 8);
+  await tab.type('expect lost none\nrefresh\n');
+  check('what is selected is replaced, by several lines', (await text()) === 'refresh\nexpect lost none\nrefresh\n# one', await text());
+  await tab.settle();
+  check('and answered', (await marksOf(tab)).trim() === 'edit ok edit', await marksOf(tab));
+}
+
+// What a line answered is at the line: after it or below it, and a click goes to the line that was clicked.
+async function answerAtLines(_browser, tab) {
+  const lines = ['fail-link 0.0.0.0 r1 r2', 'expect lost none', 'path r1 10.1.5.1', '', 'routers', 'expect path r1 10.1.5.1 avoids r2', 'explain r1 10.1.5.0/24', 'nonsense'];
+  await setText(tab, lines);
+  const [, lost, { counts }, avoids] = answers([...lines.slice(0, 2), 'changes', lines[5]]);
+  const said = await tab.evaluate('[...document.querySelectorAll("#drawn > div")].map((row) => row.querySelector(".said, .answer")?.firstChild.textContent ?? "")');
+  const short = (found) => found.replace(/\b(\d)\.\1\.\1\.\1\b(?!\/)/g, 'r$1'), wanted = [wordsOf(counts), `found ${short(lost.found)}`, 'r1 → r3 → r5 (21)', '', '5 routers', short(avoids.found), 'inter 21, via r3: 16.2 inter-area', 'S2 UnknownWord nonsense (did you mean table)'];
+  check('each line has its answer', avoids.answer === 'ok' && JSON.stringify(said) === JSON.stringify(wanted), JSON.stringify([said, wanted]));
+  const rows = await tab.evaluate('["#gutter .mark", "#drawn > div", "#text > div"].map((rows) => [...document.querySelectorAll(rows)].map((row) => Math.round(row.getBoundingClientRect().top)).join())');
+  check('marks, answers and lines are beside each other', rows[0] === rows[1] && rows[1] === rows[2], rows.join(' and '));
+  check('an answer has room of its own', await tab.evaluate('(() => { const [, second, third] = document.querySelectorAll("#text > div"), answer = document.querySelector("#drawn .failed .answer").getBoundingClientRect(); return answer.height > 10 && answer.top >= second.getBoundingClientRect().top + 20 && answer.bottom <= third.getBoundingClientRect().top + 1; })()'));
+  const { left, top } = await tab.evaluate('(({ left, top }) => ({ left, top }))(document.querySelectorAll("#text > div")[5].getBoundingClientRect())');
+  await tab.clickAt(left + 40, top + 11);
+  check('a click goes to its line', (await tab.evaluate('editor.lineOfCaret()')) === 6, await tab.evaluate('editor.lineOfCaret()'));
+  await tab.until('document.getElementById("spoken").textContent');
+  check('the answer of the line is read out', (await textOf(tab, '#spoken')) === `line 6: ok, ${wanted[5]}`, await textOf(tab, '#spoken'));
+  const { differences } = answers(lines.slice(0, 1), '--verbose')[0];
+  await tab.click('#drawn [data-more="1"]');
+  const listed = await tab.evaluate('[...document.querySelectorAll("#drawn li")].map((one) => one.textContent)');
+  check('what an edit changed is listed', listed.length === 2 && listed.length === differences.length && listed.every((one, k) => one === `area 0.0.0.0 router r${k + 1}: ${short(differences[k].what)}`), listed.join('; '));
+  await tab.picture(path.join(folder, 'answers.png'));
+  await tab.click('#drawn [data-more="1"]');
+  check('and closed', (await tab.evaluate('document.querySelectorAll("#drawn li").length')) === 0);
 }
 
 // The shown line stays with its text while lines come above it, which keep their answers.
@@ -592,7 +654,7 @@ async function beQuiet(_browser, tab) {
 
 // What is done, in this order: in a page in which the files are open, and with others beside it.
 const PARTS = [
-  cutByMouse, useKeys, editStudy, showPaths, sweepAll, sweepWithin, foresee, openMenus, openMenusByKeys, endEarly, typeAbove, complete, findAndDo, saveAll, print, printPaths, dropFiles, openCaptures, openSession, refuse,
+  cutByMouse, useKeys, editStudy, showPaths, sweepAll, sweepWithin, foresee, openMenus, openMenusByKeys, typeLines, answerAtLines, endEarly, typeAbove, complete, findAndDo, saveAll, print, printPaths, dropFiles, openCaptures, openSession, refuse,
   readOut, beQuiet, beForbidden, trySamples, moveThousand, listThousands,
 ];
 

@@ -7,10 +7,10 @@ const path = require('node:path');
 const vm = require('node:vm');
 
 const source = path.join(__dirname, '..', '..', 'web', 'src'), read = (name) => fs.readFileSync(path.join(source, name), 'utf8');
-const scripts = ['model.js', 'grammar.js', 'editor.js', 'files.js', 'card.js', 'sweep.js', 'tabs.js', 'picture.js', 'completion.js'].map(read).join('\n');
+const scripts = ['model.js', 'grammar.js', 'lines.js', 'editor.js', 'files.js', 'card.js', 'sweep.js', 'tabs.js', 'picture.js', 'completion.js'].map(read).join('\n');
 const page = 'const text = (array) => new TextDecoder().decode(array), state = {}, nameOf = (router) => router;';
-const names = ['Grammar', 'lineMoves', 'kindOf', 'topology', 'edgeOneWay', 'edgeFailed', 'sweepLines', 'areasNow', 'sweptRows', 'cutLine', 'shownByDefault', 'pathNamed', 'pathText', 'state'];
-const { Grammar, lineMoves, kindOf, topology, edgeOneWay, edgeFailed, sweepLines, areasNow, sweptRows, cutLine, shownByDefault, pathNamed, pathText, state } = vm.runInThisContext(`'use strict'; (() => { ${page} ${scripts}; return { ${names} }; })()`);
+const names = ['Grammar', 'lineMoves', 'kindOf', 'topology', 'edgeOneWay', 'edgeFailed', 'sweepLines', 'areasNow', 'sweptRows', 'cutLine', 'shownByDefault', 'pathNamed', 'pathText', 'deletedBy', 'History', 'replyText', 'differenceText', 'state'];
+const { Grammar, lineMoves, kindOf, topology, edgeOneWay, edgeFailed, sweepLines, areasNow, sweptRows, cutLine, shownByDefault, pathNamed, pathText, deletedBy, History, replyText, differenceText, state } = vm.runInThisContext(`'use strict'; (() => { ${page} ${scripts}; return { ${names} }; })()`);
 let passed = 0, failed = 0;
 
 function check(name, got, wanted) {
@@ -34,6 +34,50 @@ function checkGrammar(help) {
   const whole = ['refresh', 'undo 1', 'cut r1 r2', 'cut r1 r2 10.0.0.1', 'set-cost r1 r2 5 both', 'expect lost none', 'expect lost only 10.0.0.0/8 10.1.0.0/16', 'expect path r1 10.1.5.1 avoids r2', 'links', 'links r1'];
   const parts = ['undo', 'cut r1', 'set-cost r1 r2', 'expect', 'expect lost', 'expect lost only', 'expect path r1 10.1.5.1 via', 'cost 0.0.0.0 r1 r2', 'refresh 1', 'nonsense'];
   check('whole lines', [...whole, ...parts].map((line) => grammar.isWhole(line.split(' '))), [...whole.map(() => true), ...parts.map(() => false)]);
+}
+
+// What commands of deletion take, and the steps that a text took.
+function checkTyping() {
+  const left = (command, front, back, selected = '') => {
+    const text = front + selected + back, [start, end] = deletedBy(command, text, [front.length, front.length + selected.length]);
+    return `${text.slice(0, start)}|${text.slice(end)}`;
+  };
+  check('what is selected is deleted', ['deleteContentBackward', 'deleteWordForward', 'deleteByCut'].map((command) => left(command, 'ab', 'ef', 'cd')), Array(3).fill('ab|ef'));
+  check('a character', [left('deleteContentBackward', 'ab', 'c'), left('deleteContentForward', 'ab', 'cd'), left('deleteContentBackward', 'a\n', 'b'), left('deleteContentForward', 'a', '\nb')], ['a|c', 'ab|d', 'a|b', 'a|b']);
+  check('a character of two units', [left('deleteContentBackward', 'a\u{1f600}', ''), left('deleteContentForward', '', '\u{1f600}b')], ['a|', '|b']);
+  check('nothing before the begin, nor after the end', [left('deleteContentBackward', '', 'a'), left('deleteWordBackward', '', 'a'), left('deleteContentForward', 'a', ''), left('deleteSoftLineForward', 'a', '')], ['|a', '|a', 'a|', 'a|']);
+  check('a word', [left('deleteWordBackward', 'fail-link r1  ', 'r2'), left('deleteWordForward', 'cut', ' r1 r2'), left('deleteWordBackward', 'a\n', 'b'), left('deleteWordBackward', 'r1 ->', '')], ['fail-link |r2', 'cut| r2', 'a|b', 'r1 |']);
+  check('a line', [left('deleteSoftLineBackward', 'a\nb c', 'd\ne'), left('deleteHardLineForward', 'a\nb c', 'd\ne'), left('deleteHardLineForward', 'a', '\nb')], ['a\n|d\ne', 'a\nb c|\ne', 'a|b']);
+  const history = new History('a');
+  history.note('ab', 2, true, 1000);
+  history.note('abc', 3, true, 1500);
+  history.note('abcd', 4, true, 9000);
+  history.note('abcd', 4, true, 9001);
+  check('typing that goes on is one step', [history.go(-1).value, history.go(-1).value, history.go(-1)], ['abc', 'a', null]);
+  check('it is done again', [history.go(1).value, history.go(1).value, history.go(1)], ['abc', 'abcd', null]);
+  history.note('xabcd', 1, true, 9100);
+  check('typing elsewhere is another step', history.go(-1).value, 'abcd');
+  history.go(-1);
+  history.note('abx', 3, false, 9200);
+  check('another step takes the place of what was taken back', [history.go(1), history.go(-1).value], [null, 'abc']);
+}
+
+// What replies say in a line, of documents of docs/study-schema.json.
+function checkReplies() {
+  const route = { prefix: '10.0.0.0/8', kind: 'ext2', cost: 7, metric: 20, area: null, ways: [{ kind: 'via', out: null, router: 'r2', addresses: [] }, { kind: 'direct', out: null }] };
+  const counts = Object.fromEntries(['lost', 'gone', 'dearer', 'moved', 'type', 'cheaper', 'gained'].map((kind) => [kind, 0])), said = (word, document) => replyText({ word, ...document }, (router) => router);
+  check('numbers', [said('routers', { routers: [1] }), said('links', { links: [1, 2] }), said('lost', { pairs: [] }), said('log', { lines: ['refresh'] })], ['1 router', '2 links', '0 routes', '1 edit']);
+  check('routes', [said('routes', { routes: [route, route], address: null }), said('routes', { routes: [route], address: '10.1.1.1' }), said('routes', { routes: [], address: '10.1.1.1' })], ['2 routes', '10.0.0.0/8 ext2 20 + 7, via r2, direct', '0 routes']);
+  check('why', [said('explain', { route, rule: '16.4 type 2 external' }), said('explain', { route: null, rule: null })], ['ext2 20 + 7, via r2, direct: 16.4 type 2 external', 'no route']);
+  check('changes', [said('changes', { counts: { ...counts, lost: 2, gone: 1, type: 1, moved: 3, gained: 1 } }), said('changes', { counts })], ['2 lost · 1 gone · 4 moved · 1 better', 'changes no table']);
+  check('loops', [said('loops', { loops: [1], blackholes: [] }), said('microloops', { loops: [1, 2] }), said('microloops', { loops: [] })], ['1 loop, 0 blackholes', '2 may loop while routers change over', 'none may loop']);
+  check('an audit', [said('audit', { wrong: 0, findings: [] }), said('audit', { wrong: 0, findings: [1] }), said('audit', { wrong: 3, findings: [1, 2] }), said('audit', { places: [1] })], ['clean', 'clean, 1 note', '3 wrong', '1 place']);
+  const lsa = (type, rest) => ({ type, id: '10.0.0.1', router: '1.1.1.1', ...rest });
+  const written = [
+    { change: 'changed', area: '0.0.0.0', lsa: lsa(1), what: 'gone #2 stub 10.4.0.0/16, cost 1' }, { change: 'gone', area: null, lsa: lsa(5, { prefix: '10.90.0.0/16' }), what: 'type 2 metric 20' },
+    { change: 'new', area: '0.0.0.1', lsa: lsa(4), what: 'metric 3' }, { change: 'new', area: '0.0.0.3', lsa: null, what: 'kind stub' },
+  ].map(differenceText);
+  check('differences', written, ['area 0.0.0.0 router 1.1.1.1: gone #2 stub 10.4.0.0/16, cost 1', 'gone external 10.90.0.0/16 by 1.1.1.1: type 2 metric 20', 'new area 0.0.0.1 asbr-summary 10.0.0.1 by 1.1.1.1: metric 3', 'new area 0.0.0.3: kind stub']);
 }
 
 // Where lines go, and the line that takes the place of one that is gone.
@@ -154,6 +198,8 @@ function checkContrast() {
 
 checkGrammar(JSON.parse(fs.readFileSync(process.argv[2], 'utf8').split('\n')[0]).words);
 checkLines();
+checkTyping();
+checkReplies();
 checkShown();
 checkKinds();
 checkLinks();

@@ -49,13 +49,16 @@ const calculator = new Calculator(parts);
 let timer = null;
 
 const picture = new Picture($('picture'), { select: (id) => select(id), menu: (id, x, y) => openMenu(id, x, y) });
-const editor = new Editor({ text: $('text'), gutter: $('gutter'), drawn: $('drawn') }, {
+const editor = new Editor({ room: $('editor'), text: $('text'), gutter: $('gutter'), drawn: $('drawn') }, {
   change: (nearest) => {
     if (state.chosen) state.chosen.number = nearest(state.chosen.number);
     changed();
   },
   show: (number) => showAfter(number),
   leave: () => $('picture').focus(),
+  name: (router) => nameOf(router),
+  actions: (number, answer) => lineActions(number, answer),
+  speak: (said) => { $('spoken').textContent = said; },
 });
 
 const nameOf = (router) => state.graph?.nodes.get(router)?.label ?? router;
@@ -106,7 +109,7 @@ async function answersAfter(lines, shown, turn) {
     path: state.path, table: state.table, isLarge: state.isLarge, isSmall, isChanged: state.done > 0 || state.baseline !== null || lines.slice(0, shown).some(isEdit),
     counts: isSmall && lines.filter(isEdit).length * routers <= 1000,
   });
-  const answer = await calculator.study(asked(study));
+  const answer = await calculator.study(asked(study, { verbose: isSmall }));
   if (turn !== state.asked) return null;
   if (answer.status > 1) {
     report(text(answer.errors).trim() || 'memory ran out');
@@ -167,7 +170,6 @@ function show() {
   editor.show(answers.study, { shown: state.shown, counts: answers.counts, names, stopped: state.stopped });
   showVerdict();
   showTicks();
-  showFaults();
   showPicture();
   showCard();
   showTabs();
@@ -302,16 +304,14 @@ const outcomeText = () => `${$('verdict').textContent}: ${$('held').textContent}
 // A text with names in the place of Router IDs, which documents have.
 const named = (said) => said.replace(/\b\d+\.\d+\.\d+\.\d+\b(?!\/)/g, (address) => state.graph?.nodes.get(address)?.label ?? address);
 
-function showFaults() {
-  const lines = editor.lines();
-  const wrong = [...state.answers.study].filter(([, { answer }]) => WRONG.has(answer));
-  $('faults').replaceChildren(...wrong.map(([number, answer]) => {
-    const line = lines[number - 1], mended = mend(line, answer);
-    return element('p', { class: answer.answer }, element('b', {}, `${number} ${line.trim()}: `), answer.found ? named(found(answer)) : found(answer), ' ',
-      button('Show', () => showAfter(number), { 'aria-label': `Show the network after line ${number}` }),
-      mended ? button(answer.found ? 'Expect what was found' : `Write ${mended.word}`, () => editor.change(number, mended.line)) : null,
-      button('Remove', () => editor.remove(number), { 'aria-label': `Remove line ${number}` }));
-  }));
+// What can be done about a line that is not accepted.
+function lineActions(number, answer) {
+  const mended = mend(editor.lines()[number - 1], answer);
+  return [
+    element('button', { type: 'button', 'aria-label': `Show the network after line ${number}`, onclick: () => showAfter(number) }, 'Show'),
+    mended && element('button', { type: 'button', title: mended.line.trim(), onclick: () => editor.change(number, mended.line) }, answer.found ? 'Expect what was found' : `Write ${mended.word}`),
+    element('button', { type: 'button', 'aria-label': `Remove line ${number}`, onclick: () => editor.remove(number) }, 'Remove'),
+  ].filter(Boolean);
 }
 
 // A line with what the hint of its refusal names in the place of the word at fault, or one that expects what was found.
@@ -438,7 +438,7 @@ function onControlKey(event, isTyped) {
 }
 
 function onKey(event) {
-  const isTyped = /INPUT|TEXTAREA|SELECT/.test(event.target.tagName) && event.target.type !== 'checkbox';
+  const isTyped = event.target.isContentEditable || (/INPUT|TEXTAREA|SELECT/.test(event.target.tagName) && event.target.type !== 'checkbox');
   if (event.altKey || document.querySelector('dialog[open], [popover]:popover-open') || !state.graph) return;
   if (event.ctrlKey || event.metaKey) {
     onControlKey(event, isTyped);

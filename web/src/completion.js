@@ -102,11 +102,9 @@ function completeStudy(front, after, isAsked) {
 }
 
 // Where the caret of the study is on the screen: its left, its top and its height.
-function caretPlace({ text }) {
-  const front = text.value.slice(0, text.selectionStart), row = front.split('\n').length - 1, column = front.length - front.lastIndexOf('\n') - 1;
-  const { left, top } = text.getBoundingClientRect(), context = document.createElement('canvas').getContext('2d');
-  context.font = getComputedStyle(text).font;
-  return [left + 4 - text.scrollLeft + column * context.measureText('0').width, top + 6 - text.scrollTop + 22 * row, 22];
+function caretPlace({ field }) {
+  const { left, top } = field.caretRect();
+  return [left, top, 22];
 }
 
 // ---- what is found, or done

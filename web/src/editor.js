@@ -1,5 +1,5 @@
 // The study as a text that can be edited. What a line answered lies over the text and is no part of it: a mark before the
-// line, what was found after it, and colors.
+// line, what was found after it or below it, and colors.
 
 const MARKS = { ok: '✓', failed: '✕', refused: '!', fault: '!', reply: '•', edit: '▶', skipped: '', running: '' };
 const SPOKEN = { skipped: 'not run', fault: 'refused', reply: 'answered', edit: 'done' };
@@ -16,18 +16,21 @@ function lineMoves(old, lines) {
 
 const hasWords = (line) => /^\s*[^\s#]/.test(line);
 
+// How many of the differences that an edit made are listed at its line.
+const MOST_LISTED = 12;
+
 class Editor {
-  constructor({ text, gutter, drawn }, on) {
-    Object.assign(this, { text, gutter, drawn, on, answers: new Map(), counts: new Map(), names: new Set(), shown: 0 });
-    Object.assign(this, { last: [''], stopped: 0, isRunning: false });
+  constructor({ room, text, gutter, drawn }, on) {
+    Object.assign(this, { room, text, gutter, drawn, on, answers: new Map(), counts: new Map(), names: new Set(), shown: 0 });
+    Object.assign(this, { last: [''], stopped: 0, isRunning: false, opened: new Set(), spoken: 0, field: new LineField(text) });
     text.addEventListener('input', () => this.typed());
-    text.addEventListener('scroll', () => this.scroll());
     text.addEventListener('keydown', (event) => this.onKey(event));
+    document.addEventListener('selectionchange', () => this.speak());
     gutter.addEventListener('click', (event) => {
       const line = event.target.closest('[data-line]');
       if (line) on.show(Number(line.dataset.line));
     });
-    new ResizeObserver(() => this.draw()).observe(text);
+    new ResizeObserver(() => this.draw()).observe(room);
   }
 
   // Lines that are the same keep their answers, while the others are answered again.
@@ -35,6 +38,7 @@ class Editor {
     const lines = this.lines(), { moved, nearest } = lineMoves(this.last, lines);
     const kept = (map) => new Map([...map].map(([number, value]) => [moved(number), value]).filter(([number]) => number !== null));
     Object.assign(this, { last: lines, answers: kept(this.answers), counts: kept(this.counts), shown: nearest(this.shown), isRunning: true });
+    this.opened = new Set([...this.opened].map(moved).filter(Boolean));
     if (this.stopped) this.stopped = nearest(this.stopped);
     this.on.change(nearest);
     this.draw();
@@ -43,7 +47,8 @@ class Editor {
   // Another text, whose lines have no answers yet.
   set(text) {
     this.text.value = text;
-    Object.assign(this, { last: this.lines(), answers: new Map(), counts: new Map(), stopped: 0, isRunning: true });
+    this.field.history.clear(this.text.value);
+    Object.assign(this, { last: this.lines(), answers: new Map(), counts: new Map(), stopped: 0, isRunning: true, opened: new Set() });
     this.draw();
   }
 
@@ -51,6 +56,7 @@ class Editor {
     const isControl = event.ctrlKey || event.metaKey, by = { ArrowUp: -1, ArrowDown: 1 }[event.key];
     if (isControl && event.key === 'Enter') this.on.show(this.lineOfCaret());
     else if (isControl && event.key === '/') this.comment();
+    else if (isControl && ['z', 'y'].includes(event.key.toLowerCase())) this.undo(event.shiftKey || event.key === 'y' ? 'redo' : 'undo');
     else if (event.altKey && by) this.moveLine(by);
     else if (event.key === 'Escape') this.on.leave();
     else return;
@@ -75,10 +81,7 @@ class Editor {
 
   // Takes back what was typed or clicked, or does it again.
   undo(command) {
-    const { activeElement } = document;
-    this.text.focus({ preventScroll: true });
-    document.execCommand(command);
-    if (activeElement !== this.text) activeElement?.focus?.({ preventScroll: true });
+    this.field.step(command === 'redo' ? 1 : -1);
   }
 
   // Where a line begins in the text.
@@ -94,17 +97,11 @@ class Editor {
     return this.text.value.slice(0, this.text.selectionStart).split('\n').length;
   }
 
-  scroll() {
-    this.gutter.scrollTop = this.drawn.scrollTop = this.text.scrollTop;
-    this.drawn.scrollLeft = this.text.scrollLeft;
-  }
-
   // Puts the caret at the begin of a line, and shows it.
   reveal(number) {
     const at = this.startOf(number);
     this.text.focus();
     this.text.setSelectionRange(at, at);
-    this.text.scrollTop = Math.max(0, 22 * (number - 4));
   }
 
   // Puts lines after line `at`, as if they were typed, so that Ctrl-Z takes them back.
@@ -131,15 +128,7 @@ class Editor {
   }
 
   replace(start, end, text) {
-    const { activeElement } = document;
-    this.text.focus({ preventScroll: true });
-    this.text.setSelectionRange(start, end);
-    if (!document.execCommand(text ? 'insertText' : 'delete', false, text || undefined)) {
-      this.text.setRangeText(text, start, end, 'end');
-    }
-    if (activeElement === document.body) this.text.blur();
-    else activeElement?.focus?.({ preventScroll: true });
-    this.typed();
+    this.field.replace(start, end, text);
   }
 
   // ---- what lies over the text
@@ -152,10 +141,13 @@ class Editor {
   }
 
   draw() {
-    const lines = this.lines();
-    this.gutter.replaceChildren(...lines.map((line, k) => this.mark(k + 1, line)), Object.assign(document.createElement('div'), { className: 'below' }));
-    this.drawn.replaceChildren(...lines.map((line, k) => this.drawLine(k + 1, line)), Object.assign(document.createElement('div'), { className: 'below' }));
-    this.scroll();
+    const lines = this.lines(), { room, gutter, drawn, text } = this;
+    this.width = room.clientWidth - gutter.clientWidth;
+    room.style.setProperty('--room', `${this.width}px`);
+    gutter.replaceChildren(...lines.map((line, k) => this.mark(k + 1, line)));
+    drawn.replaceChildren(...lines.map((line, k) => this.drawLine(k + 1, line)));
+    const heights = [...drawn.children].map((row) => `${row.offsetHeight}px`);
+    for (const blocks of [gutter.children, text.children]) heights.forEach((height, k) => { blocks[k].style.height = height; });
   }
 
   stateOf(number) {
@@ -172,7 +164,7 @@ class Editor {
     mark.dataset.line = number;
     mark.tabIndex = -1;
     mark.className = `mark ${state}${number === this.shown ? ' shown' : number < this.shown ? ' before' : ''}`;
-    mark.title = [found(this.answers.get(number)), 'Show the network after this line (Ctrl Enter)'].filter(Boolean).join('\n');
+    mark.title = [this.said(number), 'Show the network after this line (Ctrl Enter)'].filter(Boolean).join('\n');
     mark.setAttribute('aria-label', `line ${number}: ${line}${state ? `, ${SPOKEN[state] ?? state}` : ''}`);
     const number_ = document.createElement('span');
     number_.textContent = number;
@@ -180,24 +172,54 @@ class Editor {
     return mark;
   }
 
-  // A line in colors, and what it answered after it, if there is room.
+  // A line in colors, and what it answered: after it where there is room, else below it.
   drawLine(number, line) {
-    const drawn = document.createElement('div'), answer = this.answers.get(number), said = this.said(number);
-    drawn.className = `${this.stateOf(number)}${number === this.shown ? ' shown' : ''}${this.shown && number > this.shown ? ' after' : ''}`;
-    drawn.append(...this.colored(line, answer?.code ? answer.at : null));
-    const room = this.text.clientWidth - 8.2 * line.length - 40;
-    if (said && room > 6 * said.length) drawn.append(Object.assign(document.createElement('span'), { className: 'said', textContent: said }));
-    return drawn;
+    const answer = this.answers.get(number), code = element('div', { class: 'code', 'aria-hidden': 'true' }, this.colored(line, answer?.code ? answer.at : null));
+    const said = this.said(number), more = this.moreOf(number, answer), isWrong = ['failed', 'refused', 'fault'].includes(answer?.answer) && said;
+    const state = `${this.stateOf(number)}${number === this.shown ? ' shown' : ''}${this.shown && number > this.shown ? ' after' : ''}`;
+    const fits = !isWrong && this.width - 8.2 * line.length - 40 > 6 * said.length + (more.length ? 90 : 0);
+    const below = isWrong || (said && !fits) || this.opened.has(number);
+    if (said && fits) code.append(element('span', { class: 'said' }, said, below ? null : more));
+    if (!below) return element('div', { class: state }, code);
+    return element('div', { class: state }, code, element('div', { class: `answer${isWrong || this.opened.has(number) ? '' : ' late'}` }, fits ? null : said, isWrong ? element('span', { class: 'acts' }, this.on.actions(number, answer)) : null, more, this.listOf(number, answer)));
   }
 
+  // A button that lists what an edit changed in the database, where its answer has it.
+  moreOf(number, { answer, differences, word } = {}) {
+    if (answer !== 'ok' || !differences?.length || !EDITS.has(word)) return [];
+    const isOpen = this.opened.has(number), flip = () => {
+      this.opened[isOpen ? 'delete' : 'add'](number);
+      this.draw();
+      this.drawn.querySelector(`[data-more="${number}"]`)?.focus();
+    };
+    return [element('button', { type: 'button', 'data-more': number, 'aria-expanded': String(isOpen), 'aria-label': `What line ${number} changed in the database`, onclick: flip }, `${differences.length} LSA change${differences.length === 1 ? '' : 's'}`)];
+  }
+
+  // What an edit changed in the database, once it was asked for.
+  listOf(number, { differences = [] } = {}) {
+    if (!this.opened.has(number)) return null;
+    const rest = differences.length - MOST_LISTED;
+    return element('ul', {}, differences.slice(0, MOST_LISTED).map((one) => element('li', {}, named(differenceText(one)))), rest > 0 ? element('li', {}, `and ${rest} more`) : null);
+  }
+
+  // What a line answered, in words.
   said(number) {
     const counts = this.counts.get(number);
     const answer = this.answers.get(number);
     if (this.stateOf(number) === 'skipped') return 'not run';
     if (!answer) return '';
     if (counts && this.stateOf(number) === 'edit') return countsText(counts) || 'changes no table';
-    if (answer.answer === 'failed' || answer.code) return answer.code ? `${answer.code} ${answer.name}` : 'failed';
+    if (answer.answer === 'reply') return named(replyText(answer, this.on.name));
+    if (answer.answer === 'failed' || answer.code) return named(found(answer));
     return named(answer.found ?? '');
+  }
+
+  // Has what the line of the caret answered read out, where the caret has come to another line.
+  speak() {
+    const number = document.activeElement === this.text ? this.lineOfCaret() : 0, state = this.stateOf(number);
+    if (number === this.spoken) return;
+    this.spoken = number;
+    this.on.speak(number && state ? `line ${number}: ${[SPOKEN[state] ?? state, this.said(number)].filter(Boolean).join(', ')}` : '');
   }
 
   colored(line, wrong) {

@@ -188,3 +188,39 @@ function pathText(path, name) {
   const ends = path.ends.filter((end) => end !== 'delivered' || path.ends.length > 1), cost = path.steps?.[0]?.route ? ` (${costText(path.steps[0].route)})` : '';
   return `${[[...shown, ...(ways.length > MOST_WAYS ? ['other ways'] : [])].join(' or '), ...ends].join(', ')}${cost}`;
 }
+
+const counted = (count, one, several = `${one}s`) => `${count} ${count === 1 ? one : several}`;
+
+// What the reply to each question says in a line.
+const REPLIES = {
+  routers: ({ routers }) => counted(routers.length, 'router'),
+  links: ({ links }) => counted(links.length, 'link'),
+  networks: ({ networks }) => counted(networks.length, 'network'),
+  routes: ({ routes, address }, name) => address && routes.length ? `${routes[0].prefix} ${routes[0].kind} ${costText(routes[0])}, ${waysText(routes[0], name)}` : counted(routes.length, 'route'),
+  path: (path, name) => pathText(path, name),
+  explain: ({ route, rule }, name) => route ? `${route.kind} ${costText(route)}, ${waysText(route, name)}: ${rule}` : 'no route',
+  changes: ({ counts }) => countsText(counts) || 'changes no table',
+  differences: ({ differences }) => counted(differences.length, 'difference'),
+  lost: ({ pairs }) => counted(pairs.length, 'route'),
+  gone: ({ pairs }) => counted(pairs.length, 'route'),
+  loops: ({ loops, blackholes }) => `${counted(loops.length, 'loop')}, ${counted(blackholes.length, 'blackhole')}`,
+  microloops: ({ loops }) => loops.length ? `${loops.length} may loop while routers change over` : 'none may loop',
+  audit: ({ wrong, findings, places }) => places ? counted(places.length, 'place') : wrong ? `${wrong} wrong` : findings.length ? `clean, ${counted(findings.length, 'note')}` : 'clean',
+  table: ({ routes }) => counted(routes.length, 'route'),
+  tables: ({ tables }) => counted(tables.length, 'table'),
+  compare: ({ changes }) => counted(changes.length, 'change'),
+  info: ({ areas, lsas, done }) => `${counted(areas, 'area')}, ${counted(lsas, 'LSA')}, ${counted(done, 'edit')}`,
+  log: ({ lines }) => counted(lines.length, 'edit'),
+  help: ({ words }) => words.length === 1 ? words[0].meaning ?? words[0].line : counted(words.length, 'line'),
+};
+const replyText = (answer, name) => REPLIES[answer.word]?.(answer, name) ?? '';
+
+const LSA_NAMES = { 1: 'router', 2: 'network', 3: 'summary', 4: 'asbr-summary', 5: 'external' };
+
+// A difference of the database, as `differences` writes it.
+function differenceText({ change, area, lsa, what }) {
+  const of = area ? `area ${area}` : '';
+  if (!lsa) return [change === 'changed' ? '' : change, of].filter(Boolean).join(' ') + `: ${what}`;
+  const id = lsa.type === 1 ? lsa.router : `${lsa.prefix ?? lsa.id} by ${lsa.router}`;
+  return `${[change === 'changed' ? '' : change, of, LSA_NAMES[lsa.type] ?? `type ${lsa.type}`, id].filter(Boolean).join(' ')}: ${what}`;
+}

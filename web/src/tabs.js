@@ -375,12 +375,10 @@ function showDifferences(which) {
   if (!differences?.length) return [bar, `No LSA differs from ${baselineName()}.`];
   const rows = differences.slice(0, MOST_ROWS).map(({ change, area, lsa, what }) => {
     const router = lsa && state.graph.nodes.has(lsa.router) ? lsa.router : null;
-    return row([change, area ?? '', lsa ? `${LSA_TYPES[lsa.type] ?? `type ${lsa.type}`} ${lsa.id}` : '', lsa ? nameOf(lsa.router) : '', named(what ?? '')], router ? () => select(router) : null);
+    return row([change, area ?? '', lsa ? `${LSA_NAMES[lsa.type] ?? `type ${lsa.type}`} ${lsa.id}` : '', lsa ? nameOf(lsa.router) : '', named(what ?? '')], router ? () => select(router) : null);
   });
   return [bar, scroll(table(['Change', 'Area', 'LSA', 'By', 'What'], [...rows, rest(differences.length, 5)], { class: 'wraps' }))];
 }
-
-const LSA_TYPES = { 1: 'router', 2: 'network', 3: 'summary', 4: 'asbr-summary', 5: 'external' };
 
 // Asks a question after some lines, and shows its answer in the tab.
 async function askFor(key, line, lines) {
