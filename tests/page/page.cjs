@@ -465,6 +465,28 @@ async function foresee(_browser, tab) {
   await tab.evaluate('select(null)');
 }
 
+// The number of times that what is drawn along a link begins: once for a line, and for each of its dashes.
+const dashesOf = (tab, one, other) => tab.evaluate(`(() => {
+  const edge = [...picture.edges.values()].find(({ a, b }) => [a, b].sort().join() === ${JSON.stringify([one, other].sort().join())}), [[x, y], [u, v]] = picture.endsOf(edge);
+  const { width, height } = picture, length = Math.hypot(u - x, v - y), context = Object.assign(document.createElement('canvas'), { width, height }).getContext('2d', { willReadFrequently: true });
+  picture.drawIn(context);
+  const points = context.getImageData(0, 0, width, height).data, [dx, dy] = [(u - x) / length, (v - y) / length];
+  const ink = (at) => [-1, 0, 1].some((side) => points[4 * (Math.round(y + dy * at + dx * side) * width + Math.round(x + dx * at - dy * side)) + 3] > 128);
+  return Array.from({ length: Math.floor(length) - 100 }, (_, k) => ink(k + 50) && !ink(k + 49)).filter(Boolean).length;
+})()`);
+
+// Links that changed have dashes in the picture: nothing is shown by colors alone.
+async function drawDashes(_browser, tab) {
+  await setText(tab, ['cost 0.0.0.0 r1 r2 40', 'fail-link 0.0.0.1 r2 r4']);
+  await tab.evaluate('picture.layers = { costs: false, areas: false }, select(null)');
+  const [plain, cost, failed] = [await dashesOf(tab, '1.1.1.1', '3.3.3.3'), await dashesOf(tab, '1.1.1.1', '2.2.2.2'), await dashesOf(tab, '2.2.2.2', '4.4.4.4')];
+  check('dashes of changed links', plain <= 1 && cost > 3 && failed > cost, [plain, cost, failed].join());
+  const legend = await tab.evaluate('[...document.querySelectorAll("#legend > span")].filter((one) => one.querySelector(":scope > svg")).map((one) => [one.textContent.trim(), one.querySelector("line").getAttribute("stroke-dasharray")].join(": "))');
+  check('they are explained', JSON.stringify(legend) === '["failed: 5 4","10→40 cost set: 14 3 3 3"]', JSON.stringify(legend));
+  await tab.evaluate('picture.layers = { costs: true, areas: true }, picture.draw()');
+  await tab.picture(path.join(folder, 'dashes.png'));
+}
+
 const menuOf = (tab) => tab.evaluate('[...document.querySelectorAll("#menu:popover-open [role=menuitem]")].map((item) => item.firstChild.textContent)');
 const offeredIn = (tab) => tab.evaluate('[...document.querySelectorAll("#card .actions button")].map((item) => item.firstChild.textContent)');
 const focused = (tab) => tab.evaluate('document.activeElement.id || document.activeElement.firstChild?.textContent');
@@ -654,7 +676,7 @@ async function beQuiet(_browser, tab) {
 
 // What is done, in this order: in a page in which the files are open, and with others beside it.
 const PARTS = [
-  cutByMouse, useKeys, editStudy, showPaths, sweepAll, sweepWithin, foresee, openMenus, openMenusByKeys, typeLines, answerAtLines, endEarly, typeAbove, complete, findAndDo, saveAll, print, printPaths, dropFiles, openCaptures, openSession, refuse,
+  cutByMouse, useKeys, editStudy, showPaths, sweepAll, sweepWithin, foresee, openMenus, openMenusByKeys, drawDashes, typeLines, answerAtLines, endEarly, typeAbove, complete, findAndDo, saveAll, print, printPaths, dropFiles, openCaptures, openSession, refuse,
   readOut, beQuiet, beForbidden, trySamples, moveThousand, listThousands,
 ];
 

@@ -9,8 +9,8 @@ const vm = require('node:vm');
 const source = path.join(__dirname, '..', '..', 'web', 'src'), read = (name) => fs.readFileSync(path.join(source, name), 'utf8');
 const scripts = ['model.js', 'grammar.js', 'lines.js', 'editor.js', 'files.js', 'card.js', 'sweep.js', 'tabs.js', 'picture.js', 'completion.js'].map(read).join('\n');
 const page = 'const text = (array) => new TextDecoder().decode(array), state = {}, nameOf = (router) => router;';
-const names = ['Grammar', 'lineMoves', 'kindOf', 'topology', 'edgeOneWay', 'edgeFailed', 'sweepLines', 'areasNow', 'sweptRows', 'cutLine', 'shownByDefault', 'pathNamed', 'pathText', 'deletedBy', 'History', 'replyText', 'differenceText', 'state'];
-const { Grammar, lineMoves, kindOf, topology, edgeOneWay, edgeFailed, sweepLines, areasNow, sweptRows, cutLine, shownByDefault, pathNamed, pathText, deletedBy, History, replyText, differenceText, state } = vm.runInThisContext(`'use strict'; (() => { ${page} ${scripts}; return { ${names} }; })()`);
+const names = ['Grammar', 'lineMoves', 'kindOf', 'topology', 'edgeOneWay', 'edgeFailed', 'sweepLines', 'areasNow', 'sweptRows', 'cutLine', 'shownByDefault', 'pathNamed', 'pathText', 'deletedBy', 'History', 'replyText', 'differenceText', 'LINK_STROKES', 'HEAT_STROKES', 'RING_STROKES', 'PATH_STROKES', 'AREA_DASHES', 'signOf', 'state'];
+const { Grammar, lineMoves, kindOf, topology, edgeOneWay, edgeFailed, sweepLines, areasNow, sweptRows, cutLine, shownByDefault, pathNamed, pathText, deletedBy, History, replyText, differenceText, LINK_STROKES, HEAT_STROKES, RING_STROKES, PATH_STROKES, AREA_DASHES, signOf, state } = vm.runInThisContext(`'use strict'; (() => { ${page} ${scripts}; return { ${names} }; })()`);
 let passed = 0, failed = 0;
 
 function check(name, got, wanted) {
@@ -174,6 +174,48 @@ function checkPaths() {
   check('two ends', written({ router: 'r1', ends: ['delivered', 'loop'], steps: [step('r1', 'r2', 7), step('r2', 'r1', 7)] }), 'R1 → R2 → R1, delivered, loop (7)');
 }
 
+// What differs in color differs in dashes or width too, and rims of areas in dashes; signs of the matrix differ.
+function checkStrokes() {
+  const alike = (strokes) => {
+    const forms = Object.values(strokes).map(({ width, dash }) => JSON.stringify([width, dash]));
+    return forms.length - new Set(forms).size;
+  };
+  check('strokes of one form', [LINK_STROKES, HEAT_STROKES, RING_STROKES, PATH_STROKES].map(alike), [0, 0, 0, 0]);
+  check('rims of one form', [AREA_DASHES.length, new Set(AREA_DASHES.map((dash) => JSON.stringify(dash))).size], [9, 9]);
+  check('changed links are not drawn as plain ones', Object.entries(LINK_STROKES).filter(([kind, { dash }]) => kind !== 'plain' && !dash.length).length, 0);
+  check('signs', new Set(['lost', 'moved', 'cheaper', 'dearer'].map((kind) => JSON.stringify(signOf(kind)))).size, 4);
+}
+
+// What people see who lack a kind of cones, by the matrices of Machado, Oliveira and Fernandes (2009), of linear colors.
+const CONES = {
+  protanopia: [[0.152286, 1.052583, -0.204868], [0.114503, 0.786281, 0.099216], [-0.003882, -0.048116, 1.051998]],
+  deuteranopia: [[0.367322, 0.860646, -0.227968], [0.280085, 0.672501, 0.047413], [-0.01182, 0.04294, 0.968881]],
+};
+
+const linearOf = (color) => color.slice(1).match(/../g).map((pair) => parseInt(pair, 16) / 255).map((part) => part <= 0.04045 ? part / 12.92 : ((part + 0.055) / 1.055) ** 2.4);
+
+// A color in CIELAB, of its linear parts.
+function labOf(rgb) {
+  const sum = (row) => row.reduce((total, factor, k) => total + factor * Math.min(1, Math.max(0, rgb[k])), 0), root = (part) => part > 0.008856 ? Math.cbrt(part) : 7.787 * part + 16 / 116;
+  const [x, y, z] = [[0.4124 / 0.9505, 0.3576 / 0.9505, 0.1805 / 0.9505], [0.2126, 0.7152, 0.0722], [0.0193 / 1.089, 0.1192 / 1.089, 0.9505 / 1.089]].map(sum).map(root);
+  return [116 * y - 16, 500 * (x - y), 200 * (y - z)];
+}
+
+// Colors of meaning that are hard to distinguish for some people.
+function checkVision(tokens) {
+  const fills = ['lost-fill', 'dearer-fill', 'moved-fill', 'none-fill'], near = [];
+  for (const [theme, colors] of Object.entries(tokens)) {
+    for (const [sight, matrix] of Object.entries(CONES)) {
+      const seen = (fill) => labOf(matrix.map((row) => row.reduce((total, factor, k) => total + factor * linearOf(colors[fill])[k], 0)));
+      fills.forEach((one, k) => fills.slice(k + 1).forEach((other) => {
+        const distance = Math.hypot(...seen(one).map((part, at) => part - seen(other)[at]));
+        if (distance < 20) near.push(`${theme} ${sight} ${one} ${other} ${distance.toFixed(0)}`);
+      }));
+    }
+  }
+  check('colors that some people cannot distinguish', near, []);
+}
+
 // The colors of texts on what they stand on, in both themes: 4.5 to 1, as WCAG 2.1 has it for texts.
 const STANDS = {
   'bg panel raised sunk map': 'text dim faint lost dearer moved better', 'panel raised': 'accent ok bad refused verb expect name number', map: 'cost down now dearer',
@@ -194,6 +236,7 @@ function checkContrast() {
     return ratio < 4.5 ? [`${theme} ${text} on ${ground} ${ratio.toFixed(2)}`] : [];
   }))));
   check('colors that are too faint', faint, []);
+  checkVision({ light, dark: { ...light, ...dark } });
 }
 
 checkGrammar(JSON.parse(fs.readFileSync(process.argv[2], 'utf8').split('\n')[0]).words);
@@ -206,6 +249,7 @@ checkLinks();
 checkFailures();
 checkAreas();
 checkPaths();
+checkStrokes();
 checkContrast();
 console.log(`the parts: ${passed} passed, ${failed} failed`);
 process.exit(failed || !passed ? 1 : 0);

@@ -192,18 +192,36 @@ function showPicture() {
   showLegend();
 }
 
-function showLegend() {
-  const { nodes, edges } = state.graph, routers = [...nodes.values()].filter((node) => node.kind === 'router');
+// A stroke of the picture, as it is drawn there, in the color of the text.
+function strokeSample({ width, dash }) {
+  const of = (name, attributes) => Object.entries(attributes).reduce((made, [key, value]) => (made.setAttribute(key, value), made), document.createElementNS('http://www.w3.org/2000/svg', name));
+  const sample = of('svg', { width: 28, height: 10, viewBox: '0 0 28 10', 'aria-hidden': 'true' });
+  sample.append(of('line', { x1: 1, y1: 5, x2: 27, y2: 5, stroke: 'currentColor', 'stroke-width': width, 'stroke-dasharray': dash.join(' ') || 'none' }));
+  return sample;
+}
+
+// What is drawn in a picture and means something: its signs with their meaning, each only where it is drawn.
+function legendOf({ nodes, edges, mode, paths, impact }) {
+  const routers = [...nodes.values()].filter((node) => node.kind === 'router'), links = [...edges.values()];
   const has = (...roles) => routers.some((node) => ['abr', 'asbr'].every((role) => node.roles.includes(role) === roles.includes(role)));
-  const drawn = [
-    [true, '○ router'], [has('abr'), '□ ABR'], [has('asbr'), '⬡ ASBR'], [has('abr', 'asbr'), '⯃ ABR and ASBR'], [nodes.size > routers.length, '▭ LAN'],
-    [[...edges.values()].some(edgeFailed) || routers.some((node) => node.failed), '┅ failed', 'down'], [routers.some((node) => node.drained), '▨ drained', 'dearer'],
-    [[...edges.values()].some(edgeChanged), '10→40 cost set', 'dearer'], [[...edges.values()].some((edge) => edgeOneWay(edge) && !edge.isNew), '┄ one way', 'down'], [[...edges.values()].some(({ isNew }) => isNew), '━ new', 'better'], [picture.paths.before.length, '┅ path before'], [picture.paths.now.length, '━ path after', 'now'],
+  const signs = [
+    [true, '○ router'], [has('abr'), '□ ABR'], [has('asbr'), '⬡ ASBR'], [has('abr', 'asbr'), '⯃ ABR and ASBR'], [nodes.size > routers.length, '▭ LAN'], [routers.some((node) => node.drained), '▨ drained', 'dearer'],
   ].filter(([is]) => is).map(([, label, kind]) => element('span', { class: kind }, label));
-  if (picture.mode === 'impact' && [...picture.impact.values()].some(({ lost }) => lost)) drawn.push(element('span', {}, element('b', { class: 'badge' }, 'n'), ' routes lost'));
-  if (picture.mode === 'impact' && picture.impact.size) drawn.push(element('span', {}, '◌ share of routes ', element('b', { class: 'lost' }, 'lost '), element('b', { class: 'dearer' }, 'dearer '), element('b', { class: 'moved' }, 'moved')));
-  if (picture.mode === 'sweep') drawn.push(element('span', {}, 'if it fails: ', element('b', { class: 'lost' }, '━ loses routes '), element('b', { class: 'dearer' }, '━ dearer '), element('b', { class: 'moved' }, '━ moved')));
-  $('legend').replaceChildren(...drawn);
+  const sampled = (stroke, label, kind) => element('span', { class: kind }, strokeSample(stroke), ` ${label}`);
+  const lines = [
+    [links.some(edgeFailed) || routers.some((node) => node.failed), LINK_STROKES.failed, 'failed', 'down'], [links.some(edgeChanged), LINK_STROKES.changed, '10→40 cost set', 'dearer'],
+    [links.some((edge) => edgeOneWay(edge) && !edge.isNew), LINK_STROKES.oneWay, 'one way', 'down'], [links.some(({ isNew }) => isNew), LINK_STROKES.isNew, 'new', 'better'],
+    [paths.before.length, PATH_STROKES.before, 'path before'], [paths.now.length, PATH_STROKES.now, 'path after', 'now'],
+  ].filter(([is]) => is).map(([, ...sample]) => sampled(...sample));
+  const kinds = ['lost', 'dearer', 'moved'], changed = [...impact.values()];
+  const rings = mode === 'impact' && changed.length ? [element('span', {}, '◌ share of routes ', kinds.map((kind) => sampled(RING_STROKES[kind], `${kind} `, kind)))] : [];
+  const heat = mode === 'sweep' ? [element('span', {}, 'if it fails: ', kinds.map((kind) => sampled(HEAT_STROKES[kind], `${kind === 'lost' ? 'loses routes' : kind} `, kind)))] : [];
+  const badge = mode === 'impact' && changed.some(({ lost }) => lost) ? [element('span', {}, element('b', { class: 'badge' }, 'n'), ' routes lost')] : [];
+  return [...signs, ...lines, ...badge, ...rings, ...heat];
+}
+
+function showLegend() {
+  $('legend').replaceChildren(...legendOf({ ...state.graph, mode: picture.mode, paths: picture.paths, impact: picture.impact }));
 }
 
 // The number of routes of a router, on the average, of which its ring shows shares.

@@ -222,16 +222,22 @@ function drawMatrix(canvas, { routers, prefixes, at, names, width, height }) {
       const kind = at.get(`${node.id} ${prefix}`)?.change, left = names + x * width, top = y * height;
       context.fillStyle = color(FILLS[kind] ?? 'none-fill');
       if (!node.failed) context.fillRect(left, top, width - (width > 5), height - (height > 5));
-      if (width > 8 && height > 8 && (kind === 'lost' || kind === 'gone' || kind === 'moved')) drawSign(context, kind, left + width / 2 - 0.5, top + height / 2 - 0.5, color('panel'));
+      if (width > 8 && height > 8 && kind && kind !== 'dearer') drawSign(context, kind, left + width / 2 - 0.5, top + height / 2 - 0.5, color('panel'));
     });
   });
 }
 
-// A cross on a cell of a lost route, and a dash on one of a route that moved, so that color is not all.
+// The strokes of a sign on a cell, as from where to where: a cross where a route is lost, a dash where it moved, and a plus where
+// it is better, so that color is not all.
+function signOf(kind) {
+  if (kind === 'lost' || kind === 'gone') return [[-3, -3, 3, 3], [3, -3, -3, 3]];
+  if (kind === 'moved' || kind === 'type') return [[-3.5, 0, 3.5, 0]];
+  return kind === 'cheaper' || kind === 'gained' ? [[-3.5, 0, 3.5, 0], [0, -3.5, 0, 3.5]] : [];
+}
+
 function drawSign(context, kind, x, y, stroke) {
   context.beginPath();
-  if (kind === 'moved') context.moveTo(x - 3.5, y), context.lineTo(x + 3.5, y);
-  else context.moveTo(x - 3, y - 3), context.lineTo(x + 3, y + 3), context.moveTo(x + 3, y - 3), context.lineTo(x - 3, y + 3);
+  for (const [left, top, right, bottom] of signOf(kind)) context.moveTo(x + left, y + top), context.lineTo(x + right, y + bottom);
   context.strokeStyle = stroke;
   context.lineWidth = 1.5;
   context.stroke();
