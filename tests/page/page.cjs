@@ -491,6 +491,68 @@ const menuOf = (tab) => tab.evaluate('[...document.querySelectorAll("#menu:popov
 const offeredIn = (tab) => tab.evaluate('[...document.querySelectorAll("#card .actions button")].map((item) => item.firstChild.textContent)');
 const focused = (tab) => tab.evaluate('document.activeElement.id || document.activeElement.firstChild?.textContent');
 
+// What a router uses, as `routes` answers: with what it was, by neighbor, address and interface, and the longest match of an address.
+async function listRoutes(_browser, tab) {
+  const lines = ['cost 0.0.0.0 r1 r3 40'];
+  await setText(tab, lines);
+  await tab.click('#tab-Routes');
+  const submit = (router, address) => tab.evaluate(`{ const form = document.querySelector('#pane form'); form.elements.router.value = '${router}'; form.elements.address.value = '${address}'; form.requestSubmit(); }`);
+  await submit('r1', '');
+  await tab.settle();
+  const [, { routes }, { changes }] = answers([...lines, 'routes r1', 'changes r1']), was = (prefix) => changes.find((one) => one.prefix === prefix);
+  const cost = (route) => route.kind === 'own' ? `own ${route.metric}` : route.kind === 'ext2' ? `${route.metric} + ${route.cost}` : String(route.cost);
+  const way = ({ kind, router, addresses, out }) => `${kind === 'via' ? `r${router[0]} ${addresses.join('/')}` : kind}${out ? ` out ${out}` : ''}`;
+  const wanted = routes.map((route) => [was(route.prefix)?.change ?? '', route.prefix, route.kind, cost(route), was(route.prefix) ? cost(was(route.prefix).was) : '', route.area ?? '', route.kind === 'own' ? 'its own' : route.ways.map(way).join('')]);
+  const rows = (await rowsOf(tab)).map(([change, ...cells]) => [change.split(' ').at(-1), ...cells.slice(0, 5), cells[5].replace(/ was .*/, '')]);
+  check('routes of a router', routes.length > 4 && changes.length > 0 && JSON.stringify(rows) === JSON.stringify(wanted), JSON.stringify([rows, wanted]));
+  await tab.picture(path.join(folder, 'routes.png'));
+  await submit('r4', '10.1.5.1');
+  await tab.settle();
+  const [, { routes: [match] }] = answers([...lines, 'routes r4 10.1.5.1']), [first] = await rowsOf(tab);
+  check('the longest match', first[1] === match.prefix && (await rowsOf(tab)).length === 2, JSON.stringify(await rowsOf(tab)));
+  await submit('r1', '');
+  await tab.settle();
+}
+
+// Where a line failed, Show lists what was found; and what the page did is taken back by it too.
+async function showWhatFailed(_browser, tab) {
+  const shows = async (line, more = []) => {
+    await setText(tab, ['fail-link 0.0.0.0 r1 r2', line, ...more]);
+    await tab.click('#tab-Elements');
+    await tab.click('#drawn .failed .acts button');
+    await tab.settle();
+    return tab.evaluate('[state.tab, state.shown, document.querySelector("#pane tbody tr.row td")?.textContent ?? ""].join()');
+  };
+  check('what is lost', (await shows('expect lost none', ['expect same'])).startsWith('Changes,2,'), await tab.evaluate('state.tab'));
+  check('of it alone', (await tab.evaluate('[...document.querySelectorAll("#pane .chip[aria-pressed=true]")].map((one) => one.textContent).join()')) === '✕ lost 3');
+  await tab.click('#pane .chip[aria-pressed=true]');
+  check('blackholes', (await shows('expect blackholes none')) === 'Loops,2,blackhole', await tab.evaluate('state.tab'));
+  check('a path', (await shows('expect path r4 8.8.8.8 avoids r3')).startsWith('Path,2,') && (await tab.evaluate('[state.path.from, state.path.to].join()')) === '4.4.4.4,8.8.8.8', await tab.evaluate('state.tab'));
+  await setText(tab, ['fail-router r4']);
+  check('a path from what failed', (await tab.evaluate('document.querySelector("#pane .now h3 span").textContent')) === 'N1 NoRouter r4 (it is in the baseline alone)', await tab.evaluate('document.querySelector("#pane .now h3 span").textContent'));
+  await setText(tab, ['fail-router r4', 'refresh', 'undo 1', 'undo 1', '']);
+  check('what was taken back', (await marksOf(tab)).trim() === 'edit edit back back', await marksOf(tab));
+  const said = await tab.evaluate('[...document.querySelectorAll("#drawn .back")].map((row) => row.querySelector(".said, .answer").firstChild.textContent)');
+  check('and what is left', said[0] === `1 edit taken back, ${wordsOf(answers(['fail-router r4', 'changes'])[1].counts)}` && said[1] === '1 edit taken back, no table is changed', said.join('; '));
+}
+
+// The card of a router lists its links, which are selected there; and what failed is taken back by its name too.
+async function listLinks(_browser, tab) {
+  await setText(tab, ['fail-router r4', '']);
+  await tab.evaluate('state.listsLinks = true, select("2.2.2.2")');
+  const listed = await tab.evaluate('[...document.querySelectorAll("#card details button")].map((one) => [...one.children].map((part) => part.textContent).join(" ")).join(", ")');
+  check('links of a router', listed === 'r1 0.0.0.0 10 / 10, r4 0.0.0.1 10 / ✕', listed);
+  await tab.click('#card details button');
+  check('one of them is selected', (await textOf(tab, '#card h2')) === 'r1 – r2', await textOf(tab, '#card h2'));
+  await tab.evaluate('state.listsLinks = false, select(null), document.getElementById("picture").focus()');
+  await tab.key('/', 191);
+  await tab.type('remove r4');
+  check('what failed is found', (await suggested(tab))[0] === 'Remove line 1: r4 is failed', JSON.stringify(await suggested(tab)));
+  await tab.key('Enter', 13);
+  await tab.settle();
+  check('and its line goes', (await valueOf(tab, 'text')) === '', await valueOf(tab, 'text'));
+}
+
 // The second button of a mouse opens a menu at a router, with what its card offers; it is closed without a line, or adds one.
 async function openMenus(_browser, tab) {
   await setText(tab, ['']);
@@ -676,7 +738,7 @@ async function beQuiet(_browser, tab) {
 
 // What is done, in this order: in a page in which the files are open, and with others beside it.
 const PARTS = [
-  cutByMouse, useKeys, editStudy, showPaths, sweepAll, sweepWithin, foresee, openMenus, openMenusByKeys, drawDashes, typeLines, answerAtLines, endEarly, typeAbove, complete, findAndDo, saveAll, print, printPaths, dropFiles, openCaptures, openSession, refuse,
+  cutByMouse, useKeys, editStudy, showPaths, sweepAll, sweepWithin, foresee, openMenus, openMenusByKeys, listLinks, listRoutes, showWhatFailed, drawDashes, typeLines, answerAtLines, endEarly, typeAbove, complete, findAndDo, saveAll, print, printPaths, dropFiles, openCaptures, openSession, refuse,
   readOut, beQuiet, beForbidden, trySamples, moveThousand, listThousands,
 ];
 

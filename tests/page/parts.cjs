@@ -9,8 +9,8 @@ const vm = require('node:vm');
 const source = path.join(__dirname, '..', '..', 'web', 'src'), read = (name) => fs.readFileSync(path.join(source, name), 'utf8');
 const scripts = ['model.js', 'grammar.js', 'lines.js', 'editor.js', 'files.js', 'card.js', 'sweep.js', 'tabs.js', 'picture.js', 'completion.js'].map(read).join('\n');
 const page = 'const text = (array) => new TextDecoder().decode(array), state = {}, nameOf = (router) => router;';
-const names = ['Grammar', 'lineMoves', 'kindOf', 'topology', 'edgeOneWay', 'edgeFailed', 'sweepLines', 'areasNow', 'sweptRows', 'cutLine', 'shownByDefault', 'pathNamed', 'pathText', 'deletedBy', 'History', 'replyText', 'differenceText', 'LINK_STROKES', 'HEAT_STROKES', 'RING_STROKES', 'PATH_STROKES', 'AREA_DASHES', 'signOf', 'state'];
-const { Grammar, lineMoves, kindOf, topology, edgeOneWay, edgeFailed, sweepLines, areasNow, sweptRows, cutLine, shownByDefault, pathNamed, pathText, deletedBy, History, replyText, differenceText, LINK_STROKES, HEAT_STROKES, RING_STROKES, PATH_STROKES, AREA_DASHES, signOf, state } = vm.runInThisContext(`'use strict'; (() => { ${page} ${scripts}; return { ${names} }; })()`);
+const names = ['Grammar', 'lineMoves', 'kindOf', 'topology', 'edgeOneWay', 'edgeFailed', 'sweepLines', 'areasNow', 'sweptRows', 'cutLine', 'shownByDefault', 'pathNamed', 'pathText', 'deletedBy', 'History', 'replyText', 'differenceText', 'LINK_STROKES', 'HEAT_STROKES', 'RING_STROKES', 'PATH_STROKES', 'AREA_DASHES', 'signOf', 'covers', 'matchesOf', 'stepText', 'state'];
+const { Grammar, lineMoves, kindOf, topology, edgeOneWay, edgeFailed, sweepLines, areasNow, sweptRows, cutLine, shownByDefault, pathNamed, pathText, deletedBy, History, replyText, differenceText, LINK_STROKES, HEAT_STROKES, RING_STROKES, PATH_STROKES, AREA_DASHES, signOf, covers, matchesOf, stepText, state } = vm.runInThisContext(`'use strict'; (() => { ${page} ${scripts}; return { ${names} }; })()`);
 let passed = 0, failed = 0;
 
 function check(name, got, wanted) {
@@ -72,6 +72,8 @@ function checkReplies() {
   check('changes', [said('changes', { counts: { ...counts, lost: 2, gone: 1, type: 1, moved: 3, gained: 1 } }), said('changes', { counts })], ['2 lost · 1 gone · 4 moved · 1 better', 'changes no table']);
   check('loops', [said('loops', { loops: [1], blackholes: [] }), said('microloops', { loops: [1, 2] }), said('microloops', { loops: [] })], ['1 loop, 0 blackholes', '2 may loop while routers change over', 'none may loop']);
   check('an audit', [said('audit', { wrong: 0, findings: [] }), said('audit', { wrong: 0, findings: [1] }), said('audit', { wrong: 3, findings: [1, 2] }), said('audit', { places: [1] })], ['clean', 'clean, 1 note', '3 wrong', '1 place']);
+  const steps = ['undo 1', '@2 back 2', 'redo 1'].map((line) => stepText(line, null)), left = stepText('undo 3', { ...counts, lost: 2 });
+  check('steps back', [...steps, left, stepText('undo 1', counts)], ['1 edit taken back', '2 edits taken back', '1 edit done again', '3 edits taken back, 2 lost', '1 edit taken back, no table is changed']);
   const lsa = (type, rest) => ({ type, id: '10.0.0.1', router: '1.1.1.1', ...rest });
   const written = [
     { change: 'changed', area: '0.0.0.0', lsa: lsa(1), what: 'gone #2 stub 10.4.0.0/16, cost 1' }, { change: 'gone', area: null, lsa: lsa(5, { prefix: '10.90.0.0/16' }), what: 'type 2 metric 20' },
@@ -174,6 +176,13 @@ function checkPaths() {
   check('two ends', written({ router: 'r1', ends: ['delivered', 'loop'], steps: [step('r1', 'r2', 7), step('r2', 'r1', 7)] }), 'R1 → R2 → R1, delivered, loop (7)');
 }
 
+// The routes that packets to an address may take: by the longest prefix that covers it.
+function checkMatches() {
+  check('covered', [['10.0.0.0/8', '10.255.0.1'], ['10.0.0.0/8', '11.0.0.0'], ['0.0.0.0/0', '255.255.255.255'], ['10.1.1.4/30', '10.1.1.7'], ['10.1.1.4/30', '10.1.1.8'], ['192.0.2.1/32', '192.0.2.1'], ['192.0.2.1/32', '192.0.2.2']].map((pair) => covers(...pair)), [true, false, true, true, false, true, false]);
+  const routes = ['0.0.0.0/0', '10.0.0.0/8', '10.1.0.0/16', '10.1.5.0/24', '10.2.0.0/16'].map((prefix) => ({ prefix }));
+  check('the longest match', matchesOf(routes, '10.1.5.9').map(({ prefix }) => prefix), ['10.1.5.0/24', '10.1.0.0/16', '10.0.0.0/8', '0.0.0.0/0']);
+}
+
 // What differs in color differs in dashes or width too, and rims of areas in dashes; signs of the matrix differ.
 function checkStrokes() {
   const alike = (strokes) => {
@@ -250,6 +259,7 @@ checkFailures();
 checkAreas();
 checkPaths();
 checkStrokes();
+checkMatches();
 checkContrast();
 console.log(`the parts: ${passed} passed, ${failed} failed`);
 process.exit(failed || !passed ? 1 : 0);

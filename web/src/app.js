@@ -41,9 +41,9 @@ function switched(label, options, chosen, choose, key) {
 
 const state = {
   dump: null, dumpName: '', names: new Uint8Array(), shown: null, chosen: null, selected: null, tab: 'Changes', kind: null, group: 'router',
-  filter: '', folded: new Set(), path: null, table: null, answers: null, graph: null, audit: null, sweep: null, sweepKind: 'all', sweepArea: null,
+  filter: '', folded: new Set(), path: null, table: null, match: '', answers: null, graph: null, audit: null, sweep: null, sweepKind: 'all', sweepArea: null,
   found: null, asked: 0, done: 0, savedVerdict: null, networks: [], network: null, baseline: null, picksBaseline: false, isStrict: false,
-  stopped: 0, grammar: null, differences: null, foreseen: null, menuFrom: null, audited: 'findings', sort: { column: null, isDown: false }, places: null,
+  stopped: 0, grammar: null, differences: null, foreseen: null, menuFrom: null, listsLinks: false, audited: 'findings', sort: { column: null, isDown: false }, places: null,
 };
 const calculator = new Calculator(parts);
 let timer = null;
@@ -326,10 +326,23 @@ const named = (said) => said.replace(/\b\d+\.\d+\.\d+\.\d+\b(?!\/)/g, (address) 
 function lineActions(number, answer) {
   const mended = mend(editor.lines()[number - 1], answer);
   return [
-    element('button', { type: 'button', 'aria-label': `Show the network after line ${number}`, onclick: () => showAfter(number) }, 'Show'),
+    element('button', { type: 'button', 'aria-label': `Show the network after line ${number}`, onclick: () => showWrong(number, answer) }, 'Show'),
     mended && element('button', { type: 'button', title: mended.line.trim(), onclick: () => editor.change(number, mended.line) }, answer.found ? 'Expect what was found' : `Write ${mended.word}`),
     element('button', { type: 'button', 'aria-label': `Remove line ${number}`, onclick: () => editor.remove(number) }, 'Remove'),
   ].filter(Boolean);
+}
+
+// Where what was found is listed, by what was expected.
+const LISTED = { lost: 'Changes', gone: 'Changes', changes: 'Changes', same: 'Changes', loops: 'Loops', blackholes: 'Loops', microloops: 'Loops', audit: 'Audit', path: 'Path', route: 'Path', 'no-route': 'Path', hops: 'Path' };
+
+// Shows the network after a line that is not accepted, and lists what was found.
+function showWrong(number, { expected }) {
+  const path = pathNamed(editor.lines()[number - 1]);
+  state.tab = LISTED[expected] ?? state.tab;
+  if (state.tab === 'Changes') state.kind = ['lost', 'gone'].includes(expected) ? expected : null;
+  if (state.tab === 'Path' && path) state.path = { from: idOf(path.router), to: path.address };
+  if (state.tab === 'Audit') state.audited = 'findings';
+  showAfter(number);
 }
 
 // A line with what the hint of its refusal names in the place of the word at fault, or one that expects what was found.

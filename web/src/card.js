@@ -113,13 +113,22 @@ function offerButton(action, attributes) {
     key ? element('kbd', { class: lines ? null : 'forecast', 'aria-hidden': 'true' }, `${shift}${key.toUpperCase()}`) : null);
 }
 
+// The links of a router, each with what is at its other end, its area and its costs; one that is chosen is selected.
+function linkList(id) {
+  const { nodes, edges } = state.graph, links = nodes.get(id)?.kind === 'router' ? nodes.get(id).edges : [];
+  if (!links.length || edges.has(id)) return null;
+  const costs = ({ ends }) => [...ends.filter(({ router }) => router === id), ...ends.filter(({ router }) => router !== id)].map(({ now }) => now ?? '✕').join(' / ');
+  const item = (edge) => element('button', { type: 'button', onclick: () => select(edge.key), ...pointAt(edge.key) }, element('b', {}, nameOf(otherEnd(edge, id))), element('span', {}, edge.area), element('span', {}, costs(edge)));
+  return element('details', { open: state.listsLinks, ontoggle: ({ target }) => { state.listsLinks = target.open; } }, element('summary', {}, counted(links.length, 'link')), links.map(item));
+}
+
 function showCard() {
   const id = state.selected;
   $('card').hidden = !isElement(id);
   if ($('card').hidden) return;
   const condition = conditionOf(id), offers = offersOf(id);
   $('card').replaceChildren(element('h2', {}, titleOf(id), condition ? ` (${condition})` : ''), ...aboutElement(id).map((line) => element('div', { class: 'dim' }, line)),
-    element('div', { class: 'actions' }, offers.map((offer) => offerButton(offer, { onclick: () => doOffer(offer) }))), button('×', () => select(null), { class: 'button bare close', 'aria-label': 'Close' }));
+    offers.length ? element('div', { class: 'actions' }, offers.map((offer) => offerButton(offer, { onclick: () => doOffer(offer) }))) : '', linkList(id) ?? '', button('×', () => select(null), { class: 'button bare close', 'aria-label': 'Close' }));
   forecast(offers, $('card'));
 }
 

@@ -1,8 +1,8 @@
 // The study as a text that can be edited. What a line answered lies over the text and is no part of it: a mark before the
 // line, what was found after it or below it, and colors.
 
-const MARKS = { ok: '✓', failed: '✕', refused: '!', fault: '!', reply: '•', edit: '▶', skipped: '', running: '' };
-const SPOKEN = { skipped: 'not run', fault: 'refused', reply: 'answered', edit: 'done' };
+const MARKS = { ok: '✓', failed: '✕', refused: '!', fault: '!', reply: '•', edit: '▶', back: '◀', skipped: '', running: '' };
+const SPOKEN = { skipped: 'not run', fault: 'refused', reply: 'answered', edit: 'done', back: 'done' };
 
 // Where the lines of a text are in another one: those of a common front and of a common end are the same lines.
 function lineMoves(old, lines) {
@@ -154,7 +154,7 @@ class Editor {
     const answer = this.answers.get(number);
     if (this.stopped && number > this.stopped) return hasWords(this.last[number - 1] ?? '') ? 'skipped' : '';
     if (!answer) return this.isRunning && hasWords(this.last[number - 1] ?? '') ? 'running' : '';
-    return answer.answer === 'ok' && EDITS.has(answer.word) ? 'edit' : answer.answer;
+    return answer.answer !== 'ok' ? answer.answer : EDITS.has(answer.word) ? 'edit' : STEPS.has(answer.word) ? 'back' : 'ok';
   }
 
   // The mark of a line: a button that shows the state after it.
@@ -209,6 +209,7 @@ class Editor {
     if (this.stateOf(number) === 'skipped') return 'not run';
     if (!answer) return '';
     if (counts && this.stateOf(number) === 'edit') return countsText(counts) || 'changes no table';
+    if (this.stateOf(number) === 'back') return stepText(this.last[number - 1], counts);
     if (answer.answer === 'reply') return named(replyText(answer, this.on.name));
     if (answer.answer === 'failed' || answer.code) return named(found(answer));
     return named(answer.found ?? '');

@@ -24,7 +24,9 @@ function questions(branch, { path, table, isLarge, isSmall, isChanged, edits }) 
 }
 
 const wordOf = (line) => line.replace(/^\s*@[0-7]\s/, '').trim().split(/\s+/)[0];
-const isEdit = (line) => EDITS.has(wordOf(line)) || ['undo', 'redo', 'back'].includes(wordOf(line));
+// Words that take edits back, or carry them out again.
+const STEPS = new Set(['undo', 'redo', 'back']);
+const isEdit = (line) => EDITS.has(wordOf(line)) || STEPS.has(wordOf(line));
 const branchOf = (line) => /^\s*@([0-7])(\s|$)/.exec(line)?.[1] ?? '0';
 
 // A study with questions before its first line and after line `shown` (0: before all), and with what each edit has changed
@@ -190,6 +192,12 @@ function pathText(path, name) {
 }
 
 const counted = (count, one, several = `${one}s`) => `${count} ${count === 1 ? one : several}`;
+
+// What a line did that takes edits back or carries them out again, and what is changed after it.
+function stepText(line, counts) {
+  const count = Number(/\b(?:undo|redo|back)\s+(\d+)/.exec(line)?.[1] ?? 0), left = counts ? `, ${countsText(counts) || 'no table is changed'}` : '';
+  return `${counted(count, 'edit')} ${wordOf(line) === 'redo' ? 'done again' : 'taken back'}${left}`;
+}
 
 // What the reply to each question says in a line.
 const REPLIES = {

@@ -268,7 +268,7 @@ function pathSide(title, path, other, kind) {
   for (const loop of path?.loops ?? []) rows.push(row([`loop ${loop.map(nameOf).join(', ')}`, '', '', '', '', ''], null, { class: 'end bad' }));
   const routers = new Set((path?.steps ?? []).map(({ router }) => router)).size;
   const end = path?.steps?.[0]?.route;
-  return element('div', { class: `scroll ${kind}` }, element('h3', {}, `${kind === 'before' ? '┅' : '━'} ${title}`, element('span', { class: 'dim' }, path ? `${routers} routers, ${path.ends.join(', ')}` : 'no answer'), element('span', { class: 'grow' }), end ? costText(end) : ''),
+  return element('div', { class: `scroll ${kind}` }, element('h3', {}, `${kind === 'before' ? '┅' : '━'} ${title}`, element('span', { class: 'dim' }, path?.ends ? `${counted(routers, 'router')}, ${path.ends.join(', ')}` : path?.code ? named(found(path)) : 'no answer'), element('span', { class: 'grow' }), end ? costText(end) : ''),
     table(['Router', 'Next', 'Out', 'Cost', 'Left', 'Route'], rows));
 }
 
@@ -315,14 +315,56 @@ function showLoops() {
 
 // ---- routes
 
+// Whether a prefix covers an address.
+function covers(prefix, address) {
+  const [network, length] = prefix.split('/'), size = 2 ** (32 - Number(length));
+  return Math.floor(addressNumber(network) / size) === Math.floor(addressNumber(address) / size);
+}
+
+// The routes that cover an address, the longest prefix first: the first is the one that packets to it take.
+function matchesOf(routes, address) {
+  const lengthOf = ({ prefix }) => Number(prefix.split('/')[1]);
+  return routes.filter(({ prefix }) => covers(prefix, address)).sort((one, other) => lengthOf(other) - lengthOf(one));
+}
+
+// A way with the neighbor, its address, and the router's own interface.
+function wayCell(way) {
+  const [first, address] = way.kind === 'via' ? [nameOf(way.router), way.addresses.join('/')] : [way.kind, way.address];
+  return element('span', { class: 'way' }, element('b', {}, first), address ? ` ${address}` : '', way.out ? element('span', { class: 'dim' }, ` out ${way.out}`) : '');
+}
+
+// The router whose routes are listed, and an address for which the longest match is looked for.
+function routesForm() {
+  const onsubmit = (event) => {
+    event.preventDefault();
+    const [router, address] = ['router', 'address'].map((name) => event.target.elements[name].value.trim());
+    state.match = /^\d+\.\d+\.\d+\.\d+$/.test(address) ? address : '';
+    state.table = idOf(router);
+    calculate(false);
+  };
+  return element('form', { class: 'chips', onsubmit }, element('label', {}, 'Router ', element('input', { name: 'router', list: 'found', size: 12, value: state.table ? nameOf(state.table) : '' })),
+    element('label', {}, ' address ', element('input', { name: 'address', size: 16, placeholder: 'longest match', value: state.match })), element('button', { class: 'button' }, 'Show'));
+}
+
+// A route in the list of those of a router: with what it was where it changed, and why it is so.
+function routeRow(route, was) {
+  const why = button('Why', (event) => { event.stopPropagation(); explain(route.prefix); }, { class: 'button bare', 'aria-label': `Why ${route.prefix} is so` });
+  const ways = route.kind === 'own' ? 'its own' : route.ways.map(wayCell), wasWays = was?.was ? waysText(was.was, nameOf) : '';
+  const cells = [
+    was ? element('b', { class: was.change }, `${SIGNS[was.change]} ${was.change}`) : '', route.prefix, route.kind, costText(route), was ? costText(was.was) : '', route.area ?? '',
+    [ways, wasWays && wasWays !== waysText(route, nameOf) ? element('span', { class: 'dim' }, ` was ${wasWays}`) : ''], why,
+  ];
+  return row(cells, () => showPath(state.table, addressIn(route.prefix)));
+}
+
 function showRoutes() {
-  const { routes } = state.answers.now;
-  if (!state.table || !routes?.routes) return 'Choose a router, and Routes in its card.';
-  const rows = routes.routes.slice(0, MOST_ROWS).map((route) => row([
-    route.prefix, route.kind, costText(route), waysText(route, nameOf), button('Why', (event) => { event.stopPropagation(); explain(route.prefix); }, { class: 'button bare', 'aria-label': `Why ${route.prefix} is so` }),
-  ], () => showPath(state.table, addressIn(route.prefix))));
-  const bar = chips(element('b', {}, `What ${nameOf(state.table)} uses`), element('span', { class: 'dim' }, `${routes.routes.length} prefixes`));
-  return [bar, element('div', { class: 'beside' }, scroll(table(['Prefix', 'Kind', 'Cost', 'Ways', ''], rows)), element('pre', { id: 'why', class: 'scroll', hidden: true }))];
+  const { routes, changes } = state.answers.now, form = routesForm();
+  if (!state.table || !routes?.routes) return [form, 'Choose a router, here or by Routes in its card.'];
+  const was = new Map((changes?.changes ?? []).filter(({ router, prefix }) => router === routes.router && prefix).map((change) => [change.prefix, change]));
+  const listed = state.match ? matchesOf(routes.routes, state.match) : routes.routes;
+  form.append(element('span', { class: 'grow' }), element('span', { class: 'dim' }, state.match ? `${counted(listed.length, 'route')} for ${state.match}, the longest match first` : counted(routes.routes.length, 'route')));
+  const heads = ['Change', 'Prefix', 'Kind', 'Cost', 'Was', 'Area', 'Ways: neighbor, its address, own interface', ''];
+  return [form, element('div', { class: 'beside' }, scroll(table(heads, listed.slice(0, MOST_ROWS).map((route) => routeRow(route, was.get(route.prefix))))), element('pre', { id: 'why', class: 'scroll', hidden: true }))];
 }
 
 // Why a route is what it is, by the rules of RFC 2328.
