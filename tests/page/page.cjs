@@ -640,8 +640,16 @@ async function printPaths(_browser, tab) {
     'r4, 10.0.12.1 | r4 → r2 (20) | r4 → r2 (20) | 1', 'r1, 10.1.5.1 | r1 → r3 → r5 (21) | r1 → r2 → r4 → r5 or r1 → r3 → r5 (31) | 3, 4', 'r1, 10.1.5.1 | r1 → r3 → r5 (21) | r1 → r2 → r4 → r5 (31) | 6',
   ];
   check('named paths', JSON.stringify(rows) === JSON.stringify(wanted), JSON.stringify(rows));
-  await setText(tab, ['expect lost none']);
+  const listed = await tab.evaluate('[...document.querySelectorAll("#report ol li")].map((one) => one.querySelector("span")?.textContent.trim() ?? "")');
+  const [, , route, , , last] = answers(['path r4 10.0.12.1', 'cost 0.0.0.0 r1 r3 20', 'expect route r1 10.1.5.0/24 cost <= 31', 'expect path r1 10.1.5.1 delivered', 'fail-router r3', 'expect path r1 10.1.5.1 avoids r3']);
+  const short = (said) => said.replace(/\b(\d)\.\1\.\1\.\1\b(?!\/)/g, 'r$1');
+  check('lines with their answers', listed[0] === 'r4 → r2 (20)' && listed[2] === `ok, ${short(route.found)}` && listed[5] === `ok, ${short(last.found)}` && listed[6] === 'fault, S6 BadAddress r9 (names have r1)' && listed[7] === '', JSON.stringify(listed));
+  const said = await textOf(tab, '#report');
+  check('the status of the program', said.includes('ends with status 1.') && (await tab.evaluate('verdict().wrong.length')) === 1);
+  await setText(tab, ['# CHG-1  r3 goes', '#', '# at night', '', 'expect lost none', '# no title']);
   await tab.evaluate('makeReport().then(() => 0)');
+  check('a title of the comments', (await tab.evaluate('[...document.querySelectorAll("#report h1, #report h1 + p")].map((one) => one.textContent).join(" | ")')) === 'CHG-1  r3 goes | at night', await textOf(tab, '#report h1'));
+  check('the status where a study holds', (await textOf(tab, '#report')).includes('ends with status 0.'));
   check('no paths where no line names one', !(await tab.evaluate('document.getElementById("report").textContent')).includes('Paths that'));
 }
 

@@ -273,7 +273,10 @@ class Picture {
     if (this.layers.areas) this.drawAreas(context);
     this.drawEdges(context, usual);
     this.drawPaths(context);
-    if (this.layers.costs && usual > 52) for (const edge of this.edges.values()) if (this.isSeen(edge)) this.drawCosts(context, edge);
+    if (this.layers.costs && usual > 52) {
+      const seen = [...this.edges.values()].filter((edge) => this.isSeen(edge));
+      for (const edge of [...seen.filter(edgeChanged), ...seen.filter((edge) => !edgeChanged(edge))]) this.drawCosts(context, edge);
+    }
     this.drawNodes(context, usual);
     if (usual > 26) this.drawNames(context, usual);
     if (usual >= 17) this.drawEnds(context, usual);
@@ -456,14 +459,18 @@ class Picture {
     context.font = this.colors.small;
     context.textAlign = 'center';
     context.textBaseline = 'middle';
+    const placeAt = (t) => [x + (u - x) * t - (v - y) / length * aside, y + (v - y) * t + (u - x) / length * aside];
     for (const [label, t] of labels) {
-      const [px, py] = [x + (u - x) * t - (v - y) / length * aside, y + (v - y) * t + (u - x) / length * aside];
-      if (!label || !this.takes(px, py, label.length * 6.4 + 4, 13)) continue;
+      // What changed is written in any case, farther from its end where there is no room.
+      const isSet = label.includes('→'), offered = isSet ? [t, t + (0.5 - t) / 2, 0.5] : [t];
+      const found = offered.map(placeAt).find((place) => this.takes(...place, label.length * 6.4 + 4, 13)) ?? (isSet ? placeAt(t + (0.5 - t) / 2) : null);
+      if (!label || !found) continue;
+      const [px, py] = found;
       context.lineWidth = 4.5;
       context.lineJoin = 'round';
       context.strokeStyle = this.colors.map;
       context.strokeText(label, px, py);
-      context.fillStyle = label.includes('→') ? this.colors.dearerText : this.colors.cost;
+      context.fillStyle = isSet ? this.colors.dearerText : this.colors.cost;
       context.fillText(label, px, py);
     }
   }
