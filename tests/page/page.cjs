@@ -37,6 +37,9 @@ const valueOf = (tab, id) => tab.evaluate(`document.getElementById(${JSON.string
 const countsOf = (tab) => tab.evaluate('Object.fromEntries([...document.querySelectorAll("[data-count]")].filter((one) => one.dataset.count !== "better").map((one) => [one.dataset.count, Number(one.querySelector("b").textContent)]))');
 const rowsOf = (tab) => tab.evaluate('[...document.querySelectorAll("#pane tbody tr")].map((row) => [...row.cells].map((cell) => cell.textContent))');
 
+// A text with the names of examples/hosts in the place of Router IDs.
+const short = (found) => found.replace(/\b([1-9])\.\1\.\1\.\1\b(?!\/)/g, 'r$1');
+
 // The same as a person reads it off the page, from a document of `changes`.
 function changeRows({ changes }) {
   const cost = (route) => !route ? 'none' : route.kind === 'own' ? `own ${route.metric}` : route.kind === 'ext2' ? `${route.metric} + ${route.cost}` : String(route.cost);
@@ -128,7 +131,7 @@ async function editStudy(_browser, tab) {
   const lines = ['fail-link 0.0.0.0 r1 r2', 'expect lost none', 'nonsense', 'cost 0.0.0.9 r1 1 1', 'expect gone none'];
   await setText(tab, lines);
   const wanted = answers(lines);
-  check('a failed expectation is shown', (await textOf(tab, '#drawn .failed .answer')).includes(wanted[1].found.replace(/\b(\d)\.\1\.\1\.\1\b(?!\/)/g, 'r$1')), await textOf(tab, '#drawn .failed .answer'));
+  check('a failed expectation is shown', (await textOf(tab, '#drawn .failed .answer')).includes(short(wanted[1].found)), await textOf(tab, '#drawn .failed .answer'));
   check('a fault is shown', (await textOf(tab, '#drawn .fault .answer')).includes(`S2 UnknownWord nonsense (${wanted[2].hint})`));
   check('a refusal is shown', (await textOf(tab, '#drawn .refused .answer')).includes('E1 NoArea 0.0.0.9'));
   await tab.evaluate('[...document.querySelectorAll("#drawn button")].find((one) => one.textContent === "Expect what was found").click()');
@@ -213,7 +216,7 @@ async function answerAtLines(_browser, tab) {
   await setText(tab, lines);
   const [, lost, { counts }, avoids] = answers([...lines.slice(0, 2), 'changes', lines[5]]);
   const said = await tab.evaluate('[...document.querySelectorAll("#drawn > div")].map((row) => row.querySelector(".said, .answer")?.firstChild.textContent ?? "")');
-  const short = (found) => found.replace(/\b(\d)\.\1\.\1\.\1\b(?!\/)/g, 'r$1'), wanted = [wordsOf(counts), `found ${short(lost.found)}`, 'r1 → r3 → r5 (21)', '', '5 routers', short(avoids.found), 'inter 21, via r3: 16.2 inter-area', 'S2 UnknownWord nonsense (did you mean table)'];
+  const wanted = [wordsOf(counts), `found ${short(lost.found)}`, 'r1 → r3 → r5 (21)', '', '5 routers', short(avoids.found), 'inter 21, via r3: 16.2 inter-area', 'S2 UnknownWord nonsense (did you mean table)'];
   check('each line has its answer', avoids.answer === 'ok' && JSON.stringify(said) === JSON.stringify(wanted), JSON.stringify([said, wanted]));
   const rows = await tab.evaluate('["#gutter .mark", "#drawn > div", "#text > div"].map((rows) => [...document.querySelectorAll(rows)].map((row) => Math.round(row.getBoundingClientRect().top)).join())');
   check('marks, answers and lines are beside each other', rows[0] === rows[1] && rows[1] === rows[2], rows.join(' and '));
@@ -642,7 +645,6 @@ async function printPaths(_browser, tab) {
   check('named paths', JSON.stringify(rows) === JSON.stringify(wanted), JSON.stringify(rows));
   const listed = await tab.evaluate('[...document.querySelectorAll("#report ol li")].map((one) => one.querySelector("span")?.textContent.trim() ?? "")');
   const [, , route, , , last] = answers(['path r4 10.0.12.1', 'cost 0.0.0.0 r1 r3 20', 'expect route r1 10.1.5.0/24 cost <= 31', 'expect path r1 10.1.5.1 delivered', 'fail-router r3', 'expect path r1 10.1.5.1 avoids r3']);
-  const short = (said) => said.replace(/\b(\d)\.\1\.\1\.\1\b(?!\/)/g, 'r$1');
   check('lines with their answers', listed[0] === 'r4 → r2 (20)' && listed[2] === `ok, ${short(route.found)}` && listed[5] === `ok, ${short(last.found)}` && listed[6] === 'fault, S6 BadAddress r9 (names have r1)' && listed[7] === '', JSON.stringify(listed));
   const said = await textOf(tab, '#report');
   check('the status of the program', said.includes('ends with status 1.') && (await tab.evaluate('verdict().wrong.length')) === 1);
