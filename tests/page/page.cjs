@@ -81,6 +81,17 @@ async function trySamples(browser) {
   await tab.until('document.querySelectorAll("#samples canvas").length === 4 && [...document.querySelectorAll("#samples canvas")].every((one) => one.getContext("2d").getImageData(0, 0, one.width, one.height).data.some((byte) => byte))');
   check('four networks to try', (await tab.evaluate('[...document.querySelectorAll("#samples b")].map((one) => one.textContent).join()')) === 'Two areas,Campus,Region,Carrier');
   await tab.picture(path.join(folder, 'samples.png'));
+  const capture = fs.readFileSync(path.join(root, 'docs', 'CAPTURE.md'), 'utf8').replaceAll(/ROUTER\.(?=txt|walk)|LINK\./g, (word) => word.toLowerCase());
+  for (const way of ['SNMP', 'Capture', 'FRR']) {
+    await tab.click(`[data-recipe=${way}]`);
+    const made = (await textOf(tab, '#recipe pre')).split('\n').filter((line) => !/^(#|for|ospf-capture)/.test(line));
+    check(`a dump by ${way}`, made.length === 1 && capture.includes(made[0].replace(/^do /, '')), made.join());
+  }
+  await tab.click('#recipe .button');
+  await tab.evaluate('document.getElementById("find").focus()');
+  await tab.command('paste');
+  check('its lines are copied', (await valueOf(tab, 'find')).includes('vtysh -c'), await valueOf(tab, 'find'));
+  await tab.evaluate('document.getElementById("find").value = ""');
   for (const [k, [room, name, names, lines]] of networks.entries()) {
     const given = ['--dump', path.join(root, room, `${name}.oswp`), '--names', path.join(root, room, names), '--format', 'json', path.join(root, room, `${lines}.study`)];
     const { summary } = JSON.parse(spawnSync(program, given, { encoding: 'utf8' }).stdout.trim().split('\n').at(-1));

@@ -591,37 +591,18 @@ function listen() {
   splitter('higher', '--results', false);
 }
 
-// The small picture of a network: its links and its nodes.
-async function drawSample(canvas, { dump, names }) {
-  const given = { dump: fromBase64(dump), names: bytes(names), study: bytes('routers\nlinks\nnetworks\n'), json: true, keepGoing: true };
-  const [routers, links, networks] = documentsOf(await calculator.study(given));
-  const { nodes, edges } = topology({ routers, links, networks }, {});
-  const { places } = await calculator.ask('place', placing({ nodes, edges }));
-  const small = new Picture(canvas, { select: () => {} });
-  small.layers = { costs: false, areas: true };
-  small.margins = [26, 22];
-  small.put([...nodes.keys()], places);
-  small.show({ nodes, edges });
-  small.fit();
-}
-
-// The networks that come with the page, each with a small picture.
-function showSamples() {
-  $('samples').replaceChildren(...parts.samples.map(({ title, about, dump, names, study, name }) => element('button', {
-    type: 'button', onclick: () => open(fromBase64(dump), name, { names: bytes(names), study, studyName: name.replace(/\.oswp$/, '.study') }),
-  }, element('canvas', { 'aria-hidden': 'true' }), element('span', {}, element('b', {}, title), element('span', {}, about)))));
-  parts.samples.forEach((sample, k) => drawSample($('samples').querySelectorAll('canvas')[k], sample).catch(() => {}));
-}
-
 function begin() {
   document.documentElement.dataset.theme = matchMedia('(prefers-color-scheme: dark)').matches ? 'dark' : 'light';
   $('module').textContent = parts.hash.slice(0, 12);
   listen();
   showSamples();
+  showRecipe('FRR');
   isBusy(false);
   const saved = JSON.parse($('saved').textContent);
   if (saved) openSaved(saved);
   calculator.opened.then(({ readsCaptures }) => {
-    if (readsCaptures) $('kinds').textContent = 'A dump or a saved session (.oswp), or the captures, SNMP walks and prints of a network; with it, if you like, a hosts file for names and a study.';
+    if (!readsCaptures) return;
+    $('kinds').textContent = 'A dump or a saved session (.oswp), or the captures, SNMP walks and prints of a network; with it, if you like, a hosts file for names and a study.';
+    $('made').textContent = 'The files may be dropped here too, in place of the dump.';
   }, (error) => report(`this browser cannot run the planner: ${error.message} (it needs WebAssembly with memory64: Chromium 133, Firefox 134)`));
 }
