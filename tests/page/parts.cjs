@@ -1,6 +1,6 @@
-// Checks parts of the page that need no browser: the grammar of lines, what becomes of lines as others come and go, what files
-// are, which lines let links fail, and the contrast of the colors. node parts.cjs HELP, where HELP has the reply of ospf-study to `help`, in JSON.
-// The last line is `N passed, M failed`.
+// Checks parts of the page that need no browser: the grammar of lines, how they are typed, what becomes of them as others come and
+// go, what they answer, what files are, which lines let links fail, and how colors and strokes differ. node parts.cjs HELP, where
+// HELP has the reply of ospf-study to `help`, in JSON. The last line is `N passed, M failed`.
 'use strict';
 const fs = require('node:fs');
 const path = require('node:path');
@@ -8,9 +8,11 @@ const vm = require('node:vm');
 
 const source = path.join(__dirname, '..', '..', 'web', 'src'), read = (name) => fs.readFileSync(path.join(source, name), 'utf8');
 const scripts = ['model.js', 'grammar.js', 'lines.js', 'editor.js', 'files.js', 'card.js', 'sweep.js', 'tabs.js', 'picture.js', 'completion.js'].map(read).join('\n');
-const page = 'const text = (array) => new TextDecoder().decode(array), state = {}, nameOf = (router) => router;';
-const names = ['Grammar', 'lineMoves', 'kindOf', 'topology', 'edgeOneWay', 'edgeFailed', 'sweepLines', 'areasNow', 'sweptRows', 'cutLine', 'shownByDefault', 'pathNamed', 'pathText', 'deletedBy', 'History', 'replyText', 'differenceText', 'LINK_STROKES', 'HEAT_STROKES', 'RING_STROKES', 'PATH_STROKES', 'AREA_DASHES', 'signOf', 'covers', 'matchesOf', 'stepText', 'state'];
-const { Grammar, lineMoves, kindOf, topology, edgeOneWay, edgeFailed, sweepLines, areasNow, sweptRows, cutLine, shownByDefault, pathNamed, pathText, deletedBy, History, replyText, differenceText, LINK_STROKES, HEAT_STROKES, RING_STROKES, PATH_STROKES, AREA_DASHES, signOf, covers, matchesOf, stepText, state } = vm.runInThisContext(`'use strict'; (() => { ${page} ${scripts}; return { ${names} }; })()`);
+const page = 'const text = (array) => new TextDecoder().decode(array), state = {}, nameOf = (id) => state.graph?.nodes.get(id)?.label ?? id;';
+// What is checked of these scripts, as if it stood here.
+const names = `Grammar lineMoves deletedBy TextHistory shownByDefault stepText replyText differenceText pathNamed pathText kindOf topology edgeOneWay edgeFailed
+  cutLine actionsOf sweepLines areasNow sweptRows covers matchesOf LINK_STROKES HEAT_STROKES RING_STROKES PATH_STROKES AREA_DASHES signOf state`.split(/\s+/);
+Object.assign(globalThis, vm.runInThisContext(`'use strict'; (() => { ${page} ${scripts}; return { ${names} }; })()`));
 let passed = 0, failed = 0;
 
 function check(name, got, wanted) {
@@ -48,7 +50,7 @@ function checkTyping() {
   check('nothing before the begin, nor after the end', [left('deleteContentBackward', '', 'a'), left('deleteWordBackward', '', 'a'), left('deleteContentForward', 'a', ''), left('deleteSoftLineForward', 'a', '')], ['|a', '|a', 'a|', 'a|']);
   check('a word', [left('deleteWordBackward', 'fail-link r1  ', 'r2'), left('deleteWordForward', 'cut', ' r1 r2'), left('deleteWordBackward', 'a\n', 'b'), left('deleteWordBackward', 'r1 ->', '')], ['fail-link |r2', 'cut| r2', 'a|b', 'r1 |']);
   check('a line', [left('deleteSoftLineBackward', 'a\nb c', 'd\ne'), left('deleteHardLineForward', 'a\nb c', 'd\ne'), left('deleteHardLineForward', 'a', '\nb')], ['a\n|d\ne', 'a\nb c|\ne', 'a|b']);
-  const history = new History('a');
+  const history = new TextHistory('a');
   history.note('ab', 2, true, 1000);
   history.note('abc', 3, true, 1500);
   history.note('abcd', 4, true, 9000);
@@ -140,6 +142,27 @@ function checkFailures() {
   check('of parallel links', failures(networkOf([...LINK, ...PARALLEL]), {}), ['cut 1.1.1.1 2.2.2.2', ...routers]);
   const cuts = [...state.graph.edges.values()].map(cutLine);
   check('one of them', cuts, ['cut 1.1.1.1 2.2.2.2 10.0.0.1', 'cut 1.1.1.1 2.2.2.2 10.0.1.1']);
+}
+
+// What card and menu offer at a router, at links and at a LAN: the lines of each, and its key.
+function checkOffers() {
+  const drained = LINK.map((link) => ({ ...link, cost: 65535 })), lan = { area: '0.0.0.0', prefix: '10.8.0.0/24', address: '10.8.0.2', members: ['1.1.1.1', '2.2.2.2'] };
+  const toLan = { router: '1.1.1.1', area: '0.0.0.0', number: 2, type: 'transit', cost: 5, to: '10.8.0.2', data: '10.8.0.1' };
+  const offered = (before, now, find) => {
+    state.graph = topology(before, now);
+    const { nodes, edges } = state.graph, id = find([...edges.values()])?.key ?? [...nodes.keys()].find(find);
+    return actionsOf(id).map(({ label, key, lines = [] }) => [label, key, ...lines].join(' '));
+  };
+  const isFirst = (id) => id === '1.1.1.1', paths = ['Path from here p', 'Path to here P', 'Routes t'];
+  check('at a router', offered(networkOf(LINK), {}, isFirst), ['Fail f fail-router 1.1.1.1', 'Drain d drain 1.1.1.1', ...paths]);
+  check('at a drained router', offered(networkOf(LINK), { links: { links: drained } }, isFirst), ['Fail f fail-router 1.1.1.1', ...paths]);
+  check('at a failed router', offered(networkOf(LINK), { routers: { routers: [router('2.2.2.2')] } }, isFirst), paths);
+  const first = (found) => Array.isArray(found) ? found[0] : false;
+  check('at a link', offered(networkOf(LINK), {}, first), ['Cut c cut 1.1.1.1 2.2.2.2', 'Set cost 1.1.1.1 to 2.2.2.2 s', 'Set cost 2.2.2.2 to 1.1.1.1 ']);
+  check('at one of parallel links', offered(networkOf([...LINK, ...PARALLEL]), {}, first)[0], 'Cut c cut 1.1.1.1 2.2.2.2 10.0.0.1');
+  check('at a link that is gone', offered(networkOf(LINK), { links: { links: [] } }, first), []);
+  const withLan = { ...networkOf([toLan]), networks: { networks: [lan] } };
+  check('at a LAN, and at a link to it', [offered(withLan, {}, (found) => !Array.isArray(found) && found.startsWith('net')), offered(withLan, {}, first)], [['Fail the LAN f fail-net 0.0.0.0 10.8.0.2'], ['Cut c drop-link 0.0.0.0 1.1.1.1 10.8.0.1', 'Set cost 1.1.1.1 to 10.8.0.0/24 s']]);
 }
 
 // What fails within an area: its links, its LANs, and its routers, of which border routers are in several.
@@ -256,6 +279,7 @@ checkShown();
 checkKinds();
 checkLinks();
 checkFailures();
+checkOffers();
 checkAreas();
 checkPaths();
 checkStrokes();

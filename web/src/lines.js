@@ -17,7 +17,7 @@ function deletedBy(command, text, [start, end]) {
 }
 
 // The steps that a text has taken. Typing that goes on is one of them.
-class History {
+class TextHistory {
   constructor(value = '') {
     this.clear(value);
   }
@@ -52,7 +52,7 @@ class History {
 class LineField {
   // Makes a text field of an element that can be edited.
   constructor(root) {
-    Object.assign(this, { root, history: new History(), range: [0, 0], isTyping: false });
+    Object.assign(this, { root, history: new TextHistory(), range: [0, 0], isTyping: false });
     this.write(['']);
     const value = { get: () => this.lines().join('\n'), set: (text) => this.put(text) };
     const [selectionStart, selectionEnd] = [0, 1].map((k) => ({ get: () => this.selection()[k] }));
