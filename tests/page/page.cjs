@@ -492,6 +492,7 @@ const dashesOf = (tab, one, other) => tab.evaluate(`(() => {
 // Links that changed have dashes in the picture: nothing is shown by colors alone.
 async function drawDashes(_browser, tab) {
   await setText(tab, ['cost 0.0.0.0 r1 r2 40', 'fail-link 0.0.0.1 r2 r4']);
+  await tab.click('#tab-Changes');
   await tab.evaluate('picture.layers = { costs: false, areas: false }, select(null)');
   const [plain, cost, failed] = [await dashesOf(tab, '1.1.1.1', '3.3.3.3'), await dashesOf(tab, '1.1.1.1', '2.2.2.2'), await dashesOf(tab, '2.2.2.2', '4.4.4.4')];
   check('dashes of changed links', plain <= 1 && cost > 3 && failed > cost, [plain, cost, failed].join());
