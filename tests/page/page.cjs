@@ -219,6 +219,13 @@ async function typeLines(_browser, tab) {
   check('what is selected is replaced, by several lines', (await text()) === 'refresh\nexpect lost none\nrefresh\n# one', await text());
   await tab.settle();
   check('and answered', (await marksOf(tab)).trim() === 'edit ok edit', await marksOf(tab));
+  await tab.evaluate('editor.set(""), editor.reveal(1)');
+  await tab.send('Input.imeSetComposition', { text: '# gr', selectionStart: 4, selectionEnd: 4 });
+  await tab.send('Input.imeSetComposition', { text: '# gru', selectionStart: 5, selectionEnd: 5 });
+  await tab.type('# grün');
+  check('what is composed is written', (await text()) === '# grün' && (await caret()) === 6, await text());
+  await tab.key('z', 90, 2);
+  check('and taken back', (await text()) === '', await text());
 }
 
 // What a line answered is at the line: after it or below it, and a click goes to the line that was clicked.
@@ -529,6 +536,22 @@ async function listRoutes(_browser, tab) {
   await tab.settle();
 }
 
+// Flags in the picture, where a router announces more or less; the card says what, and edits that were taken back do not count.
+async function flagAnnouncements(_browser, tab) {
+  await setText(tab, ['drop-external r1 0.0.0.0/0', 'add-stub 0.0.0.1 r5 10.9.0.0/24 1', 'add-stub 0.0.0.1 r4 10.9.1.0/24 1', 'undo 1', '']);
+  await tab.evaluate('showAfter(4)');
+  await tab.settle();
+  const flags = await tab.evaluate('[...picture.nodes.values()].filter(({ flag }) => flag).map(({ label, flag }) => label + flag).join()');
+  check('flags', flags === 'r1−,r5+', flags);
+  await tab.evaluate('select("5.5.5.5")');
+  check('what is announced', (await textOf(tab, '#card .dim')) === 'announces 10.9.0.0/24', await textOf(tab, '#card .dim'));
+  check('flags are explained', (await textOf(tab, '#legend')).includes('⚑ announces more (+) or less (−)'));
+  await tab.evaluate('select(null)');
+  await tab.picture(path.join(folder, 'flags.png'));
+  await setText(tab, ['fail-router r4', 'undo 1', 'fail-net 0.0.0.1 10.1.0.5']);
+  check('what may loop after what was taken back', JSON.stringify(await tab.evaluate('state.answers.now.microloops.loops')) === JSON.stringify(answers(['fail-router r4', 'undo 1', 'fail-net 0.0.0.1 10.1.0.5', 'microloops 1'])[3].loops));
+}
+
 // Where a line failed, Show lists what was found; and what the page did is taken back by it too.
 async function showWhatFailed(_browser, tab) {
   const shows = async (line, more = []) => {
@@ -760,7 +783,7 @@ async function beQuiet(_browser, tab) {
 
 // What is done, in this order: in a page in which the files are open, and with others beside it.
 const PARTS = [
-  cutByMouse, useKeys, editStudy, showPaths, sweepAll, sweepWithin, foresee, openMenus, openMenusByKeys, listLinks, listRoutes, showWhatFailed, drawDashes, typeLines, answerAtLines, endEarly, typeAbove, complete, findAndDo, saveAll, print, printPaths, dropFiles, openCaptures, openSession, refuse,
+  cutByMouse, useKeys, editStudy, showPaths, sweepAll, sweepWithin, foresee, openMenus, openMenusByKeys, listLinks, listRoutes, flagAnnouncements, showWhatFailed, drawDashes, typeLines, answerAtLines, endEarly, typeAbove, complete, findAndDo, saveAll, print, printPaths, dropFiles, openCaptures, openSession, refuse,
   readOut, beQuiet, beForbidden, trySamples, moveThousand, listThousands,
 ];
 

@@ -10,7 +10,7 @@ const source = path.join(__dirname, '..', '..', 'web', 'src'), read = (name) => 
 const scripts = ['model.js', 'grammar.js', 'lines.js', 'editor.js', 'files.js', 'card.js', 'sweep.js', 'tabs.js', 'picture.js', 'completion.js'].map(read).join('\n');
 const page = 'const text = (array) => new TextDecoder().decode(array), state = {}, nameOf = (id) => state.graph?.nodes.get(id)?.label ?? id;';
 // What is checked of these scripts, as if it stood here.
-const names = `Grammar lineMoves deletedBy TextHistory shownByDefault stepText replyText differenceText pathNamed pathText kindOf topology edgeOneWay edgeFailed
+const names = `Grammar doneEdits announcements withQuestions lineMoves deletedBy TextHistory shownByDefault stepText replyText differenceText pathNamed pathText kindOf topology edgeOneWay edgeFailed
   cutLine actionsOf sweepLines areasNow sweptRows covers matchesOf LINK_STROKES HEAT_STROKES RING_STROKES PATH_STROKES AREA_DASHES signOf state`.split(/\s+/);
 Object.assign(globalThis, vm.runInThisContext(`'use strict'; (() => { ${page} ${scripts}; return { ${names} }; })()`));
 let passed = 0, failed = 0;
@@ -82,6 +82,18 @@ function checkReplies() {
     { change: 'new', area: '0.0.0.1', lsa: lsa(4), what: 'metric 3' }, { change: 'new', area: '0.0.0.3', lsa: null, what: 'kind stub' },
   ].map(differenceText);
   check('differences', written, ['area 0.0.0.0 router 1.1.1.1: gone #2 stub 10.4.0.0/16, cost 1', 'gone external 10.90.0.0/16 by 1.1.1.1: type 2 metric 20', 'new area 0.0.0.1 asbr-summary 10.0.0.1 by 1.1.1.1: metric 3', 'new area 0.0.0.3: kind stub']);
+}
+
+// Edits that are done after some lines, and what they let routers announce.
+function checkEdits() {
+  const lines = ['cost 0.0.0.0 r1 r2 1', 'expect lost none', 'fail-router r3 # undo 2', 'undo 1', 'refresh', '@1 refresh', 'undo 2', 'redo 1', 'undo 9'];
+  check('edits that are done', [3, 4, 5, 6, 7, 8, 9].map((count) => doneEdits(lines.slice(0, count), '0').join()), ['1,3', '1', '1,5', '1,5', '', '1', '']);
+  check('of another branch', doneEdits(lines, '1'), [6]);
+  check('a refused one is not', doneEdits(lines.slice(0, 5), '0', new Map([[1, { answer: 'refused' }], [3, { answer: 'ok' }], [5, { answer: 'ok' }]])), [3, 5]);
+  const { text: asked } = withQuestions(['refresh', 'undo 1', 'refresh'], 3, { isSmall: true, isChanged: true });
+  check('microloops of these alone', asked.split('\n').filter((line) => line.includes('microloops')), ['@0 microloops 1']);
+  const said = announcements(['add-stub 0.0.0.1 r5 10.9.0.0/24 1', ' @2 add-external r1 10.8.0.0/16 2 20 0.0.0.0 0', 'drop-external r1 0.0.0.0/0 # why', 'fail-router r1']).map((one) => Object.values(one).join(' '));
+  check('what is announced', said, ['r5 + 10.9.0.0/24', 'r1 + 10.8.0.0/16', 'r1 − 0.0.0.0/0']);
 }
 
 // Where lines go, and the line that takes the place of one that is gone.
@@ -273,6 +285,7 @@ function checkContrast() {
 
 checkGrammar(JSON.parse(fs.readFileSync(process.argv[2], 'utf8').split('\n')[0]).words);
 checkLines();
+checkEdits();
 checkTyping();
 checkReplies();
 checkShown();

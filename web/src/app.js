@@ -43,7 +43,7 @@ const state = {
   dump: null, dumpName: '', names: new Uint8Array(), shown: null, chosen: null, selected: null, tab: 'Changes', kind: null, group: 'router',
   filter: '', folded: new Set(), path: null, table: null, match: '', answers: null, graph: null, audit: null, sweep: null, sweepKind: 'all', sweepArea: null,
   found: null, asked: 0, done: 0, savedVerdict: null, networks: [], network: null, baseline: null, picksBaseline: false, isStrict: false,
-  stopped: 0, grammar: null, differences: null, foreseen: null, menuFrom: null, listsLinks: false, audited: 'findings', sort: { column: null, isDown: false }, places: null,
+  stopped: 0, grammar: null, differences: null, foreseen: null, announced: [], menuFrom: null, listsLinks: false, audited: 'findings', sort: { column: null, isDown: false }, places: null,
 };
 const calculator = new Calculator(parts);
 let timer = null;
@@ -135,6 +135,11 @@ async function calculate(isNew) {
   Object.assign(state, { answers, shown, stopped, differences: null });
   state.graph = topology(answers.before, answers.now);
   spreadParallels(state.graph.edges);
+  state.announced = announcements(shownEdits().map((number) => lines[number - 1]));
+  for (const { router, sign } of state.announced) {
+    const node = state.graph.nodes.get(idOf(router));
+    if (node) node.flag = !node.flag || node.flag === sign ? sign : '±';
+  }
   if (isNew || !picture.places.size) await place();
   if (turn !== state.asked) return;
   show();
@@ -205,7 +210,7 @@ function legendOf({ nodes, edges, mode, paths, impact }) {
   const routers = [...nodes.values()].filter((node) => node.kind === 'router'), links = [...edges.values()];
   const has = (...roles) => routers.some((node) => ['abr', 'asbr'].every((role) => node.roles.includes(role) === roles.includes(role)));
   const signs = [
-    [true, '○ router'], [has('abr'), '□ ABR'], [has('asbr'), '⬡ ASBR'], [has('abr', 'asbr'), '⯃ ABR and ASBR'], [nodes.size > routers.length, '▭ LAN'], [routers.some((node) => node.drained), '▨ drained', 'dearer'],
+    [true, '○ router'], [has('abr'), '□ ABR'], [has('asbr'), '⬡ ASBR'], [has('abr', 'asbr'), '⯃ ABR and ASBR'], [nodes.size > routers.length, '▭ LAN'], [routers.some((node) => node.drained), '▨ drained', 'dearer'], [routers.some((node) => node.flag), '⚑ announces more (+) or less (−)'],
   ].filter(([is]) => is).map(([, label, kind]) => element('span', { class: kind }, label));
   const sampled = (stroke, label, kind) => element('span', { class: kind }, strokeSample(stroke), ` ${label}`);
   const lines = [

@@ -87,7 +87,7 @@ function aboutElement(id) {
   const { nodes, edges } = state.graph, edge = edges.get(id), node = nodes.get(id);
   if (edge) return edge.ends.map((end) => `${nameOf(end.router)} link ${end.number}, ${end.data}, cost ${end.was}${end.now === null ? ', gone' : end.now !== end.was ? `, now ${end.now}` : ''}`);
   if (node.kind === 'network') return [`Designated Router's address ${node.address}`, `members ${node.members.map(nameOf).join(', ')}`];
-  return [`Router ID ${node.id}`, `area${node.areas.length > 1 ? 's' : ''} ${node.areas.join(', ')}`, node.roles.map((role) => role.toUpperCase()).join(' and ')].filter(Boolean);
+  return [...state.announced.filter(({ router }) => idOf(router) === id).map(({ sign, prefix }) => `${sign === '+' ? 'announces' : 'does not announce'} ${prefix}`), `Router ID ${node.id}`, `area${node.areas.length > 1 ? 's' : ''} ${node.areas.join(', ')}`, node.roles.map((role) => role.toUpperCase()).join(' and ')].filter(Boolean);
 }
 
 // What has become of an element: `failed`, `drained`, or nothing.
@@ -132,11 +132,18 @@ function showCard() {
   forecast(offers, $('card'));
 }
 
-// The line of the study that names an element, the last one before the shown line.
+// The lines whose edits are done where the network is shown.
+function shownEdits() {
+  const lines = editor.lines().slice(0, state.shown);
+  return doneEdits(lines, branchOf(lines.at(-1) ?? ''), state.answers.study);
+}
+
+// The line of the study that names an element, the last one whose edit is done; 0 where there is none.
 function lineOf(id) {
   const { nodes, edges } = state.graph, edge = edges.get(id);
   const names = (edge ? [edge.a, edge.b] : [id]).flatMap((one) => [one, nodes.get(one)?.label, nodes.get(one)?.address]).filter(Boolean);
-  return editor.lines().slice(0, state.shown).findLastIndex((line) => EDITS.has(wordOf(line)) && line.split(/\s+/).some((word) => names.includes(word))) + 1;
+  const lines = editor.lines();
+  return shownEdits().findLast((number) => lines[number - 1].split(/\s+/).some((word) => names.includes(word))) ?? 0;
 }
 
 // Says beside each action in the card or the menu what its lines would change, against what the shown line has left.

@@ -65,7 +65,7 @@ class LineField {
   listen() {
     const { root } = this;
     root.addEventListener('beforeinput', (event) => this.onInput(event));
-    root.addEventListener('input', () => this.read());
+    root.addEventListener('input', ({ isComposing }) => this.read(isComposing));
     root.addEventListener('compositionend', () => this.read());
     root.addEventListener('focus', () => document.getSelection().setBaseAndExtent(...this.placeOf(this.range[0]), ...this.placeOf(this.range[1])));
     root.addEventListener('dragstart', (event) => event.preventDefault());
@@ -96,16 +96,16 @@ class LineField {
   }
 
   // Reads what the browser wrote by itself, as a composition does, and brings it into blocks again.
-  read() {
+  read(isComposing = false) {
     const { root } = this, isPlain = [...root.childNodes].every((block) => block.nodeName === 'DIV' && block.childNodes.length === 1 && !block.firstChild.firstChild && !block.textContent.includes('\n'));
-    if (!isPlain) {
+    if (!isPlain && !isComposing) {
       const [start, end] = this.selection();
       this.write([...root.childNodes].flatMap((block) => block.nodeName === 'BR' ? [''] : block.textContent.split('\n')));
       if (!root.childNodes.length) this.write(['']);
       this.select(start, end);
     }
     this.range = this.selection();
-    this.history.note(root.value, this.range[1], this.isTyping, performance.now());
+    this.history.note(root.value, this.range[1], this.isTyping || isComposing, performance.now());
     this.isTyping = false;
   }
 

@@ -29,6 +29,30 @@ const STEPS = new Set(['undo', 'redo', 'back']);
 const isEdit = (line) => EDITS.has(wordOf(line)) || STEPS.has(wordOf(line));
 const branchOf = (line) => /^\s*@([0-7])(\s|$)/.exec(line)?.[1] ?? '0';
 
+// The lines of a branch whose edits are done after the last of these lines: what was taken back is not among them. Without answers
+// each line counts as accepted.
+function doneEdits(lines, branch, answers = null) {
+  const done = [], undone = [];
+  const step = (from, to, line) => {
+    for (let left = Number(line.trim().split(/\s+/).at(-1)); left > 0 && from.length; left--) to.push(from.pop());
+  };
+  lines.map((line) => line.replace(/#.*/, '')).forEach((line, k) => {
+    const word = wordOf(line);
+    if (branchOf(line) !== branch || (answers && answers.get(k + 1)?.answer !== 'ok')) return;
+    if (EDITS.has(word)) done.push(k + 1), undone.length = 0;
+    else if (word === 'redo') step(undone, done, line);
+    else if (STEPS.has(word)) step(done, undone, line);
+  });
+  return done;
+}
+
+// The prefixes that edits let routers announce, or not any more, by the words of their lines: the router, `+` or `−`, and the prefix.
+function announcements(lines) {
+  const words = lines.map((line) => line.replace(/#.*/, '').replace(/^\s*@[0-7]\s/, '').trim().split(/\s+/));
+  const at = { 'add-stub': [2, '+', 3], 'add-external': [1, '+', 2], 'drop-external': [1, '−', 2] };
+  return words.filter(([word]) => at[word]).map((line) => ({ router: line[at[line[0]][0]], sign: at[line[0]][1], prefix: line[at[line[0]][2]] }));
+}
+
 // A study with questions before its first line and after line `shown` (0: before all), and with what each edit has changed
 // where `counts` is so. Returns the text, and for each of its lines what it is: of the study by its number, or a question.
 function withQuestions(lines, shown, { counts = false, ...asked }) {
@@ -39,7 +63,7 @@ function withQuestions(lines, shown, { counts = false, ...asked }) {
     ...(counts && isEdit(line) ? [{ line: `@${branchOf(line)} changes`, part: 'counts', number }] : []),
   ];
   const branch = shown ? branchOf(lines[shown - 1]) : '0';
-  const edits = lines.slice(0, shown).filter((line) => EDITS.has(wordOf(line)) && branchOf(line) === branch).length;
+  const edits = doneEdits(lines.slice(0, shown), branch).length;
   const all = [
     ...before.map((line) => ({ line, part: 'before' })),
     ...lines.slice(0, shown).flatMap((line, k) => studied(line, k + 1)),

@@ -549,6 +549,7 @@ class Picture {
       context.stroke();
       context.setLineDash([]);
       if (node.drained) this.hatch(context, node, x, y, radius);
+      if (node.flag) this.drawFlag(context, node.flag, x - radius * 0.9, y - radius * 0.7);
       if (node.failed) this.drawCross(context, x + radius * 0.95, y - radius * 0.95, 6.4);
       if (counts) this.drawImpact(context, counts, x, y, radius * 1.3 + 3);
       if (counts && counts.lost) this.drawBadge(context, String(counts.lost), x + radius * 1.25, y - radius * 1.25, this.colors.lost);
@@ -618,6 +619,22 @@ class Picture {
     context.stroke();
     context.fillStyle = this.colors.map;
     context.fillText(label, x, y + 0.5);
+  }
+
+  // A flag at a router that announces more than it did, or less: with a plus or a minus on it.
+  drawFlag(context, sign, x, y) {
+    context.beginPath();
+    context.moveTo(x, y), context.lineTo(x, y - 17), context.lineTo(x - 17, y - 17), context.lineTo(x - 13, y - 11.5), context.lineTo(x - 17, y - 6), context.lineTo(x, y - 6);
+    context.fillStyle = this.colors.map;
+    context.fill();
+    context.strokeStyle = this.colors.text;
+    context.lineWidth = 1.3;
+    context.stroke();
+    context.font = this.colors.font;
+    context.textAlign = 'center';
+    context.textBaseline = 'middle';
+    context.fillStyle = this.colors.text;
+    context.fillText(sign, x - 6, y - 11);
   }
 
   // How the shown path ends: in red where it does not arrive.
