@@ -545,6 +545,8 @@ async function flagAnnouncements(_browser, tab) {
   check('flags', flags === 'r1−,r5+', flags);
   await tab.evaluate('select("5.5.5.5")');
   check('what is announced', (await textOf(tab, '#card .dim')) === 'announces 10.9.0.0/24', await textOf(tab, '#card .dim'));
+  const ring = await tab.evaluate('[...document.querySelectorAll("#legend span span")].map((one) => one.textContent.trim()).join()');
+  check('parts of rings that are drawn are explained', ring === 'lost,better', ring);
   check('flags are explained', (await textOf(tab, '#legend')).includes('⚑ announces more (+) or less (−)'));
   await tab.evaluate('select(null)');
   await tab.picture(path.join(folder, 'flags.png'));

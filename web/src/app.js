@@ -218,8 +218,8 @@ function legendOf({ nodes, edges, mode, paths, impact }) {
     [links.some((edge) => edgeOneWay(edge) && !edge.isNew), LINK_STROKES.oneWay, 'one way', 'down'], [links.some(({ isNew }) => isNew), LINK_STROKES.isNew, 'new', 'better'],
     [paths.before.length, PATH_STROKES.before, 'path before'], [paths.now.length, PATH_STROKES.now, 'path after', 'now'],
   ].filter(([is]) => is).map(([, ...sample]) => sampled(...sample));
-  const kinds = ['lost', 'dearer', 'moved'], changed = [...impact.values()];
-  const rings = mode === 'impact' && changed.length ? [element('span', {}, '◌ share of routes ', kinds.map((kind) => sampled(RING_STROKES[kind], `${kind} `, kind)))] : [];
+  const kinds = ['lost', 'dearer', 'moved'], changed = [...impact.values()], parts = Object.keys(RING_STROKES).filter((kind) => changed.some((counts) => ringParts(counts)[kind]));
+  const rings = mode === 'impact' && parts.length ? [element('span', {}, '◌ share of routes ', parts.map((kind) => sampled(RING_STROKES[kind], `${kind} `, kind)))] : [];
   const heat = mode === 'sweep' ? [element('span', {}, 'if it fails: ', kinds.map((kind) => sampled(HEAT_STROKES[kind], `${kind === 'lost' ? 'loses routes' : kind} `, kind)))] : [];
   const badge = mode === 'impact' && changed.some(({ lost }) => lost) ? [element('span', {}, element('b', { class: 'badge' }, 'n'), ' routes lost')] : [];
   return [...signs, ...lines, ...badge, ...rings, ...heat];

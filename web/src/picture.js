@@ -588,13 +588,12 @@ class Picture {
   drawImpact(context, counts, x, y, radius) {
     if (!this.routeCount) return;
     let angle = -Math.PI / 2;
-    const parts = { lost: counts.lost + counts.gone, dearer: counts.dearer, moved: counts.moved + counts.type, better: counts.gained + counts.cheaper };
     context.lineWidth = 3;
     context.beginPath();
     context.arc(x, y, radius, 0, 2 * Math.PI);
     context.strokeStyle = this.colors.none;
     context.stroke();
-    for (const [kind, count] of Object.entries(parts)) {
+    for (const [kind, count] of Object.entries(ringParts(counts))) {
       if (!count) continue;
       const part = Math.max(0.3, 2 * Math.PI * Math.min(1, count / this.routeCount));
       context.beginPath();
@@ -705,6 +704,9 @@ function outline(context, node, x, y, radius) {
   }
   context.closePath();
 }
+
+// The parts of the ring of a router: how many of its routes are lost, cost more, moved, or are better.
+const ringParts = (counts) => ({ lost: counts.lost + counts.gone, dearer: counts.dearer, moved: counts.moved + counts.type, better: counts.gained + counts.cheaper });
 
 // What became of a router's routes at worst.
 const worst = (counts) => counts.lost + counts.gone ? 'lost' : counts.dearer ? 'dearer' : 'moved';
