@@ -245,12 +245,29 @@ async function answerAtLines(_browser, tab) {
   await tab.until('document.getElementById("spoken").textContent');
   check('the answer of the line is read out', (await textOf(tab, '#spoken')) === `line 6: ok, ${wanted[5]}`, await textOf(tab, '#spoken'));
   const { differences } = answers(lines.slice(0, 1), '--verbose')[0];
-  await tab.click('#drawn [data-more="1"]');
+  await tab.click('#drawn [aria-expanded]');
   const listed = await tab.evaluate('[...document.querySelectorAll("#drawn li")].map((one) => one.textContent)');
   check('what an edit changed is listed', listed.length === 2 && listed.length === differences.length && listed.every((one, k) => one === `area 0.0.0.0 router r${k + 1}: ${short(differences[k].what)}`), listed.join('; '));
   await tab.picture(path.join(folder, 'answers.png'));
-  await tab.click('#drawn [data-more="1"]');
+  await tab.click('#drawn [aria-expanded]');
   check('and closed', (await tab.evaluate('document.querySelectorAll("#drawn li").length')) === 0);
+}
+
+// Of lines that look as they did, what is drawn stays, and its buttons are about the line where it now is.
+async function keepRows(_browser, tab) {
+  await setText(tab, ['refresh', 'expect not same', 'expect lost none', 'nonsense']);
+  await tab.evaluate('[...document.querySelectorAll("#drawn > div")].forEach((row, k) => { row.dataset.was = k; })');
+  await tab.evaluate('editor.reveal(1)');
+  await tab.type('# above\n');
+  await tab.settle();
+  const was = await tab.evaluate('[...document.querySelectorAll("#drawn > div")].map((row) => row.dataset.was ?? "new").join()');
+  check('rows stay', was.startsWith('new,') && was.split(',').filter((one) => one === 'new').length <= 3 && was.endsWith('3'), was);
+  check('and have their numbers', (await tab.evaluate('[...document.querySelectorAll("#gutter .mark")].map((mark) => `${mark.textContent.at(-1)}${mark.ariaLabel.split(":")[0]}`).join()')) === '1line 1,2line 2,3line 3,4line 4,5line 5');
+  await tab.evaluate('[...document.querySelectorAll("#drawn .failed button")].find((one) => one.textContent === "Remove").click()');
+  await tab.settle();
+  check('a button of a row that moved', (await valueOf(tab, 'text')) === '# above\nrefresh\nexpect lost none\nnonsense', await valueOf(tab, 'text'));
+  const tops = await tab.evaluate('["#gutter .mark", "#drawn > div", "#text > div"].map((rows) => [...document.querySelectorAll(rows)].map((row) => Math.round(row.getBoundingClientRect().top)).join())');
+  check('rows are beside their lines', tops[0] === tops[1] && tops[1] === tops[2], tops.join(' and '));
 }
 
 // The shown line stays with its text while lines come above it, which keep their answers.
@@ -785,7 +802,7 @@ async function beQuiet(_browser, tab) {
 
 // What is done, in this order: in a page in which the files are open, and with others beside it.
 const PARTS = [
-  cutByMouse, useKeys, editStudy, showPaths, sweepAll, sweepWithin, foresee, openMenus, openMenusByKeys, listLinks, listRoutes, flagAnnouncements, showWhatFailed, drawDashes, typeLines, answerAtLines, endEarly, typeAbove, complete, findAndDo, saveAll, print, printPaths, dropFiles, openCaptures, openSession, refuse,
+  cutByMouse, useKeys, editStudy, showPaths, sweepAll, sweepWithin, foresee, openMenus, openMenusByKeys, listLinks, listRoutes, flagAnnouncements, showWhatFailed, drawDashes, typeLines, answerAtLines, keepRows, endEarly, typeAbove, complete, findAndDo, saveAll, print, printPaths, dropFiles, openCaptures, openSession, refuse,
   readOut, beQuiet, beForbidden, trySamples, moveThousand, listThousands,
 ];
 

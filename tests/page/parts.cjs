@@ -10,7 +10,7 @@ const source = path.join(__dirname, '..', '..', 'web', 'src'), read = (name) => 
 const scripts = ['model.js', 'grammar.js', 'lines.js', 'editor.js', 'files.js', 'card.js', 'sweep.js', 'tabs.js', 'picture.js', 'completion.js'].map(read).join('\n');
 const page = 'const text = (array) => new TextDecoder().decode(array), state = {}, nameOf = (id) => state.graph?.nodes.get(id)?.label ?? id;';
 // What is checked of these scripts, as if it stood here.
-const names = `Grammar doneEdits announcements withQuestions lineMoves deletedBy TextHistory shownByDefault stepText replyText differenceText pathNamed pathText kindOf topology edgeOneWay edgeFailed
+const names = `Grammar doneEdits announcements withQuestions changedRows lineMoves deletedBy TextHistory shownByDefault stepText replyText differenceText pathNamed pathText kindOf topology edgeOneWay edgeFailed
   cutLine actionsOf sweepLines areasNow sweptRows covers matchesOf LINK_STROKES HEAT_STROKES RING_STROKES PATH_STROKES AREA_DASHES signOf state`.split(/\s+/);
 Object.assign(globalThis, vm.runInThisContext(`'use strict'; (() => { ${page} ${scripts}; return { ${names} }; })()`));
 let passed = 0, failed = 0;
@@ -36,6 +36,13 @@ function checkGrammar(help) {
   const whole = ['refresh', 'undo 1', 'cut r1 r2', 'cut r1 r2 10.0.0.1', 'set-cost r1 r2 5 both', 'expect lost none', 'expect lost only 10.0.0.0/8 10.1.0.0/16', 'expect path r1 10.1.5.1 avoids r2', 'links', 'links r1'];
   const parts = ['undo', 'cut r1', 'set-cost r1 r2', 'expect', 'expect lost', 'expect lost only', 'expect path r1 10.1.5.1 via', 'cost 0.0.0.0 r1 r2', 'refresh 1', 'nonsense'];
   check('whole lines', [...whole, ...parts].map((line) => grammar.isWhole(line.split(' '))), [...whole.map(() => true), ...parts.map(() => false)]);
+}
+
+// The rows that are drawn again: where, in the place of how many, and how many.
+function checkRows() {
+  const rows = (old, forms) => changedRows([...old].map((form) => [form]), [...forms].map((form) => [form]));
+  check('a row that changed', [rows('abc', 'axc'), rows('abc', 'abc'), rows('ab', 'xy')], [[[1, 1, 1]], [], [[0, 1, 1], [1, 1, 1]]]);
+  check('rows that come and go', [rows('abc', 'abxc'), rows('abc', 'bc'), rows('', 'ab'), rows('aab', 'ab'), rows('abcd', 'axd')], [[[2, 0, 1]], [[0, 1, 0]], [[0, 0, 2]], [[1, 1, 0]], [[1, 2, 1]]]);
 }
 
 // What commands of deletion take, and the steps that a text took.
@@ -286,6 +293,7 @@ function checkContrast() {
 checkGrammar(JSON.parse(fs.readFileSync(process.argv[2], 'utf8').split('\n')[0]).words);
 checkLines();
 checkEdits();
+checkRows();
 checkTyping();
 checkReplies();
 checkShown();

@@ -57,7 +57,7 @@ const editor = new Editor({ room: $('editor'), text: $('text'), gutter: $('gutte
   show: (number) => showAfter(number),
   leave: () => $('picture').focus(),
   name: (router) => nameOf(router),
-  actions: (number, answer) => lineActions(number, answer),
+  actions: (at, line, answer) => lineActions(at, line, answer),
   speak: (said) => { $('spoken').textContent = said; },
 });
 
@@ -327,13 +327,13 @@ const outcomeText = () => `${$('verdict').textContent}: ${$('held').textContent}
 // A text with names in the place of Router IDs, which documents have.
 const named = (said) => said.replace(/\b\d+\.\d+\.\d+\.\d+\b(?!\/)/g, (address) => state.graph?.nodes.get(address)?.label ?? address);
 
-// What can be done about a line that is not accepted.
-function lineActions(number, answer) {
-  const mended = mend(editor.lines()[number - 1], answer);
+// What can be done about a line that is not accepted; `at` gives its number.
+function lineActions(at, line, answer) {
+  const mended = mend(line, answer), act = (label, onclick, attributes = {}) => element('button', { type: 'button', onclick, ...attributes }, label);
   return [
-    element('button', { type: 'button', 'aria-label': `Show the network after line ${number}`, onclick: () => showWrong(number, answer) }, 'Show'),
-    mended && element('button', { type: 'button', title: mended.line.trim(), onclick: () => editor.change(number, mended.line) }, answer.found ? 'Expect what was found' : `Write ${mended.word}`),
-    element('button', { type: 'button', 'aria-label': `Remove line ${number}`, onclick: () => editor.remove(number) }, 'Remove'),
+    act('Show', () => showWrong(at(), answer), { title: 'The network after this line' }),
+    mended && act(answer.found ? 'Expect what was found' : `Write ${mended.word}`, () => editor.change(at(), mended.line), { title: mended.line.trim() }),
+    act('Remove', () => editor.remove(at()), { title: 'Removes this line' }),
   ].filter(Boolean);
 }
 

@@ -14,6 +14,24 @@ function lineMoves(old, lines) {
   return { moved, nearest: (number) => moved(number) ?? Math.min(number, lines.length - end) };
 }
 
+// Which rows are drawn again as their forms change: at which of them, in the place of how many, and how many.
+function changedRows(old, forms) {
+  const isSame = (one, other) => one.every((part, k) => part === other[k]);
+  if (old.length === forms.length) return forms.flatMap((form, k) => isSame(form, old[k]) ? [] : [[k, 1, 1]]);
+  const most = Math.min(old.length, forms.length);
+  let front = 0, end = 0;
+  while (front < most && isSame(old[front], forms[front])) front++;
+  while (end < most - front && isSame(old[old.length - 1 - end], forms[forms.length - 1 - end])) end++;
+  return [[front, old.length - front - end, forms.length - front - end]];
+}
+
+// Puts children in the place of some of an element.
+function putChildren(parent, at, count, children) {
+  [...parent.children].slice(at, at + count).forEach((child) => child.remove());
+  const next = parent.children[at] ?? null;
+  children.forEach((child) => parent.insertBefore(child, next));
+}
+
 const hasWords = (line) => /^\s*[^\s#]/.test(line);
 
 // How many of the differences that an edit made are listed at its line.
@@ -136,18 +154,42 @@ class Editor {
   // Answers by their lines, and what comes with them: the line after which the network is shown, what edits changed, the names
   // of routers, and the line at which the study ended, or 0.
   show(answers, { shown, counts, names, stopped }) {
-    Object.assign(this, { answers, shown, counts, names, stopped, isRunning: false });
+    const isSame = names.size === this.names.size && [...names].every((name) => this.names.has(name));
+    Object.assign(this, { answers, shown, counts, names: isSame ? this.names : names, stopped, isRunning: false });
     this.draw();
   }
 
+  // Draws what changed: of lines that look as they did, what is there stays.
   draw() {
-    const lines = this.lines(), { room, gutter, drawn, text } = this;
+    const lines = this.lines(), { room, gutter, drawn } = this;
     this.width = room.clientWidth - gutter.clientWidth;
     room.style.setProperty('--room', `${this.width}px`);
-    gutter.replaceChildren(...lines.map((line, k) => this.mark(k + 1, line)));
-    drawn.replaceChildren(...lines.map((line, k) => this.drawLine(k + 1, line)));
-    const heights = [...drawn.children].map((row) => `${row.offsetHeight}px`);
-    for (const blocks of [gutter.children, text.children]) heights.forEach((height, k) => { blocks[k].style.height = height; });
+    const forms = lines.map((line, k) => this.formOf(k + 1, line)), old = this.forms ?? [], fresh = [];
+    this.forms = forms;
+    for (const [at, count, put] of changedRows(old, forms)) {
+      const rows = lines.slice(at, at + put).map((line, k) => this.drawLine(at + k + 1, line));
+      putChildren(drawn, at, count, rows);
+      putChildren(gutter, at, count, lines.slice(at, at + put).map((line, k) => this.mark(at + k + 1, line)));
+      fresh.push(...rows);
+    }
+    if (old.length !== forms.length) [...gutter.children].forEach((mark, k) => this.number(mark, k + 1));
+    this.align(new Map(fresh.map((row) => [row, `${row.offsetHeight}px`])));
+  }
+
+  // Gives marks and lines of the text the heights of what is drawn at them; `fresh` has those of rows that are new.
+  align(fresh) {
+    const { gutter, drawn, text } = this, rows = [...drawn.children], marks = [...gutter.children], blocks = [...text.children];
+    rows.forEach((row, k) => {
+      const height = fresh.get(row) ?? row.dataset.height;
+      row.dataset.height = height;
+      for (const one of [marks[k], blocks[k]]) if (one.style.height !== height) one.style.height = height;
+    });
+  }
+
+  // All on which it depends how a line looks, but for its number.
+  formOf(number, line) {
+    const answer = this.answers.get(number), isOpen = this.opened.has(number), place = Math.sign(number - this.shown);
+    return [line, this.stateOf(number), this.said(number), answer?.at, answer?.differences?.length, isOpen && answer, place, this.shown > 0, this.width, this.names];
   }
 
   stateOf(number) {
@@ -159,17 +201,19 @@ class Editor {
 
   // The mark of a line: a button that shows the state after it.
   mark(number, line) {
-    const state = this.stateOf(number), mark = document.createElement('button');
-    mark.type = 'button';
-    mark.dataset.line = number;
-    mark.tabIndex = -1;
-    mark.className = `mark ${state}${number === this.shown ? ' shown' : number < this.shown ? ' before' : ''}`;
+    const state = this.stateOf(number), mark = element('button', { type: 'button', tabindex: -1, class: `mark ${state}${number === this.shown ? ' shown' : number < this.shown ? ' before' : ''}` });
     mark.title = [this.said(number), 'Show the network after this line (Ctrl Enter)'].filter(Boolean).join('\n');
-    mark.setAttribute('aria-label', `line ${number}: ${line}${state ? `, ${SPOKEN[state] ?? state}` : ''}`);
-    const number_ = document.createElement('span');
-    number_.textContent = number;
-    mark.append(Object.assign(document.createElement('i'), { textContent: MARKS[state] ?? '' }), number_);
+    mark.dataset.about = `${line}${state ? `, ${SPOKEN[state] ?? state}` : ''}`;
+    mark.append(element('i', {}, MARKS[state] ?? ''), element('span'));
+    this.number(mark, number);
     return mark;
+  }
+
+  // Writes the number of its line into a mark.
+  number(mark, number) {
+    mark.dataset.line = number;
+    mark.lastChild.textContent = number;
+    mark.setAttribute('aria-label', `line ${number}: ${mark.dataset.about}`);
   }
 
   // A line in colors, and what it answered: after it where there is room, else below it.
@@ -178,21 +222,29 @@ class Editor {
     const said = this.said(number), more = this.moreOf(number, answer), isWrong = ['failed', 'refused', 'fault'].includes(answer?.answer) && said;
     const state = `${this.stateOf(number)}${number === this.shown ? ' shown' : ''}${this.shown && number > this.shown ? ' after' : ''}`;
     const fits = !isWrong && this.width - 8.2 * line.length - 40 > 6 * said.length + (more.length ? 90 : 0);
-    const below = isWrong || (said && !fits) || this.opened.has(number);
+    const below = isWrong || (said && !fits) || this.opened.has(number), row = element('div', { class: state }, code);
     if (said && fits) code.append(element('span', { class: 'said' }, said, below ? null : more));
-    if (!below) return element('div', { class: state }, code);
-    return element('div', { class: state }, code, element('div', { class: `answer${isWrong || this.opened.has(number) ? '' : ' late'}` }, fits ? null : said, isWrong ? element('span', { class: 'acts' }, this.on.actions(number, answer)) : null, more, this.listOf(number, answer)));
+    if (!below) return row;
+    const acts = isWrong ? element('span', { class: 'acts' }, this.on.actions(() => this.numberOf(row), line, answer)) : null;
+    row.append(element('div', { class: `answer${isWrong || this.opened.has(number) ? '' : ' late'}` }, fits ? '' : said, acts ?? '', more, this.listOf(number, answer) ?? ''));
+    return row;
+  }
+
+  // The number of the line of which something is drawn, which may have moved since it was drawn.
+  numberOf(part) {
+    return [...this.drawn.children].findIndex((row) => row.contains(part)) + 1;
   }
 
   // A button that lists what an edit changed in the database, where its answer has it.
   moreOf(number, { answer, differences, word } = {}) {
     if (answer !== 'ok' || !differences?.length || !EDITS.has(word)) return [];
-    const isOpen = this.opened.has(number), flip = () => {
-      this.opened[isOpen ? 'delete' : 'add'](number);
+    const isOpen = this.opened.has(number), flip = ({ target }) => {
+      const at = this.numberOf(target);
+      this.opened[isOpen ? 'delete' : 'add'](at);
       this.draw();
-      this.drawn.querySelector(`[data-more="${number}"]`)?.focus();
+      this.drawn.children[at - 1].querySelector('[aria-expanded]')?.focus();
     };
-    return [element('button', { type: 'button', 'data-more': number, 'aria-expanded': String(isOpen), 'aria-label': `What line ${number} changed in the database`, onclick: flip }, `${differences.length} LSA change${differences.length === 1 ? '' : 's'}`)];
+    return [element('button', { type: 'button', 'aria-expanded': String(isOpen), title: 'What the line changed in the database', onclick: flip }, `${differences.length} LSA change${differences.length === 1 ? '' : 's'}`)];
   }
 
   // What an edit changed in the database, once it was asked for.
