@@ -270,7 +270,7 @@ function checkVision(tokens) {
 // The colors of texts on what they stand on, in both themes: 4.5 to 1, as WCAG 2.1 has it for texts.
 const STANDS = {
   'bg panel raised sunk map': 'text dim faint lost dearer moved better', 'panel raised': 'accent ok bad refused verb expect name number', map: 'cost down now dearer',
-  'accent-bg': 'accent text dim', 'ok-bg': 'ok', 'bad-bg': 'bad text verb expect name number faint', 'refused-bg': 'refused text verb expect name number faint', accent: 'on-accent',
+  'accent-bg': 'accent text dim', 'ok-bg': 'ok', 'bad-bg': 'bad accent text verb expect name number faint', 'refused-bg': 'refused accent text verb expect name number faint', accent: 'on-accent',
 };
 
 function luminance(color) {

@@ -260,7 +260,7 @@ class Editor {
     const answer = this.answers.get(number);
     if (this.stateOf(number) === 'skipped') return 'not run';
     if (!answer) return '';
-    if (counts && this.stateOf(number) === 'edit') return countsText(counts) || 'changes no table';
+    if (this.stateOf(number) === 'edit') return counts ? countsText(counts) || 'changes no table' : 'done';
     if (this.stateOf(number) === 'back') return stepText(this.last[number - 1], counts);
     if (answer.answer === 'reply') return named(replyText(answer, this.on.name));
     if (answer.answer === 'failed' || answer.code) return named(found(answer));

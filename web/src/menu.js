@@ -45,6 +45,8 @@ function openMenuByKey(target) {
   return openMenu(id, x, y);
 }
 
+// Whether an event that asks for a menu is of a pointer: those of keys have no place, and come after the key.
+const isPointed = ({ button: which, ctrlKey, pointerType }) => which === 2 || ctrlKey || pointerType === 'touch';
 const isMenuKey = ({ key, shiftKey }) => key === 'ContextMenu' || (key === 'F10' && shiftKey);
 
 // Arrows go from action to action, a letter does the action of its key, and Escape and Tab close the menu.
@@ -54,9 +56,9 @@ function onMenuKey(event) {
   const own = [key, key.toLowerCase()].map((letter) => items.find((item) => item.dataset.key === letter)).find(Boolean);
   if (by) items[(at + by + items.length) % items.length]?.focus();
   else if (end !== undefined) items[end]?.focus();
-  else if (key === 'Escape' || key === 'Tab' || isMenuKey(event)) closeMenu();
+  else if (key === 'Escape' || key === 'Tab') closeMenu();
   else if (own && !event.ctrlKey && !event.metaKey) own.click();
-  else return;
+  else if (!isMenuKey(event)) return;
   event.preventDefault();
   event.stopPropagation();
 }
@@ -70,6 +72,6 @@ function listenToMenu() {
   addEventListener('resize', closeMenu);
   $('pane').addEventListener('contextmenu', (event) => {
     const listed = event.target.closest('[data-element]');
-    if (listed && openMenu(listed.dataset.element, event.clientX, event.clientY)) event.preventDefault();
+    if (listed && isPointed(event) && openMenu(listed.dataset.element, event.clientX, event.clientY)) event.preventDefault();
   });
 }

@@ -134,7 +134,7 @@ class Picture {
     canvas.addEventListener('pointerleave', () => this.hover(null));
     canvas.addEventListener('contextmenu', (event) => {
       const id = this.at(event.offsetX, event.offsetY);
-      if (id && this.on.menu?.(id, event.clientX, event.clientY)) event.preventDefault();
+      if (id && isPointed(event) && this.on.menu?.(id, event.clientX, event.clientY)) event.preventDefault();
     });
     canvas.addEventListener('keydown', (event) => {
       const by = { ArrowLeft: [60, 0], ArrowRight: [-60, 0], ArrowUp: [0, 60], ArrowDown: [0, -60] }[event.key];
