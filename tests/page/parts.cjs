@@ -64,10 +64,12 @@ function checkTyping() {
   history.note('abcd', 4, true, 9001);
   check('typing that goes on is one step', [history.go(-1).value, history.go(-1).value, history.go(-1)], ['abc', 'a', null]);
   check('it is done again', [history.go(1).value, history.go(1).value, history.go(1)], ['abc', 'abcd', null]);
-  history.note('xabcd', 1, true, 9100);
-  check('typing elsewhere is another step', history.go(-1).value, 'abcd');
   history.go(-1);
   history.note('abx', 3, false, 9200);
+  const elsewhere = new TextHistory('');
+  elsewhere.note('abcdef', 6, true, 1000);
+  elsewhere.note('xabcdef', 1, true, 1100);
+  check('typing elsewhere is another step', elsewhere.go(-1).value, 'abcdef');
   check('another step takes the place of what was taken back', [history.go(1), history.go(-1).value], [null, 'abc']);
 }
 
@@ -95,6 +97,7 @@ function checkReplies() {
 function checkEdits() {
   const lines = ['cost 0.0.0.0 r1 r2 1', 'expect lost none', 'fail-router r3 # undo 2', 'undo 1', 'refresh', '@1 refresh', 'undo 2', 'redo 1', 'undo 9'];
   check('edits that are done', [3, 4, 5, 6, 7, 8, 9].map((count) => doneEdits(lines.slice(0, count), '0').join()), ['1,3', '1', '1,5', '1,5', '', '1', '']);
+  check('nothing is done again after another edit', doneEdits(['refresh', 'undo 1', 'refresh', 'redo 1'], '0'), [3]);
   check('of another branch', doneEdits(lines, '1'), [6]);
   check('a refused one is not', doneEdits(lines.slice(0, 5), '0', new Map([[1, { answer: 'refused' }], [3, { answer: 'ok' }], [5, { answer: 'ok' }]])), [3, 5]);
   const { text: asked } = withQuestions(['refresh', 'undo 1', 'refresh'], 3, { isSmall: true, isChanged: true });
