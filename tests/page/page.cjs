@@ -73,6 +73,28 @@ async function openFiles(tab) {
   check('its names', JSON.stringify(await tab.evaluate('[...state.graph.nodes.values()].map((node) => node.label)')) === JSON.stringify(['r1', 'r2', 'r3', 'r4', 'r5', '10.1.0.0/24']));
 }
 
+// What the audit of the region finds: by kind, with each place, and what it does not find.
+async function auditRegion(browser) {
+  const tab = await open(browser, `file://${page}`), samples = path.join(__dirname, '..', '..', 'web', 'samples');
+  await tab.settle();
+  await tab.pick(...['region.oswp', 'region.hosts'].map((name) => path.join(samples, name)));
+  await tab.settle();
+  await tab.click('#tab-Audit');
+  await tab.until('state.audit && document.querySelector("#pane tbody tr")');
+  const ended = spawnSync(program, ['--dump', path.join(samples, 'region.oswp'), '--names', path.join(samples, 'region.hosts'), '--format', 'json'], { input: 'audit\naudit unequal-cost\n', encoding: 'utf8' });
+  const [{ findings }, { places }] = ended.stdout.split('\n').slice(0, 2).map((line) => JSON.parse(line));
+  const rows = (await rowsOf(tab)).map(([kind, name, count]) => [kind, name, count].join(' ')).sort().join(', ');
+  check('what an audit finds', findings.length === 3 && rows === findings.map((one) => `${one.class} ${one.kind} ${one.count}`).sort().join(', '), rows);
+  const clean = (await textOf(tab, '#pane .quiet')).replace('Not found: ', '').split(', ');
+  check('what it does not find', clean.length === 22 && clean.includes('nssa') && findings.every(({ kind }) => !clean.includes(kind)), clean.join());
+  await tab.evaluate('[...document.querySelectorAll("#pane button")].find((one) => one.ariaLabel?.startsWith("unequal-cost")).click()');
+  await tab.until('document.querySelector("#places tbody tr")');
+  const listed = await tab.evaluate('[...document.querySelectorAll("#places tbody tr")].map((one) => one.textContent)'), names = new Map(fs.readFileSync(path.join(samples, 'region.hosts'), 'utf8').trim().split('\n').map((line) => line.split(' ')));
+  const wanted = places.map((place) => place.replace(/10\.254\.0\.\d+/g, (id) => names.get(id)));
+  check('each place', places.length === 14 && JSON.stringify(listed) === JSON.stringify(wanted), listed.join('; '));
+  await tab.picture(path.join(folder, 'audit.png'));
+}
+
 // The networks that come with the page: their small pictures are drawn, and the study of each has the outcome of ospf-study.
 async function trySamples(browser) {
   const tab = await open(browser, `file://${page}`), root = path.join(__dirname, '..', '..');
@@ -803,7 +825,7 @@ async function beQuiet(_browser, tab) {
 // What is done, in this order: in a page in which the files are open, and with others beside it.
 const PARTS = [
   cutByMouse, useKeys, editStudy, showPaths, sweepAll, sweepWithin, foresee, openMenus, openMenusByKeys, listLinks, listRoutes, flagAnnouncements, showWhatFailed, drawDashes, typeLines, answerAtLines, keepRows, endEarly, typeAbove, complete, findAndDo, saveAll, print, printPaths, dropFiles, openCaptures, openSession, refuse,
-  readOut, beQuiet, beForbidden, trySamples, moveThousand, listThousands,
+  readOut, beQuiet, beForbidden, trySamples, auditRegion, moveThousand, listThousands,
 ];
 
 async function main() {

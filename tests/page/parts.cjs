@@ -11,7 +11,7 @@ const scripts = ['model.js', 'grammar.js', 'lines.js', 'editor.js', 'files.js', 
 const page = 'const text = (array) => new TextDecoder().decode(array), state = {}, nameOf = (id) => state.graph?.nodes.get(id)?.label ?? id;';
 // What is checked of these scripts, as if it stood here.
 const names = `Grammar doneEdits announcements withQuestions changedRows lineMoves deletedBy TextHistory shownByDefault stepText replyText differenceText pathNamed pathText kindOf topology edgeOneWay edgeFailed
-  cutLine actionsOf sweepLines areasNow sweptRows covers matchesOf LINK_STROKES HEAT_STROKES RING_STROKES PATH_STROKES AREA_DASHES signOf state`.split(/\s+/);
+  cutLine actionsOf sweepLines areasNow sweptRows covers matchesOf LINK_STROKES HEAT_STROKES RING_STROKES PATH_STROKES AREA_DASHES signOf AUDIT_KINDS state`.split(/\s+/);
 Object.assign(globalThis, vm.runInThisContext(`'use strict'; (() => { ${page} ${scripts}; return { ${names} }; })()`));
 let passed = 0, failed = 0;
 
@@ -125,6 +125,12 @@ function checkShown() {
   const shown = (...lines) => shownByDefault(lines);
   check('the shown line', [shown(''), shown('cost 0.0.0.0 r1 1 1', 'expect lost none', ''), shown('# plan', 'refresh', '# why', '', 'undo 1', 'expect same')], [0, 2, 3]);
   check('edits after what is undone', shown('refresh', 'undo 1', 'refresh', 'expect same'), 4);
+}
+
+// What an audit looks for is what docs/study-schema.json lists.
+function checkAuditKinds() {
+  const schema = JSON.parse(fs.readFileSync(path.join(__dirname, '..', '..', 'docs', 'study-schema.json'), 'utf8'));
+  check('kinds of an audit', AUDIT_KINDS, schema.$defs.audit_kind.enum);
 }
 
 function checkKinds() {
@@ -300,6 +306,7 @@ checkRows();
 checkTyping();
 checkReplies();
 checkShown();
+checkAuditKinds();
 checkKinds();
 checkLinks();
 checkFailures();

@@ -188,7 +188,7 @@ function showPicture() {
   picture.routeCount = routeCount(answers.now.changes);
   const isPath = state.tab === 'Path';
   picture.paths = isPath ? { before: stepsOf(answers.before.path), now: stepsOf(answers.now.path) } : { before: [], now: [] };
-  picture.ends = isPath ? endsOf(answers.now.path) : [];
+  picture.ends = isPath ? [{ id: state.path?.from, label: 'from' }, ...endsOf(answers.now.path)] : [];
   picture.heat = heatOf(state.sweep);
   picture.selected = state.selected;
   picture.show(graph);

@@ -15,6 +15,7 @@ function tabs() {
 
 function showTab(name) {
   state.tab = name;
+  if (!state.answers) return;
   if (name !== 'Sweep' && picture.mode === 'sweep') picture.mode = 'impact';
   showPicture();
   showTabs();
@@ -267,8 +268,8 @@ function pathSide(title, path, other, kind) {
   ));
   for (const loop of path?.loops ?? []) rows.push(row([`loop ${loop.map(nameOf).join(', ')}`, '', '', '', '', ''], null, { class: 'end bad' }));
   const routers = new Set((path?.steps ?? []).map(({ router }) => router)).size;
-  const end = path?.steps?.[0]?.route;
-  return element('div', { class: `scroll ${kind}` }, element('h3', {}, `${kind === 'before' ? '┅' : '━'} ${title}`, element('span', { class: 'dim' }, path?.ends ? `${counted(routers, 'router')}, ${path.ends.join(', ')}` : path?.code ? named(found(path)) : 'no answer'), element('span', { class: 'grow' }), end ? costText(end) : ''),
+  const [end, was] = [path, other].map((one) => one?.steps?.[0]?.route), more = kind === 'now' && end && was ? added({ was, now: end }) : 0;
+  return element('div', { class: `scroll ${kind}` }, element('h3', {}, element('span', { class: 'stroke' }, strokeSample(PATH_STROKES[kind])), title, element('span', { class: 'dim' }, path?.ends ? `${counted(routers, 'router')}, ${path.ends.join(', ')}` : path?.code ? named(found(path)) : 'no answer'), element('span', { class: 'grow' }), end ? costText(end) : '', more ? element('span', { class: more > 0 ? 'dearer' : 'cheaper' }, `${more > 0 ? '+' : '−'}${Math.abs(more)}`) : ''),
     table(['Router', 'Next', 'Out', 'Cost', 'Left', 'Route'], rows));
 }
 
@@ -389,6 +390,14 @@ function showElements() {
   return [scroll(table(['What', 'Name', 'Area', 'Cost', ''], [...listed.slice(0, MOST_ROWS), listed.length > MOST_ROWS ? element('tr', {}, element('td', { colspan: 5, class: 'dim' }, `and ${listed.length - MOST_ROWS} more: find them by name (/)`)) : null]))];
 }
 
+// What an audit looks for, by docs/STUDY.md, 9.
+const AUDIT_KINDS = [
+  'nssa', 'area-kind', 'virtual-link', 'area-missing', 'abr-without-backbone', 'abr-without-bit-b', 'split-area',
+  'summary-raised', 'summary-not-due', 'summary-missing', 'rfc1583', 'external-without-bit-e', 'undescribed-router',
+  'several-networks', 'duplicate-address', 'own-external', 'forward-unreached', 'one-way-link', 'unequal-cost',
+  'point-to-multipoint', 'drained', 'unreached-router', 'orphan-lsa', 'opaque', 'max-age',
+];
+
 // What the audit says of the loaded database, or how the network after the shown line differs from it, by meaning.
 function showAudit() {
   const kinds = [['findings', 'Findings'], ['differences', 'Differences']];
@@ -402,13 +411,27 @@ function showFindings(which) {
     return [chips(which), 'Calculating.'];
   }
   const bar = chips(which, element('span', { class: 'dim' }, 'what of the loaded database the answers may not be trusted for'), element('span', { class: 'grow' }), button('Expect an audit without findings', () => add('expect audit clean')));
-  if (!state.audit.findings.length) return [bar, 'Clean: nothing in the database makes a table wrong.'];
-  const sorted = [...state.audit.findings].sort((one, other) => (other.class === 'wrong') - (one.class === 'wrong'));
+  const sorted = [...state.audit.findings].sort((one, other) => (other.class === 'wrong') - (one.class === 'wrong')), found = new Set(sorted.map(({ kind }) => kind));
   const rows = sorted.map((finding) => {
     const router = routerIn(finding.first);
-    return row([element('b', { class: finding.class === 'wrong' ? 'lost' : 'dim' }, finding.class), finding.kind, finding.count, named(finding.first), finding.meaning, finding.action], router ? () => select(router) : null);
+    const places = button(String(finding.count), (event) => { event.stopPropagation(); listPlaces(finding.kind); }, { class: 'button bare', 'aria-label': `${finding.kind}: list each place` });
+    return row([element('b', { class: finding.class === 'wrong' ? 'lost' : 'dim' }, finding.class), finding.kind, places, named(finding.first), finding.meaning, finding.action], router ? () => select(router) : null);
   });
-  return [bar, scroll(table(['Class', 'Kind', 'Count', 'First', 'Meaning', 'What to do'], rows, { class: 'wraps' }))];
+  const clean = element('p', { class: 'quiet' }, rows.length ? 'Not found: ' : 'Clean. Not found: ', AUDIT_KINDS.filter((kind) => !found.has(kind)).join(', '));
+  const heads = ['Class', 'Kind', 'Count', 'First', 'Meaning', 'What to do'];
+  return [bar, element('div', { class: 'beside' }, scroll(rows.length ? table(heads, rows, { class: 'wraps' }) : '', clean), element('div', { id: 'places', class: 'scroll', hidden: true }))];
+}
+
+// Lists each place of the loaded database at which the audit has a finding of a kind; a click selects its router.
+async function listPlaces(kind) {
+  const [{ places }] = documentsOf(await calculator.study(asked(`audit ${kind}`)));
+  if (!$('places')) return;
+  $('places').hidden = false;
+  $('places').replaceChildren(table([`${kind}: ${counted(places.length, 'place')}`], places.slice(0, MOST_ROWS).map((place) => {
+    const router = routerIn(place);
+    return row([named(place)], router ? () => select(router) : null);
+  }), { class: 'wraps' }));
+  stopOnce($('pane'));
 }
 
 // The router that a place of the database is about.
