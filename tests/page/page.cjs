@@ -608,7 +608,7 @@ async function showWhatFailed(_browser, tab) {
   check('blackholes', (await shows('expect blackholes none')) === 'Loops,2,blackhole', await tab.evaluate('state.tab'));
   check('a path', (await shows('expect path r4 8.8.8.8 avoids r3')).startsWith('Path,2,') && (await tab.evaluate('[state.path.from, state.path.to].join()')) === '4.4.4.4,8.8.8.8', await tab.evaluate('state.tab'));
   await setText(tab, ['fail-router r4']);
-  check('a path from what failed', (await tab.evaluate('document.querySelector("#pane .now h3 span").textContent')) === 'N1 NoRouter r4 (it is in the baseline alone)', await tab.evaluate('document.querySelector("#pane .now h3 span").textContent'));
+  check('a path from what failed', (await tab.evaluate('document.querySelector("#pane .now h3 .dim").textContent')) === 'N1 NoRouter r4 (it is in the baseline alone)', await tab.evaluate('document.querySelector("#pane .now h3 .dim").textContent'));
   await setText(tab, ['fail-router r4', 'refresh', 'undo 1', 'undo 1', '']);
   check('what was taken back', (await marksOf(tab)).trim() === 'edit edit back back', await marksOf(tab));
   const said = await tab.evaluate('[...document.querySelectorAll("#drawn .back")].map((row) => row.querySelector(".said, .answer").firstChild.textContent)');
