@@ -567,6 +567,18 @@ async function listRoutes(_browser, tab) {
   const rows = (await rowsOf(tab)).map(([change, ...cells]) => [change.split(' ').at(-1), ...cells.slice(0, 5), cells[5].replace(/ was .*/, '')]);
   check('routes of a router', routes.length > 4 && changes.length > 0 && JSON.stringify(rows) === JSON.stringify(wanted), JSON.stringify([rows, wanted]));
   await tab.picture(path.join(folder, 'routes.png'));
+  const [, answer] = answers([...lines, 'explain r1 10.1.5.0/24']), whyOf = '#pane [aria-label="Why 10.1.5.0/24 is so"]';
+  await tab.click(whyOf);
+  await tab.until('document.querySelector("#pane .drawer")');
+  const [used, lost] = ['used', 'lost'].map((kind) => answer.candidates.filter((one) => one.state === kind));
+  const reasons = [answer.rule, ...[...used, ...lost].map((one) => `${one.state === 'used' ? '✓' : '✕'} area ${one.lsa.area} summary ${one.lsa.prefix} by r${one.lsa.router[0]} distance ${one.distance} metric ${one.metric}: ${one.rule}`),
+    ...answer.steps.map((one) => `r${one.router[0]} → r${one.to[0]} out ${one.out} cost ${one.cost}, ${one.sum} in all`), ...answer.rests.map((one) => `area ${one.area} ${one.type === 1 ? 'router ' : `summary ${one.prefix} by `}r${one.router[0]}`)];
+  const drawn = await tab.evaluate('[...document.querySelectorAll("#pane .drawer b, #pane .drawer li")].map((one) => one.textContent)');
+  check('why a route is so', used.length === 1 && lost.length === 1 && JSON.stringify(drawn) === JSON.stringify(reasons), JSON.stringify([drawn, reasons]));
+  check('below the route', (await tab.evaluate('document.querySelector("#pane .drawer").previousElementSibling.cells[1].textContent')) === '10.1.5.0/24' && (await tab.evaluate(`document.querySelector('${whyOf}').ariaExpanded`)) === 'true');
+  await tab.picture(path.join(folder, 'why.png'));
+  await tab.click(whyOf);
+  check('and closed', !(await tab.evaluate('Boolean(document.querySelector("#pane .drawer"))')) && (await tab.evaluate(`document.querySelector('${whyOf}').ariaExpanded`)) === 'false');
   await submit('r4', '10.1.5.1');
   await tab.settle();
   const [, { routes: [match] }] = answers([...lines, 'routes r4 10.1.5.1']), [first] = await rowsOf(tab);

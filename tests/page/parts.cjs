@@ -10,7 +10,7 @@ const source = path.join(__dirname, '..', '..', 'web', 'src'), read = (name) => 
 const scripts = ['model.js', 'grammar.js', 'lines.js', 'editor.js', 'files.js', 'card.js', 'sweep.js', 'tabs.js', 'picture.js', 'completion.js'].map(read).join('\n');
 const page = 'const text = (array) => new TextDecoder().decode(array), state = {}, nameOf = (id) => state.graph?.nodes.get(id)?.label ?? id;';
 // What is checked of these scripts, as if it stood here.
-const names = `Grammar doneEdits announcements withQuestions changedRows lineMoves deletedBy TextHistory shownByDefault stepText replyText differenceText pathNamed pathText kindOf topology edgeOneWay edgeFailed
+const names = `Grammar doneEdits announcements withQuestions changedRows lineMoves deletedBy TextHistory shownByDefault stepText replyText differenceText candidateText pathNamed pathText kindOf topology edgeOneWay edgeFailed
   cutLine actionsOf sweepLines areasNow sweptRows covers matchesOf LINK_STROKES HEAT_STROKES RING_STROKES PATH_STROKES AREA_DASHES signOf AUDIT_KINDS state`.split(/\s+/);
 Object.assign(globalThis, vm.runInThisContext(`'use strict'; (() => { ${page} ${scripts}; return { ${names} }; })()`));
 let passed = 0, failed = 0;
@@ -87,9 +87,11 @@ function checkReplies() {
   check('steps back', [...steps, left, stepText('undo 1', counts)], ['1 edit taken back', '2 edits taken back', '1 edit done again', '3 edits taken back, 2 lost', '1 edit taken back, no table is changed']);
   const lsa = (type, rest) => ({ type, id: '10.0.0.1', router: '1.1.1.1', ...rest });
   const written = [
-    { change: 'changed', area: '0.0.0.0', lsa: lsa(1), what: 'gone #2 stub 10.4.0.0/16, cost 1' }, { change: 'gone', area: null, lsa: lsa(5, { prefix: '10.90.0.0/16' }), what: 'type 2 metric 20' },
-    { change: 'new', area: '0.0.0.1', lsa: lsa(4), what: 'metric 3' }, { change: 'new', area: '0.0.0.3', lsa: null, what: 'kind stub' },
+    { change: 'changed', area: '0.0.0.0', lsa: lsa(1, { area: '0.0.0.0' }), what: 'gone #2 stub 10.4.0.0/16, cost 1' }, { change: 'gone', area: null, lsa: lsa(5, { prefix: '10.90.0.0/16' }), what: 'type 2 metric 20' },
+    { change: 'new', area: '0.0.0.1', lsa: lsa(4, { area: '0.0.0.1' }), what: 'metric 3' }, { change: 'new', area: '0.0.0.3', lsa: null, what: 'kind stub' },
   ].map(differenceText);
+  const candidates = [{ lsa: lsa(2, { prefix: '10.0.0.0/24', area: '0.0.0.1' }), link: null, distance: null, metric: 0, rule: '16.1 MaxAge' }, { lsa: lsa(1, { area: '0.0.0.0' }), link: 3, distance: 7, metric: 1, rule: '16.1 costs more' }].map(candidateText);
+  check('candidates', candidates, ['area 0.0.0.1 network 10.0.0.1 by 1.1.1.1 metric 0: 16.1 MaxAge', 'area 0.0.0.0 router 1.1.1.1 #3 distance 7 metric 1: 16.1 costs more']);
   check('differences', written, ['area 0.0.0.0 router 1.1.1.1: gone #2 stub 10.4.0.0/16, cost 1', 'gone external 10.90.0.0/16 by 1.1.1.1: type 2 metric 20', 'new area 0.0.0.1 asbr-summary 10.0.0.1 by 1.1.1.1: metric 3', 'new area 0.0.0.3: kind stub']);
 }
 

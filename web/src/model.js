@@ -249,10 +249,19 @@ const replyText = (answer, name) => REPLIES[answer.word]?.(answer, name) ?? '';
 
 const LSA_NAMES = { 1: 'router', 2: 'network', 3: 'summary', 4: 'asbr-summary', 5: 'external' };
 
+// An LSA by its area, its type, what it describes and its router.
+function lsaText({ area, type, id, router, prefix }) {
+  const named = { 1: router, 3: `${prefix} by ${router}`, 5: `${prefix} by ${router}` }[type] ?? `${id} by ${router}`;
+  return [area && `area ${area}`, LSA_NAMES[type] ?? `type ${type}`, named].filter(Boolean).join(' ');
+}
+
 // A difference of the database, as `differences` writes it.
 function differenceText({ change, area, lsa, what }) {
-  const of = area ? `area ${area}` : '';
-  if (!lsa) return [change === 'changed' ? '' : change, of].filter(Boolean).join(' ') + `: ${what}`;
-  const id = lsa.type === 1 ? lsa.router : `${lsa.prefix ?? lsa.id} by ${lsa.router}`;
-  return `${[change === 'changed' ? '' : change, of, LSA_NAMES[lsa.type] ?? `type ${lsa.type}`, id].filter(Boolean).join(' ')}: ${what}`;
+  const of = lsa ? lsaText(lsa) : area ? `area ${area}` : '';
+  return `${[change === 'changed' ? '' : change, of].filter(Boolean).join(' ')}: ${what}`;
+}
+
+// A candidate for a route: which LSA it is of, how far, and by which rule it is used or not.
+function candidateText({ lsa, link, distance, metric, rule }) {
+  return `${lsaText(lsa)}${link === null ? '' : ` #${link}`}${distance === null ? '' : ` distance ${distance}`} metric ${metric}: ${rule}`;
 }

@@ -349,7 +349,11 @@ function routesForm() {
 
 // A route in the list of those of a router: with what it was where it changed, and why it is so.
 function routeRow(route, was) {
-  const why = button('Why', (event) => { event.stopPropagation(); explain(route.prefix); }, { class: 'button bare', 'aria-label': `Why ${route.prefix} is so` });
+  const act = (event) => {
+    event.stopPropagation();
+    explain(route.prefix, event.target.closest('tr'));
+  };
+  const why = button('Why', act, { class: 'button bare', 'aria-expanded': 'false', 'aria-label': `Why ${route.prefix} is so`, onkeydown: (event) => event.stopPropagation() });
   const ways = route.kind === 'own' ? 'its own' : route.ways.map(wayCell), wasWays = was?.was ? waysText(was.was, nameOf) : '';
   const cells = [
     was ? element('b', { class: was.change }, `${SIGNS[was.change]} ${was.change}`) : '', route.prefix, route.kind, costText(route), was ? costText(was.was) : '', route.area ?? '',
@@ -365,17 +369,33 @@ function showRoutes() {
   const listed = state.match ? matchesOf(routes.routes, state.match) : routes.routes;
   form.append(element('span', { class: 'grow' }), element('span', { class: 'dim' }, state.match ? `${counted(listed.length, 'route')} for ${state.match}, the longest match first` : counted(routes.routes.length, 'route')));
   const heads = ['Change', 'Prefix', 'Kind', 'Cost', 'Was', 'Area', 'Ways: neighbor, its address, own interface', ''];
-  return [form, element('div', { class: 'beside' }, scroll(table(heads, listed.slice(0, MOST_ROWS).map((route) => routeRow(route, was.get(route.prefix))))), element('pre', { id: 'why', class: 'scroll', hidden: true }))];
+  return [form, scroll(table(heads, listed.slice(0, MOST_ROWS).map((route) => routeRow(route, was.get(route.prefix)))))];
 }
 
-// Why a route is what it is, by the rules of RFC 2328.
-async function explain(prefix) {
+// Shows below a route why it is what it is, by the rules of RFC 2328; where that is shown already, closes it.
+async function explain(prefix, at) {
+  const shown = $('pane').querySelector('.drawer'), isOpen = shown?.previousElementSibling === at;
+  shown?.previousElementSibling.querySelector('[aria-expanded]').setAttribute('aria-expanded', 'false');
+  shown?.remove();
+  if (isOpen) return;
   const lines = [...editor.lines().slice(0, state.shown), inBranch(`explain ${nameOf(state.table)} ${prefix}`)];
-  const answer = await calculator.study(asked(lines.join('\n'), { json: false }));
-  const said = text(answer.replies).split('\n'), at = said.findLastIndex((line) => /^@\d explain /.test(line));
-  if (!$('why')) return;
-  $('why').hidden = false;
-  $('why').textContent = said.slice(at, -2).join('\n');
+  const answer = documentsOf(await calculator.study(asked(lines.join('\n')))).findLast(({ word }) => word === 'explain');
+  if (!at.isConnected) return;
+  at.querySelector('[aria-expanded]').setAttribute('aria-expanded', 'true');
+  at.after(element('tr', { class: 'drawer' }, element('td', { colspan: at.cells.length }, answer.code ? named(found(answer)) : reasons(answer))));
+  at.nextElementSibling.scrollIntoView({ block: 'nearest' });
+}
+
+// The rule of a route, its candidates with the used ones first, its least paths, and the LSAs on which it rests.
+function reasons({ rule, candidates, steps, rests }) {
+  const ordered = [...candidates.filter((one) => one.state === 'used'), ...candidates.filter((one) => one.state !== 'used')];
+  const stepText = ({ router, kind, to, out, cost, sum }) => `${nameOf(router)} → ${kind === 'router' ? nameOf(to) : `network ${to}`} out ${out} cost ${cost}, ${sum} in all`;
+  const part = (title, listed) => listed.length ? [element('h4', {}, title), element('ul', {}, listed)] : [];
+  return [
+    element('b', {}, rule ?? 'no route'),
+    ...part('Candidates', ordered.map((one) => element('li', { class: one.state === 'used' ? '' : 'dim' }, `${one.state === 'used' ? '✓' : '✕'} ${named(candidateText(one))}`))),
+    ...part('Least paths', steps.map((step) => element('li', {}, stepText(step)))), ...part('Rests on', rests.map((lsa) => element('li', {}, named(lsaText(lsa))))),
+  ];
 }
 
 // ---- elements, audit, files
