@@ -383,7 +383,7 @@ async function explain(prefix, at) {
   if (!at.isConnected) return;
   at.querySelector('[aria-expanded]').setAttribute('aria-expanded', 'true');
   at.after(element('tr', { class: 'drawer' }, element('td', { colspan: at.cells.length }, answer.code ? named(found(answer)) : reasons(answer))));
-  at.nextElementSibling.scrollIntoView({ block: 'nearest' });
+  for (const shownRow of [at.nextElementSibling, at]) shownRow.scrollIntoView({ block: 'nearest' });
 }
 
 // The rule of a route, its candidates with the used ones first, its least paths, and the LSAs on which it rests.
