@@ -289,6 +289,10 @@ async function keepRows(_browser, tab) {
   await tab.settle();
   check('a button of a row that moved', (await valueOf(tab, 'text')) === '# above\nrefresh\nexpect lost none\nnonsense', await valueOf(tab, 'text'));
   const tops = await tab.evaluate('["#gutter .mark", "#drawn > div", "#text > div"].map((rows) => [...document.querySelectorAll(rows)].map((row) => Math.round(row.getBoundingClientRect().top)).join())');
+  await tab.evaluate('editor.reveal(4)');
+  await tab.until('document.querySelector("#drawn .fault button").tabIndex === 0');
+  await tab.key('Tab', 9);
+  check('the Tab key goes to what can be done about the line', (await tab.evaluate('[document.activeElement.textContent, document.activeElement.closest("#drawn > div").className.split(" ")[0]].join()')) === 'Show,fault' && (await tab.evaluate('[...document.querySelectorAll("#drawn button")].filter((one) => one.tabIndex === 0).length')) === 3, await tab.evaluate('document.activeElement.outerHTML'));
   check('rows are beside their lines', tops[0] === tops[1] && tops[1] === tops[2], tops.join(' and '));
 }
 

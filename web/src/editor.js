@@ -173,6 +173,7 @@ class Editor {
       fresh.push(...rows);
     }
     if (old.length !== forms.length) [...gutter.children].forEach((mark, k) => this.number(mark, k + 1));
+    this.stop();
     this.align(new Map(fresh.map((row) => [row, `${row.offsetHeight}px`])));
   }
 
@@ -267,11 +268,19 @@ class Editor {
     return named(answer.found ?? '');
   }
 
+  // The Tab key stops at the buttons of the line of the caret alone.
+  stop() {
+    const number = this.lineOfCaret();
+    for (const one of this.drawn.querySelectorAll('button')) one.tabIndex = -1;
+    for (const one of this.drawn.children[number - 1]?.querySelectorAll('button') ?? []) one.tabIndex = 0;
+  }
+
   // Has what the line of the caret answered read out, where the caret has come to another line.
   speak() {
     const number = document.activeElement === this.text ? this.lineOfCaret() : 0, state = this.stateOf(number);
     if (number === this.spoken) return;
     this.spoken = number;
+    this.stop();
     this.on.speak(number && state ? `line ${number}: ${[SPOKEN[state] ?? state, this.said(number)].filter(Boolean).join(', ')}` : '');
   }
 
