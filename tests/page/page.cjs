@@ -467,6 +467,9 @@ async function sweepWithin(_browser, tab) {
   const shown = (await rowsOf(tab)).map(([line]) => line).sort().join(', ');
   check('of them those of an area', shown === 'fail-router r2, fail-router r3, fail-router r4, fail-router r5' && (await tab.evaluate('picture.heat.size')) === 4, shown);
   await tab.picture(path.join(folder, 'within.png'));
+  await tab.evaluate('makeReport().then(() => 0)');
+  const losing = [2, 3, 4, 5].filter((one) => answers([`fail-router r${one}`, 'changes'])[1].counts.lost).length, printed = await textOf(tab, '#report');
+  check('a sweep is printed', losing > 0 && printed.includes(`One more failure within area 0.0.0.1: ${losing} of 4 lose routes`) && (await tab.evaluate('document.querySelectorAll("#report .bar").length')) === 4);
   await choose('');
   await tab.click('[data-sweep="all"]');
   await setText(tab, ['']);

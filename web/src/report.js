@@ -94,10 +94,10 @@ function routerSection() {
 
 function sweepSection() {
   if (!state.sweep?.isDone) return [];
-  const rows = sweptRows(state.sweep), losing = rows.filter(({ lost }) => lost).length;
+  const rows = sweptRows(state.sweep), most = Math.max(1, ...rows.map(barLength)), losing = rows.filter(({ lost }) => lost).length;
   return [
     element('h2', {}, `One more failure${state.sweepArea ? ` within area ${state.sweepArea}` : ''}: ${losing} of ${rows.length} lose routes`),
-    table(['Failure', 'Lost', 'Gone', 'Dearer', 'Moved', 'Loops'], rows.slice(0, MOST_FAILURES).map((one) => row([one.line, ...['lost', 'gone', 'dearer', 'moved', 'loops'].map((kind) => String(one[kind]))]))),
+    table(['Failure', 'What it does', 'Lost', 'Gone', 'Dearer', 'Moved', 'Loops'], rows.slice(0, MOST_FAILURES).map((one) => row([one.line, bar(one, most), ...['lost', 'gone', 'dearer', 'moved', 'loops'].map((kind) => String(one[kind]))]))),
   ];
 }
 

@@ -70,6 +70,8 @@ function pointAt(key) {
 // What is drawn on links while a sweep is shown.
 const heatOf = (run) => new Map(sweptRows(run).map((one) => [one.key, one]));
 
+const barLength = ({ lost, gone, dearer, moved }) => lost + gone + dearer + moved;
+
 // Shares of a row's counts, against the greatest sum.
 function bar(counts, most) {
   return element('span', { class: 'bar' }, ['lost', 'gone', 'dearer', 'moved'].map((kind) => {
@@ -109,7 +111,7 @@ function showSweep() {
   const choice = [kinds, areaChoice()];
   if (!run) return [chips(choice, start), 'Fails each one by itself, after the shown line, and counts what every router loses.'];
   const rows = sweptRows(run);
-  const most = Math.max(1, ...rows.map(({ lost, gone, dearer, moved }) => lost + gone + dearer + moved));
+  const most = Math.max(1, ...rows.map(barLength));
   const losing = rows.filter(({ lost }) => lost).length;
   const said = run.isDone ? [element('span', { class: 'dim' }, `${rows.length} failures: `, element('b', { class: losing ? 'lost' : '' }, `${losing} lose routes`))]
     : [element('progress', { max: run.count, value: run.rows.length, 'aria-label': 'Progress' }), element('span', { class: 'dim' }, `${run.rows.length} of ${run.count}`), button('Stop', () => { run.isStopped = true; showTabs(); })];
