@@ -89,9 +89,9 @@ async function open(browser, url, width = 1280, height = 800) {
     if (!at) throw new Error(`no ${selector}`);
     await clickAt(...at);
   };
-  const clickAt = async (x, y) => {
+  const clickAt = async (x, y, button = 'left') => {
     await send('Input.dispatchMouseEvent', { type: 'mouseMoved', x, y });
-    for (const type of ['mousePressed', 'mouseReleased']) await send('Input.dispatchMouseEvent', { type, x, y, button: 'left', clickCount: 1 });
+    for (const type of ['mousePressed', 'mouseReleased']) await send('Input.dispatchMouseEvent', { type, x, y, button, clickCount: 1 });
   };
   // `modifiers` are 1 for Alt, 2 for Control and 8 for Shift, added.
   const key = async (name, code = 0, modifiers = 0) => {
@@ -100,6 +100,8 @@ async function open(browser, url, width = 1280, height = 800) {
     await send('Input.dispatchKeyEvent', { type: 'keyDown', ...what });
     await send('Input.dispatchKeyEvent', { type: 'keyUp', ...what });
   };
+  // Carries out a command of editing, as its keys do: copy, paste, selectAll.
+  const command = (name) => send('Input.dispatchKeyEvent', { type: 'rawKeyDown', key: 'F24', windowsVirtualKeyCode: 135, commands: [name] });
   const type = (text) => send('Input.insertText', { text });
   // Drops files, as a person does who drags them to a place of the page.
   const drop = async (x, ...files) => {
@@ -118,7 +120,7 @@ async function open(browser, url, width = 1280, height = 800) {
     await send('DOM.setFileInputFiles', { objectId: result.objectId, files });
   };
   const picture = async (file) => fs.writeFileSync(file, Buffer.from((await send('Page.captureScreenshot', { format: 'png' })).data, 'base64'));
-  return { send, evaluate, until, settle, click, clickAt, key, type, drop, pick, picture, requests, printed };
+  return { send, evaluate, until, settle, click, clickAt, key, command, type, drop, pick, picture, requests, printed };
 }
 
 module.exports = { begin, open };

@@ -37,6 +37,9 @@ const valueOf = (tab, id) => tab.evaluate(`document.getElementById(${JSON.string
 const countsOf = (tab) => tab.evaluate('Object.fromEntries([...document.querySelectorAll("[data-count]")].filter((one) => one.dataset.count !== "better").map((one) => [one.dataset.count, Number(one.querySelector("b").textContent)]))');
 const rowsOf = (tab) => tab.evaluate('[...document.querySelectorAll("#pane tbody tr")].map((row) => [...row.cells].map((cell) => cell.textContent))');
 
+// A text with the names of examples/hosts in the place of Router IDs.
+const short = (found) => found.replace(/\b([1-9])\.\1\.\1\.\1\b(?!\/)/g, 'r$1');
+
 // The same as a person reads it off the page, from a document of `changes`.
 function changeRows({ changes }) {
   const cost = (route) => !route ? 'none' : route.kind === 'own' ? `own ${route.metric}` : route.kind === 'ext2' ? `${route.metric} + ${route.cost}` : String(route.cost);
@@ -68,6 +71,58 @@ async function openFiles(tab) {
   await tab.settle();
   check('the dump is open', (await textOf(tab, '#about')).startsWith('two-areas.oswp: 5 routers, 3 links, 1 LAN, 2 areas, 22 LSAs'), await textOf(tab, '#about'));
   check('its names', JSON.stringify(await tab.evaluate('[...state.graph.nodes.values()].map((node) => node.label)')) === JSON.stringify(['r1', 'r2', 'r3', 'r4', 'r5', '10.1.0.0/24']));
+}
+
+// What the audit of the region finds: by kind, with each place, and what it does not find.
+async function auditRegion(browser) {
+  const tab = await open(browser, `file://${page}`), samples = path.join(__dirname, '..', '..', 'web', 'samples');
+  await tab.settle();
+  await tab.pick(...['region.oswp', 'region.hosts'].map((name) => path.join(samples, name)));
+  await tab.settle();
+  await tab.click('#tab-Audit');
+  await tab.until('state.audit && document.querySelector("#pane tbody tr")');
+  const ended = spawnSync(program, ['--dump', path.join(samples, 'region.oswp'), '--names', path.join(samples, 'region.hosts'), '--format', 'json'], { input: 'audit\naudit unequal-cost\n', encoding: 'utf8' });
+  const [{ findings }, { places }] = ended.stdout.split('\n').slice(0, 2).map((line) => JSON.parse(line));
+  const rows = (await rowsOf(tab)).map(([kind, name, count]) => [kind, name, count].join(' ')).sort().join(', ');
+  check('what an audit finds', findings.length === 3 && rows === findings.map((one) => `${one.class} ${one.kind} ${one.count}`).sort().join(', '), rows);
+  const clean = (await textOf(tab, '#pane .quiet')).replace('Not found: ', '').split(', ');
+  check('what it does not find', clean.length === 22 && clean.includes('nssa') && findings.every(({ kind }) => !clean.includes(kind)), clean.join());
+  await tab.evaluate('[...document.querySelectorAll("#pane button")].find((one) => one.ariaLabel?.startsWith("unequal-cost")).click()');
+  await tab.until('document.querySelector("#places tbody tr")');
+  const listed = await tab.evaluate('[...document.querySelectorAll("#places tbody tr")].map((one) => one.textContent)'), names = new Map(fs.readFileSync(path.join(samples, 'region.hosts'), 'utf8').trim().split('\n').map((line) => line.split(' ')));
+  const wanted = places.map((place) => place.replace(/10\.254\.0\.\d+/g, (id) => names.get(id)));
+  check('each place', places.length === 14 && JSON.stringify(listed) === JSON.stringify(wanted), listed.join('; '));
+  await tab.picture(path.join(folder, 'audit.png'));
+}
+
+// The networks that come with the page: their small pictures are drawn, and the study of each has the outcome of ospf-study.
+async function trySamples(browser) {
+  const tab = await open(browser, `file://${page}`), root = path.join(__dirname, '..', '..');
+  await tab.settle();
+  const networks = [['examples', 'two-areas', 'hosts', 'maintenance'], ...['campus', 'region', 'carrier'].map((name) => ['web/samples', name, `${name}.hosts`, name])];
+  await tab.until('document.querySelectorAll("#samples canvas").length === 4 && [...document.querySelectorAll("#samples canvas")].every((one) => one.getContext("2d").getImageData(0, 0, one.width, one.height).data.some((byte) => byte))');
+  check('four networks to try', (await tab.evaluate('[...document.querySelectorAll("#samples b")].map((one) => one.textContent).join()')) === 'Two areas,Campus,Region,Carrier');
+  await tab.picture(path.join(folder, 'samples.png'));
+  const capture = fs.readFileSync(path.join(root, 'docs', 'CAPTURE.md'), 'utf8').replaceAll(/ROUTER\.(?=txt|walk)|LINK\./g, (word) => word.toLowerCase());
+  for (const way of ['SNMP', 'Capture', 'FRR']) {
+    await tab.click(`[data-recipe=${way}]`);
+    const made = (await textOf(tab, '#recipe pre')).split('\n').filter((line) => !/^(#|for|ospf-capture)/.test(line));
+    check(`a dump by ${way}`, made.length === 1 && capture.includes(made[0].replace(/^do /, '')), made.join());
+  }
+  await tab.click('#recipe .button');
+  await tab.evaluate('document.getElementById("find").focus()');
+  await tab.command('paste');
+  check('its lines are copied', (await valueOf(tab, 'find')).includes('vtysh -c'), await valueOf(tab, 'find'));
+  await tab.evaluate('document.getElementById("find").value = ""');
+  for (const [k, [room, name, names, lines]] of networks.entries()) {
+    const given = ['--dump', path.join(root, room, `${name}.oswp`), '--names', path.join(root, room, names), '--format', 'json', path.join(root, room, `${lines}.study`)];
+    const { summary } = JSON.parse(spawnSync(program, given, { encoding: 'utf8' }).stdout.trim().split('\n').at(-1));
+    await tab.evaluate(`document.querySelectorAll('#samples button')[${k}].click()`);
+    await tab.settle(120);
+    const wanted = `Study holds: ${summary.expectations} of ${summary.expectations} expectations hold`;
+    check(`the study of ${name}`, summary.result === 'ok' && summary.expectations > 4 && (await tab.evaluate('outcomeText()')) === wanted, await tab.evaluate('outcomeText()'));
+    await tab.picture(path.join(folder, `sample-${name}.png`));
+  }
 }
 
 async function cutByMouse(_browser, tab) {
@@ -109,13 +164,13 @@ async function editStudy(_browser, tab) {
   const lines = ['fail-link 0.0.0.0 r1 r2', 'expect lost none', 'nonsense', 'cost 0.0.0.9 r1 1 1', 'expect gone none'];
   await setText(tab, lines);
   const wanted = answers(lines);
-  check('a failed expectation is shown', (await textOf(tab, '#faults .failed')).includes(wanted[1].found.replace(/\b(\d)\.\1\.\1\.\1\b(?!\/)/g, 'r$1')), await textOf(tab, '#faults .failed'));
-  check('a fault is shown', (await textOf(tab, '#faults .fault')).includes(`S2 UnknownWord nonsense (${wanted[2].hint})`));
-  check('a refusal is shown', (await textOf(tab, '#faults .refused')).includes('E1 NoArea 0.0.0.9'));
-  await tab.evaluate('[...document.querySelectorAll("#faults button")].find((one) => one.textContent === "Expect what was found").click()');
+  check('a failed expectation is shown', (await textOf(tab, '#drawn .failed .answer')).includes(short(wanted[1].found)), await textOf(tab, '#drawn .failed .answer'));
+  check('a fault is shown', (await textOf(tab, '#drawn .fault .answer')).includes(`S2 UnknownWord nonsense (${wanted[2].hint})`));
+  check('a refusal is shown', (await textOf(tab, '#drawn .refused .answer')).includes('E1 NoArea 0.0.0.9'));
+  await tab.evaluate('[...document.querySelectorAll("#drawn button")].find((one) => one.textContent === "Expect what was found").click()');
   await tab.settle();
   check('what was found is expected', (await valueOf(tab, 'text')).split('\n')[1] === `expect lost <= ${/\d+/.exec(wanted[1].found)[0]}`, await valueOf(tab, 'text'));
-  await tab.evaluate('[...document.querySelectorAll("#faults button")].find((one) => one.textContent.startsWith("Write 0.0.0.")).click()');
+  await tab.evaluate('[...document.querySelectorAll("#drawn button")].find((one) => one.textContent.startsWith("Write 0.0.0.")).click()');
   await tab.settle();
   check('a hint is written', (await valueOf(tab, 'text')).split('\n')[3] === `cost ${wanted[3].hint.split(' ').at(-1)} r1 1 1`, await valueOf(tab, 'text'));
   await setText(tab, lines);
@@ -149,6 +204,96 @@ async function endEarly(_browser, tab) {
   await tab.settle();
   const { answer } = answers(lines).find(({ line }) => line === lines.length);
   check('the others are run again', (await marksOf(tab)).trim() === `edit failed edit   ${answer}`, await marksOf(tab));
+}
+
+// The text of the study, as it is typed in, deleted, copied and taken back.
+async function typeLines(_browser, tab) {
+  const text = () => valueOf(tab, 'text'), caret = () => tab.evaluate('document.getElementById("text").selectionStart');
+  await tab.evaluate('editor.set("")');
+  await tab.evaluate('editor.reveal(1)');
+  await tab.type('refresh');
+  await tab.key('Enter', 13);
+  await tab.key('Enter', 13);
+  await tab.type('# one two');
+  check('lines are typed', (await text()) === 'refresh\n\n# one two' && (await caret()) === 18, `${await text()} ${await caret()}`);
+  await tab.key('Backspace', 8, 2);
+  await tab.key('Backspace', 8);
+  check('a word and a character are deleted', (await text()) === 'refresh\n\n# one', await text());
+  await tab.key('ArrowUp', 38);
+  await tab.key('Backspace', 8);
+  check('a line is joined to the one above', (await text()) === 'refresh\n# one' && (await caret()) === 7, `${await text()} ${await caret()}`);
+  await tab.key('Delete', 46);
+  check('and to the one below', (await text()) === 'refresh# one', await text());
+  await tab.key('z', 90, 2);
+  await tab.key('z', 90, 2);
+  check('both are taken back', (await text()) === 'refresh\n\n# one', await text());
+  await tab.key('y', 89, 2);
+  check('one of them is done again', (await text()) === 'refresh\n# one', await text());
+  await tab.settle();
+  await tab.command('selectAll');
+  await tab.command('copy');
+  await tab.key('ArrowRight', 39);
+  await tab.command('paste');
+  check('what is copied has no answers', (await text()) === 'refresh\n# onerefresh\n# one', await text());
+  await tab.key('Home', 36);
+  await tab.key('ArrowUp', 38, 8);
+  await tab.type('expect lost none\nrefresh\n');
+  check('what is selected is replaced, by several lines', (await text()) === 'refresh\nexpect lost none\nrefresh\n# one', await text());
+  await tab.settle();
+  check('and answered', (await marksOf(tab)).trim() === 'edit ok edit', await marksOf(tab));
+  await tab.evaluate('editor.set(""), editor.reveal(1)');
+  await tab.send('Input.imeSetComposition', { text: '# gr', selectionStart: 4, selectionEnd: 4 });
+  await tab.send('Input.imeSetComposition', { text: '# gru', selectionStart: 5, selectionEnd: 5 });
+  await tab.type('# grün');
+  check('what is composed is written', (await text()) === '# grün' && (await caret()) === 6, await text());
+  await tab.key('z', 90, 2);
+  check('and taken back', (await text()) === '', await text());
+}
+
+// What a line answered is at the line: after it or below it, and a click goes to the line that was clicked.
+async function answerAtLines(_browser, tab) {
+  const lines = ['fail-link 0.0.0.0 r1 r2', 'expect lost none', 'path r1 10.1.5.1', '', 'routers', 'expect path r1 10.1.5.1 avoids r2', 'explain r1 10.1.5.0/24', 'nonsense'];
+  await setText(tab, lines);
+  const [, lost, { counts }, avoids] = answers([...lines.slice(0, 2), 'changes', lines[5]]);
+  const said = await tab.evaluate('[...document.querySelectorAll("#drawn > div")].map((row) => row.querySelector(".said, .answer")?.firstChild.textContent ?? "")');
+  const wanted = [wordsOf(counts), `found ${short(lost.found)}`, 'r1 → r3 → r5 (21)', '', '5 routers', short(avoids.found), 'inter 21, via r3: 16.2 inter-area', 'S2 UnknownWord nonsense (did you mean table)'];
+  check('each line has its answer', avoids.answer === 'ok' && JSON.stringify(said) === JSON.stringify(wanted), JSON.stringify([said, wanted]));
+  const rows = await tab.evaluate('["#gutter .mark", "#drawn > div", "#text > div"].map((rows) => [...document.querySelectorAll(rows)].map((row) => Math.round(row.getBoundingClientRect().top)).join())');
+  check('marks, answers and lines are beside each other', rows[0] === rows[1] && rows[1] === rows[2], rows.join(' and '));
+  check('an answer has room of its own', await tab.evaluate('(() => { const [, second, third] = document.querySelectorAll("#text > div"), answer = document.querySelector("#drawn .failed .answer").getBoundingClientRect(); return answer.height > 10 && answer.top >= second.getBoundingClientRect().top + 20 && answer.bottom <= third.getBoundingClientRect().top + 1; })()'));
+  const { left, top } = await tab.evaluate('(({ left, top }) => ({ left, top }))(document.querySelectorAll("#text > div")[5].getBoundingClientRect())');
+  await tab.clickAt(left + 40, top + 11);
+  check('a click goes to its line', (await tab.evaluate('editor.lineOfCaret()')) === 6, await tab.evaluate('editor.lineOfCaret()'));
+  await tab.until('document.getElementById("spoken").textContent');
+  check('the answer of the line is read out', (await textOf(tab, '#spoken')) === `line 6: ok, ${wanted[5]}`, await textOf(tab, '#spoken'));
+  const { differences } = answers(lines.slice(0, 1), '--verbose')[0];
+  await tab.click('#drawn [aria-expanded]');
+  const listed = await tab.evaluate('[...document.querySelectorAll("#drawn li")].map((one) => one.textContent)');
+  check('what an edit changed is listed', listed.length === 2 && listed.length === differences.length && listed.every((one, k) => one === `area 0.0.0.0 router r${k + 1}: ${short(differences[k].what)}`), listed.join('; '));
+  await tab.picture(path.join(folder, 'answers.png'));
+  await tab.click('#drawn [aria-expanded]');
+  check('and closed', (await tab.evaluate('document.querySelectorAll("#drawn li").length')) === 0);
+}
+
+// Of lines that look as they did, what is drawn stays, and its buttons are about the line where it now is.
+async function keepRows(_browser, tab) {
+  await setText(tab, ['refresh', 'expect not same', 'expect lost none', 'nonsense']);
+  await tab.evaluate('[...document.querySelectorAll("#drawn > div")].forEach((row, k) => { row.dataset.was = k; })');
+  await tab.evaluate('editor.reveal(1)');
+  await tab.type('# above\n');
+  await tab.settle();
+  const was = await tab.evaluate('[...document.querySelectorAll("#drawn > div")].map((row) => row.dataset.was ?? "new").join()');
+  check('rows stay', was.startsWith('new,') && was.split(',').filter((one) => one === 'new').length <= 3 && was.endsWith('3'), was);
+  check('and have their numbers', (await tab.evaluate('[...document.querySelectorAll("#gutter .mark")].map((mark) => `${mark.textContent.at(-1)}${mark.ariaLabel.split(":")[0]}`).join()')) === '1line 1,2line 2,3line 3,4line 4,5line 5');
+  await tab.evaluate('[...document.querySelectorAll("#drawn .failed button")].find((one) => one.textContent === "Remove").click()');
+  await tab.settle();
+  check('a button of a row that moved', (await valueOf(tab, 'text')) === '# above\nrefresh\nexpect lost none\nnonsense', await valueOf(tab, 'text'));
+  const tops = await tab.evaluate('["#gutter .mark", "#drawn > div", "#text > div"].map((rows) => [...document.querySelectorAll(rows)].map((row) => Math.round(row.getBoundingClientRect().top)).join())');
+  await tab.evaluate('editor.reveal(4)');
+  await tab.until('document.querySelector("#drawn .fault button").tabIndex === 0');
+  await tab.key('Tab', 9);
+  check('the Tab key goes to what can be done about the line', (await tab.evaluate('[document.activeElement.textContent, document.activeElement.closest("#drawn > div").className.split(" ")[0]].join()')) === 'Show,fault' && (await tab.evaluate('[...document.querySelectorAll("#drawn button")].filter((one) => one.tabIndex === 0).length')) === 3, await tab.evaluate('document.activeElement.outerHTML'));
+  check('rows are beside their lines', tops[0] === tops[1] && tops[1] === tops[2], tops.join(' and '));
 }
 
 // The shown line stays with its text while lines come above it, which keep their answers.
@@ -299,6 +444,37 @@ async function sweepAll(_browser, tab) {
   await tab.picture(path.join(folder, 'sweep.png'));
 }
 
+// A sweep within an area fails what is there, and a sweep of all areas shows what is in a chosen one.
+async function sweepWithin(_browser, tab) {
+  await setText(tab, ['']);
+  await tab.click('#tab-Sweep');
+  const choose = (area) => tab.evaluate(`{ const within = document.getElementById('within'); within.value = '${area}'; within.dispatchEvent(new Event('change')); }`);
+  const swept = async () => {
+    await tab.click('#sweep');
+    await tab.until('state.sweep?.isDone');
+    return (await rowsOf(tab)).map(([line]) => line).sort().join(', ');
+  };
+  await tab.click('[data-sweep="routers"]');
+  check('areas to choose from', (await tab.evaluate('[...document.getElementById("within").options].map((option) => option.textContent).join(", ")')) === 'all areas, backbone 0.0.0.0, area 0.0.0.1');
+  await choose('0.0.0.0');
+  const backbone = await swept(), rows = await rowsOf(tab), failed = answers(['fail-router r1', 'changes'])[1].counts;
+  check('routers of the backbone', backbone === 'fail-router r1, fail-router r2, fail-router r3', backbone);
+  check('what one of them does', rows.some(([line, , lost, gone, dearer]) => line === 'fail-router r1' && [lost, gone, dearer].join() === [failed.lost, failed.gone, failed.dearer].join()), JSON.stringify(rows));
+  await choose('');
+  const all = await swept();
+  check('routers of all areas', all === 'fail-router r1, fail-router r2, fail-router r3, fail-router r4, fail-router r5', all);
+  await choose('0.0.0.1');
+  const shown = (await rowsOf(tab)).map(([line]) => line).sort().join(', ');
+  check('of them those of an area', shown === 'fail-router r2, fail-router r3, fail-router r4, fail-router r5' && (await tab.evaluate('picture.heat.size')) === 4, shown);
+  await tab.picture(path.join(folder, 'within.png'));
+  await tab.evaluate('makeReport().then(() => 0)');
+  const losing = [2, 3, 4, 5].filter((one) => answers([`fail-router r${one}`, 'changes'])[1].counts.lost).length, printed = await textOf(tab, '#report');
+  check('a sweep is printed', losing > 0 && printed.includes(`One more failure within area 0.0.0.1: ${losing} of 4 lose routes`) && (await tab.evaluate('document.querySelectorAll("#report .bar").length')) === 4);
+  await choose('');
+  await tab.click('[data-sweep="all"]');
+  await setText(tab, ['']);
+}
+
 // A saved page in which somebody put another dump says that its outcome is another one.
 async function changeSaved(browser, html) {
   const other = path.join(folder, 'other.oswp'), changed = path.join(folder, 'changed.html');
@@ -356,6 +532,188 @@ async function foresee(_browser, tab) {
   await tab.evaluate('select(null)');
 }
 
+// The number of times that what is drawn along a link begins: once for a line, and for each of its dashes.
+const dashesOf = (tab, one, other) => tab.evaluate(`(() => {
+  const edge = [...picture.edges.values()].find(({ a, b }) => [a, b].sort().join() === ${JSON.stringify([one, other].sort().join())}), [[x, y], [u, v]] = picture.endsOf(edge);
+  const { width, height } = picture, length = Math.hypot(u - x, v - y), context = Object.assign(document.createElement('canvas'), { width, height }).getContext('2d', { willReadFrequently: true });
+  picture.drawIn(context);
+  const points = context.getImageData(0, 0, width, height).data, [dx, dy] = [(u - x) / length, (v - y) / length];
+  const ink = (at) => [-1, 0, 1].some((side) => points[4 * (Math.round(y + dy * at + dx * side) * width + Math.round(x + dx * at - dy * side)) + 3] > 128);
+  return Array.from({ length: Math.floor(length) - 100 }, (_, k) => ink(k + 50) && !ink(k + 49)).filter(Boolean).length;
+})()`);
+
+// Links that changed have dashes in the picture: nothing is shown by colors alone.
+async function drawDashes(_browser, tab) {
+  await setText(tab, ['cost 0.0.0.0 r1 r2 40', 'fail-link 0.0.0.1 r2 r4']);
+  await tab.click('#tab-Changes');
+  await tab.evaluate('picture.layers = { costs: false, areas: false }, select(null)');
+  const [plain, cost, failed] = [await dashesOf(tab, '1.1.1.1', '3.3.3.3'), await dashesOf(tab, '1.1.1.1', '2.2.2.2'), await dashesOf(tab, '2.2.2.2', '4.4.4.4')];
+  check('dashes of changed links', plain <= 1 && cost > 3 && failed > cost, [plain, cost, failed].join());
+  const legend = await tab.evaluate('[...document.querySelectorAll("#legend > span")].filter((one) => one.querySelector(":scope > svg")).map((one) => [one.textContent.trim(), one.querySelector("line").getAttribute("stroke-dasharray")].join(": "))');
+  check('they are explained', JSON.stringify(legend) === '["failed: 5 4","10→40 cost set: 14 3 3 3"]', JSON.stringify(legend));
+  await tab.evaluate('picture.layers = { costs: true, areas: true }, picture.draw()');
+  await tab.picture(path.join(folder, 'dashes.png'));
+}
+
+const menuOf = (tab) => tab.evaluate('[...document.querySelectorAll("#menu:popover-open [role=menuitem]")].map((item) => item.firstChild.textContent)');
+const offeredIn = (tab) => tab.evaluate('[...document.querySelectorAll("#card .actions button")].map((item) => item.firstChild.textContent)');
+const focused = (tab) => tab.evaluate('document.activeElement.id || document.activeElement.firstChild?.textContent');
+
+// What a router uses, as `routes` answers: with what it was, by neighbor, address and interface, and the longest match of an address.
+async function listRoutes(_browser, tab) {
+  const lines = ['cost 0.0.0.0 r1 r3 40'];
+  await setText(tab, lines);
+  await tab.click('#tab-Routes');
+  const submit = (router, address) => tab.evaluate(`{ const form = document.querySelector('#pane form'); form.elements.router.value = '${router}'; form.elements.address.value = '${address}'; form.requestSubmit(); }`);
+  await submit('r1', '');
+  await tab.settle();
+  const [, { routes }, { changes }] = answers([...lines, 'routes r1', 'changes r1']), was = (prefix) => changes.find((one) => one.prefix === prefix);
+  const cost = (route) => route.kind === 'own' ? `own ${route.metric}` : route.kind === 'ext2' ? `${route.metric} + ${route.cost}` : String(route.cost);
+  const way = ({ kind, router, addresses, out }) => `${kind === 'via' ? `r${router[0]} ${addresses.join('/')}` : kind}${out ? ` out ${out}` : ''}`;
+  const wanted = routes.map((route) => [was(route.prefix)?.change ?? '', route.prefix, route.kind, cost(route), was(route.prefix) ? cost(was(route.prefix).was) : '', route.area ?? '', route.kind === 'own' ? 'its own' : route.ways.map(way).join('')]);
+  const rows = (await rowsOf(tab)).map(([change, ...cells]) => [change.split(' ').at(-1), ...cells.slice(0, 5), cells[5].replace(/ was .*/, '')]);
+  check('routes of a router', routes.length > 4 && changes.length > 0 && JSON.stringify(rows) === JSON.stringify(wanted), JSON.stringify([rows, wanted]));
+  await tab.picture(path.join(folder, 'routes.png'));
+  const [, answer] = answers([...lines, 'explain r1 10.1.5.0/24']), whyOf = '#pane [aria-label="Why 10.1.5.0/24 is so"]';
+  await tab.click(whyOf);
+  await tab.until('document.querySelector("#pane .drawer")');
+  const [used, lost] = ['used', 'lost'].map((kind) => answer.candidates.filter((one) => one.state === kind));
+  const reasons = [answer.rule, ...[...used, ...lost].map((one) => `${one.state === 'used' ? '✓' : '✕'} area ${one.lsa.area} summary ${one.lsa.prefix} by r${one.lsa.router[0]} distance ${one.distance} metric ${one.metric}: ${one.rule}`),
+    ...answer.steps.map((one) => `r${one.router[0]} → r${one.to[0]} out ${one.out} cost ${one.cost}, ${one.sum} in all`), ...answer.rests.map((one) => `area ${one.area} ${one.type === 1 ? 'router ' : `summary ${one.prefix} by `}r${one.router[0]}`)];
+  const drawn = await tab.evaluate('[...document.querySelectorAll("#pane .drawer b, #pane .drawer li")].map((one) => one.textContent)');
+  check('why a route is so', used.length === 1 && lost.length === 1 && JSON.stringify(drawn) === JSON.stringify(reasons), JSON.stringify([drawn, reasons]));
+  check('below the route', (await tab.evaluate('document.querySelector("#pane .drawer").previousElementSibling.cells[1].textContent')) === '10.1.5.0/24' && (await tab.evaluate(`document.querySelector('${whyOf}').ariaExpanded`)) === 'true');
+  await tab.picture(path.join(folder, 'why.png'));
+  await tab.click(whyOf);
+  check('and closed', !(await tab.evaluate('Boolean(document.querySelector("#pane .drawer"))')) && (await tab.evaluate(`document.querySelector('${whyOf}').ariaExpanded`)) === 'false');
+  await submit('r4', '10.1.5.1');
+  await tab.settle();
+  const [, { routes: [match] }] = answers([...lines, 'routes r4 10.1.5.1']), [first] = await rowsOf(tab);
+  check('the longest match', first[1] === match.prefix && (await rowsOf(tab)).length === 2, JSON.stringify(await rowsOf(tab)));
+  await submit('r1', '');
+  await tab.settle();
+}
+
+// Flags in the picture, where a router announces more or less; the card says what, and edits that were taken back do not count.
+async function flagAnnouncements(_browser, tab) {
+  await setText(tab, ['drop-external r1 0.0.0.0/0', 'add-stub 0.0.0.1 r5 10.9.0.0/24 1', 'add-stub 0.0.0.1 r4 10.9.1.0/24 1', 'undo 1', '']);
+  await tab.evaluate('showAfter(4)');
+  await tab.settle();
+  const flags = await tab.evaluate('[...picture.nodes.values()].filter(({ flag }) => flag).map(({ label, flag }) => label + flag).join()');
+  check('flags', flags === 'r1−,r5+', flags);
+  await tab.evaluate('select("5.5.5.5")');
+  check('what is announced', (await textOf(tab, '#card .dim')) === 'announces 10.9.0.0/24', await textOf(tab, '#card .dim'));
+  const ring = await tab.evaluate('[...document.querySelectorAll("#legend span span")].map((one) => one.textContent.trim()).join()');
+  check('parts of rings that are drawn are explained', ring === 'lost,better', ring);
+  check('flags are explained', (await textOf(tab, '#legend')).includes('⚑ announces more (+) or less (−)'));
+  await tab.evaluate('select(null)');
+  await tab.picture(path.join(folder, 'flags.png'));
+  await setText(tab, ['fail-router r4', 'undo 1', 'fail-net 0.0.0.1 10.1.0.5']);
+  check('what may loop after what was taken back', JSON.stringify(await tab.evaluate('state.answers.now.microloops.loops')) === JSON.stringify(answers(['fail-router r4', 'undo 1', 'fail-net 0.0.0.1 10.1.0.5', 'microloops 1'])[3].loops));
+}
+
+// Where a line failed, Show lists what was found; and what the page did is taken back by it too.
+async function showWhatFailed(_browser, tab) {
+  const shows = async (line, more = []) => {
+    await setText(tab, ['fail-link 0.0.0.0 r1 r2', line, ...more]);
+    await tab.click('#tab-Elements');
+    await tab.click('#drawn .failed .acts button');
+    await tab.settle();
+    return tab.evaluate('[state.tab, state.shown, document.querySelector("#pane tbody tr.row td")?.textContent ?? ""].join()');
+  };
+  check('what is lost', (await shows('expect lost none', ['expect same'])).startsWith('Changes,2,'), await tab.evaluate('state.tab'));
+  check('of it alone', (await tab.evaluate('[...document.querySelectorAll("#pane .chip[aria-pressed=true]")].map((one) => one.textContent).join()')) === '✕ lost 3');
+  await tab.click('#pane .chip[aria-pressed=true]');
+  check('blackholes', (await shows('expect blackholes none')) === 'Loops,2,blackhole', await tab.evaluate('state.tab'));
+  check('a path', (await shows('expect path r4 8.8.8.8 avoids r3')).startsWith('Path,2,') && (await tab.evaluate('[state.path.from, state.path.to].join()')) === '4.4.4.4,8.8.8.8', await tab.evaluate('state.tab'));
+  await setText(tab, ['fail-router r4']);
+  check('a path from what failed', (await tab.evaluate('document.querySelector("#pane .now h3 .dim").textContent')) === 'N1 NoRouter r4 (it is in the baseline alone)', await tab.evaluate('document.querySelector("#pane .now h3 .dim").textContent'));
+  await setText(tab, ['fail-router r4', 'refresh', 'undo 1', 'undo 1', '']);
+  check('what was taken back', (await marksOf(tab)).trim() === 'edit edit back back', await marksOf(tab));
+  const said = await tab.evaluate('[...document.querySelectorAll("#drawn .back")].map((row) => row.querySelector(".said, .answer").firstChild.textContent)');
+  check('and what is left', said[0] === `1 edit taken back, ${wordsOf(answers(['fail-router r4', 'changes'])[1].counts)}` && said[1] === '1 edit taken back, no table is changed', said.join('; '));
+}
+
+// The card of a router lists its links, which are selected there; and what failed is taken back by its name too.
+async function listLinks(_browser, tab) {
+  await setText(tab, ['fail-router r4', '']);
+  await tab.evaluate('state.listsLinks = true, select("2.2.2.2")');
+  const listed = await tab.evaluate('[...document.querySelectorAll("#card details button")].map((one) => [...one.children].map((part) => part.textContent).join(" ")).join(", ")');
+  check('links of a router', listed === 'r1 0.0.0.0 10 / 10, r4 0.0.0.1 10 / ✕', listed);
+  await tab.click('#card details button');
+  check('one of them is selected', (await textOf(tab, '#card h2')) === 'r1 – r2', await textOf(tab, '#card h2'));
+  await tab.evaluate('state.listsLinks = false, select(null), document.getElementById("picture").focus()');
+  await tab.key('/', 191);
+  await tab.type('remove r4');
+  check('what failed is found', (await suggested(tab))[0] === 'Remove line 1: r4 is failed', JSON.stringify(await suggested(tab)));
+  await tab.key('Enter', 13);
+  await tab.settle();
+  check('and its line goes', (await valueOf(tab, 'text')) === '', await valueOf(tab, 'text'));
+}
+
+// The second button of a mouse opens a menu at a router, with what its card offers; it is closed without a line, or adds one.
+async function openMenus(_browser, tab) {
+  await setText(tab, ['']);
+  await tab.evaluate('select(null)');
+  await tab.clickAt(...await tab.evaluate('picture.placeOf("4.4.4.4")'), 'right');
+  check('a menu at a router', JSON.stringify(await menuOf(tab)) === '["Fail","Drain","Path from here","Path to here","Routes"]', JSON.stringify(await menuOf(tab)));
+  check('it offers what the card offers', JSON.stringify(await menuOf(tab)) === JSON.stringify(await offeredIn(tab)), JSON.stringify(await offeredIn(tab)));
+  check('it is of that router', (await tab.evaluate('document.getElementById("menu").getAttribute("aria-label")')) === 'r4' && (await textOf(tab, '#card h2')) === 'r4');
+  await tab.until('/\\d/.test(document.querySelector("#menu [data-key=f] .forecast").textContent)');
+  const said = await textOf(tab, '#menu [data-key=f] .forecast');
+  check('what the menu foresees', said === wordsOf(answers(['fail-router r4', 'changes'])[1].counts), said);
+  await tab.picture(path.join(folder, 'menu.png'));
+  await tab.clickAt(...await tab.evaluate('(({ left, bottom }) => [left + 30, bottom - 60])(document.getElementById("map").getBoundingClientRect())'));
+  check('a click beside it closes it', (await menuOf(tab)).length === 0 && (await valueOf(tab, 'text')) === '');
+  const key = await tab.evaluate('[...state.graph.edges.values()].find((edge) => edge.a === "1.1.1.1" && edge.b === "2.2.2.2").key');
+  await tab.clickAt(...await middleOf(tab, key), 'right');
+  check('a menu at a link', JSON.stringify(await menuOf(tab)) === '["Cut","Set cost r1 to r2","Set cost r2 to r1"]', JSON.stringify(await menuOf(tab)));
+  await tab.key('Escape', 27);
+  await tab.clickAt(...await tab.evaluate('picture.placeOf("net 0.0.0.1 10.1.0.5")'), 'right');
+  check('a menu at a LAN', JSON.stringify(await menuOf(tab)) === '["Fail the LAN"]', JSON.stringify(await menuOf(tab)));
+  await tab.click('#menu [data-key=f]');
+  await tab.settle();
+  check('a line of the menu', (await valueOf(tab, 'text')) === 'fail-net 0.0.0.1 10.1.0.5\n' && (await menuOf(tab)).length === 0, await valueOf(tab, 'text'));
+  await tab.clickAt(...await tab.evaluate('picture.placeOf("net 0.0.0.1 10.1.0.5")'), 'right');
+  check('what failed is taken back there', JSON.stringify(await menuOf(tab)) === '["Remove line 1"]', JSON.stringify(await menuOf(tab)));
+  await tab.key('Enter', 13);
+  await tab.settle();
+  check('its line goes', (await valueOf(tab, 'text')) === '', await valueOf(tab, 'text'));
+}
+
+// The same without a mouse: from the picture and from a row of the elements.
+async function openMenusByKeys(_browser, tab) {
+  await setText(tab, ['']);
+  await tab.evaluate('document.getElementById("picture").focus(), select("5.5.5.5")');
+  await tab.key('F10', 121, 8);
+  check('Shift and F10 open the menu', (await menuOf(tab)).length === 5 && (await focused(tab)) === 'Fail', await focused(tab));
+  const { left, top, x, y } = await tab.evaluate('(() => { const { left, top } = document.getElementById("menu").getBoundingClientRect(), [x, y] = picture.placeOf("5.5.5.5"); return { left, top, x, y }; })()');
+  check('at the router', Math.abs(left - x) < 12 && Math.abs(top - y) < 200, JSON.stringify([left, top, x, y]));
+  await tab.key('ArrowDown', 40);
+  await tab.key('ArrowDown', 40);
+  check('arrows go from action to action', (await focused(tab)) === 'Path from here', await focused(tab));
+  await tab.key('End', 35);
+  await tab.key('ArrowDown', 40);
+  check('and around', (await focused(tab)) === 'Fail', await focused(tab));
+  await tab.key('Escape', 27);
+  check('Escape closes it, and the picture has the keys', (await menuOf(tab)).length === 0 && (await focused(tab)) === 'picture' && (await textOf(tab, '#card h2')) === 'r5', await focused(tab));
+  await tab.key('ContextMenu', 93);
+  check('the Menu key opens it', (await menuOf(tab)).length === 5);
+  await tab.key('f');
+  await tab.settle();
+  check('a letter does its action', (await valueOf(tab, 'text')) === 'fail-router r5\n', await valueOf(tab, 'text'));
+  await tab.click('#tab-Elements');
+  await tab.evaluate('document.querySelector("#pane [data-element=\'2.2.2.2\']").focus()');
+  await tab.key('ContextMenu', 93);
+  check('a menu at a row', (await tab.evaluate('document.getElementById("menu").getAttribute("aria-label")')) === 'r2' && (await menuOf(tab)).length === 5);
+  await tab.key('Escape', 27);
+  check('the row has the keys again', (await tab.evaluate('document.activeElement.dataset.element')) === '2.2.2.2');
+  await setText(tab, ['']);
+  await tab.evaluate('select(null), document.getElementById("picture").focus()');
+  await tab.key('ContextMenu', 93);
+  check('no menu of nothing', (await menuOf(tab)).length === 0);
+}
+
 async function print(_browser, tab) {
   await setText(tab, ['cost 0.0.0.0 r1 r2 40', 'expect lost none', 'fail-link 0.0.0.0 r1 r2', 'fail-router r4', 'expect lost none']);
   await tab.evaluate('makeReport().then(() => 0)');
@@ -369,6 +727,27 @@ async function print(_browser, tab) {
   const pages = pdf.toString('latin1').match(/\/Type\s*\/Page\b/g)?.length;
   check('it is printed on one page or two', pages === 1 || pages === 2, String(pages));
   check('the picture is printed', await tab.evaluate('document.querySelector("#report canvas").getContext("2d").getImageData(0, 0, 2000, 1000).data.some((byte) => byte)'));
+}
+
+// The report has the paths that lines name, as loaded and at their lines: of examples/README.md, by hand.
+async function printPaths(_browser, tab) {
+  await setText(tab, ['path r4 10.0.12.1', 'cost 0.0.0.0 r1 r3 20', 'expect route r1 10.1.5.0/24 cost <= 31', 'expect path r1 10.1.5.1 delivered', 'fail-router r3', 'expect path r1 10.1.5.1 avoids r3', 'path r9 10.1.5.1', '# path r1 10.0.0.1']);
+  await tab.evaluate('makeReport().then(() => 0)');
+  const rows = await tab.evaluate('[...[...document.querySelectorAll("#report h2")].find((one) => one.textContent === "Paths that the study names").nextSibling.tBodies[0].rows].map((one) => [...one.cells].map((cell) => cell.textContent).join(" | "))');
+  const wanted = [
+    'r4, 10.0.12.1 | r4 → r2 (20) | r4 → r2 (20) | 1', 'r1, 10.1.5.1 | r1 → r3 → r5 (21) | r1 → r2 → r4 → r5 or r1 → r3 → r5 (31) | 3, 4', 'r1, 10.1.5.1 | r1 → r3 → r5 (21) | r1 → r2 → r4 → r5 (31) | 6',
+  ];
+  check('named paths', JSON.stringify(rows) === JSON.stringify(wanted), JSON.stringify(rows));
+  const listed = await tab.evaluate('[...document.querySelectorAll("#report ol li")].map((one) => one.querySelector("span")?.textContent.trim() ?? "")');
+  const [, , route, , , last] = answers(['path r4 10.0.12.1', 'cost 0.0.0.0 r1 r3 20', 'expect route r1 10.1.5.0/24 cost <= 31', 'expect path r1 10.1.5.1 delivered', 'fail-router r3', 'expect path r1 10.1.5.1 avoids r3']);
+  check('lines with their answers', listed[0] === 'r4 → r2 (20)' && listed[2] === `ok, ${short(route.found)}` && listed[5] === `ok, ${short(last.found)}` && listed[6] === 'fault, S6 BadAddress r9 (names have r1)' && listed[7] === '', JSON.stringify(listed));
+  const said = await textOf(tab, '#report');
+  check('the status of the program', said.includes('ends with status 1.') && (await tab.evaluate('verdict().wrong.length')) === 1);
+  await setText(tab, ['# CHG-1  r3 goes', '#', '# at night', '', 'expect lost none', '# no title']);
+  await tab.evaluate('makeReport().then(() => 0)');
+  check('a title of the comments', (await tab.evaluate('[...document.querySelectorAll("#report h1, #report h1 + p")].map((one) => one.textContent).join(" | ")')) === 'CHG-1  r3 goes | at night', await textOf(tab, '#report h1'));
+  check('the status where a study holds', (await textOf(tab, '#report')).includes('ends with status 0.'));
+  check('no paths where no line names one', !(await tab.evaluate('document.getElementById("report").textContent')).includes('Paths that'));
 }
 
 async function refuse(_browser, tab) {
@@ -464,8 +843,8 @@ async function beQuiet(_browser, tab) {
 
 // What is done, in this order: in a page in which the files are open, and with others beside it.
 const PARTS = [
-  cutByMouse, useKeys, editStudy, showPaths, sweepAll, foresee, endEarly, typeAbove, complete, findAndDo, saveAll, print, dropFiles, openCaptures, openSession, refuse,
-  readOut, beQuiet, beForbidden, moveThousand, listThousands,
+  cutByMouse, useKeys, editStudy, showPaths, sweepAll, sweepWithin, foresee, openMenus, openMenusByKeys, listLinks, listRoutes, flagAnnouncements, showWhatFailed, drawDashes, typeLines, answerAtLines, keepRows, endEarly, typeAbove, complete, findAndDo, saveAll, print, printPaths, dropFiles, openCaptures, openSession, refuse,
+  readOut, beQuiet, beForbidden, trySamples, auditRegion, moveThousand, listThousands,
 ];
 
 async function main() {

@@ -41,21 +41,24 @@ function switched(label, options, chosen, choose, key) {
 
 const state = {
   dump: null, dumpName: '', names: new Uint8Array(), shown: null, chosen: null, selected: null, tab: 'Changes', kind: null, group: 'router',
-  filter: '', folded: new Set(), path: null, table: null, answers: null, graph: null, audit: null, sweep: null, sweepKind: 'all',
+  filter: '', folded: new Set(), path: null, table: null, match: '', answers: null, graph: null, audit: null, sweep: null, sweepKind: 'all', sweepArea: null,
   found: null, asked: 0, done: 0, savedVerdict: null, networks: [], network: null, baseline: null, picksBaseline: false, isStrict: false,
-  stopped: 0, grammar: null, differences: null, audited: 'findings', sort: { column: null, isDown: false }, places: null,
+  stopped: 0, grammar: null, differences: null, foreseen: null, announced: [], menuFrom: null, listsLinks: false, audited: 'findings', sort: { column: null, isDown: false }, places: null,
 };
 const calculator = new Calculator(parts);
 let timer = null;
 
-const picture = new Picture($('picture'), { select: (id) => select(id) });
-const editor = new Editor({ text: $('text'), gutter: $('gutter'), drawn: $('drawn') }, {
+const picture = new Picture($('picture'), { select: (id) => select(id), menu: (id, x, y) => openMenu(id, x, y) });
+const editor = new Editor({ room: $('editor'), text: $('text'), gutter: $('gutter'), drawn: $('drawn') }, {
   change: (nearest) => {
     if (state.chosen) state.chosen.number = nearest(state.chosen.number);
     changed();
   },
   show: (number) => showAfter(number),
   leave: () => $('picture').focus(),
+  name: (router) => nameOf(router),
+  actions: (at, line, answer) => lineActions(at, line, answer),
+  speak: (said) => { $('spoken').textContent = said; },
 });
 
 const nameOf = (router) => state.graph?.nodes.get(router)?.label ?? router;
@@ -106,7 +109,7 @@ async function answersAfter(lines, shown, turn) {
     path: state.path, table: state.table, isLarge: state.isLarge, isSmall, isChanged: state.done > 0 || state.baseline !== null || lines.slice(0, shown).some(isEdit),
     counts: isSmall && lines.filter(isEdit).length * routers <= 1000,
   });
-  const answer = await calculator.study(asked(study));
+  const answer = await calculator.study(asked(study, { verbose: isSmall }));
   if (turn !== state.asked) return null;
   if (answer.status > 1) {
     report(text(answer.errors).trim() || 'memory ran out');
@@ -132,6 +135,11 @@ async function calculate(isNew) {
   Object.assign(state, { answers, shown, stopped, differences: null });
   state.graph = topology(answers.before, answers.now);
   spreadParallels(state.graph.edges);
+  state.announced = announcements(shownEdits().map((number) => lines[number - 1]));
+  for (const { router, sign } of state.announced) {
+    const node = state.graph.nodes.get(idOf(router));
+    if (node) node.flag = !node.flag || node.flag === sign ? sign : '±';
+  }
   if (isNew || !picture.places.size) await place();
   if (turn !== state.asked) return;
   show();
@@ -167,7 +175,6 @@ function show() {
   editor.show(answers.study, { shown: state.shown, counts: answers.counts, names, stopped: state.stopped });
   showVerdict();
   showTicks();
-  showFaults();
   showPicture();
   showCard();
   showTabs();
@@ -181,7 +188,7 @@ function showPicture() {
   picture.routeCount = routeCount(answers.now.changes);
   const isPath = state.tab === 'Path';
   picture.paths = isPath ? { before: stepsOf(answers.before.path), now: stepsOf(answers.now.path) } : { before: [], now: [] };
-  picture.ends = isPath ? endsOf(answers.now.path) : [];
+  picture.ends = isPath ? [{ id: state.path?.from, label: 'from' }, ...endsOf(answers.now.path)] : [];
   picture.heat = heatOf(state.sweep);
   picture.selected = state.selected;
   picture.show(graph);
@@ -190,18 +197,36 @@ function showPicture() {
   showLegend();
 }
 
-function showLegend() {
-  const { nodes, edges } = state.graph, routers = [...nodes.values()].filter((node) => node.kind === 'router');
+// A stroke of the picture, as it is drawn there, in the color of the text.
+function strokeSample({ width, dash }) {
+  const of = (name, attributes) => Object.entries(attributes).reduce((made, [key, value]) => (made.setAttribute(key, value), made), document.createElementNS('http://www.w3.org/2000/svg', name));
+  const sample = of('svg', { width: 28, height: 10, viewBox: '0 0 28 10', 'aria-hidden': 'true' });
+  sample.append(of('line', { x1: 1, y1: 5, x2: 27, y2: 5, stroke: 'currentColor', 'stroke-width': width, 'stroke-dasharray': dash.join(' ') || 'none' }));
+  return sample;
+}
+
+// What is drawn in a picture and means something: its signs with their meaning, each only where it is drawn.
+function legendOf({ nodes, edges, mode, paths, impact }) {
+  const routers = [...nodes.values()].filter((node) => node.kind === 'router'), links = [...edges.values()];
   const has = (...roles) => routers.some((node) => ['abr', 'asbr'].every((role) => node.roles.includes(role) === roles.includes(role)));
-  const drawn = [
-    [true, '○ router'], [has('abr'), '□ ABR'], [has('asbr'), '⬡ ASBR'], [has('abr', 'asbr'), '⯃ ABR and ASBR'], [nodes.size > routers.length, '▭ LAN'],
-    [[...edges.values()].some(edgeFailed) || routers.some((node) => node.failed), '┅ failed', 'down'], [routers.some((node) => node.drained), '▨ drained', 'dearer'],
-    [[...edges.values()].some(edgeChanged), '10→40 cost set', 'dearer'], [[...edges.values()].some((edge) => edgeOneWay(edge) && !edge.isNew), '┄ one way', 'down'], [[...edges.values()].some(({ isNew }) => isNew), '━ new', 'better'], [picture.paths.before.length, '┅ path before'], [picture.paths.now.length, '━ path after', 'now'],
+  const signs = [
+    [true, '○ router'], [has('abr'), '□ ABR'], [has('asbr'), '⬡ ASBR'], [has('abr', 'asbr'), '⯃ ABR and ASBR'], [nodes.size > routers.length, '▭ LAN'], [routers.some((node) => node.drained), '▨ drained', 'dearer'], [routers.some((node) => node.flag), '⚑ announces more (+) or less (−)'],
   ].filter(([is]) => is).map(([, label, kind]) => element('span', { class: kind }, label));
-  if (picture.mode === 'impact' && [...picture.impact.values()].some(({ lost }) => lost)) drawn.push(element('span', {}, element('b', { class: 'badge' }, 'n'), ' routes lost'));
-  if (picture.mode === 'impact' && picture.impact.size) drawn.push(element('span', {}, '◌ share of routes ', element('b', { class: 'lost' }, 'lost '), element('b', { class: 'dearer' }, 'dearer '), element('b', { class: 'moved' }, 'moved')));
-  if (picture.mode === 'sweep') drawn.push(element('span', {}, 'if it fails: ', element('b', { class: 'lost' }, '━ loses routes '), element('b', { class: 'dearer' }, '━ dearer '), element('b', { class: 'moved' }, '━ moved')));
-  $('legend').replaceChildren(...drawn);
+  const sampled = (stroke, label, kind) => element('span', { class: kind }, strokeSample(stroke), ` ${label}`);
+  const lines = [
+    [links.some(edgeFailed) || routers.some((node) => node.failed), LINK_STROKES.failed, 'failed', 'down'], [links.some(edgeChanged), LINK_STROKES.changed, '10→40 cost set', 'dearer'],
+    [links.some((edge) => edgeOneWay(edge) && !edge.isNew), LINK_STROKES.oneWay, 'one way', 'down'], [links.some(({ isNew }) => isNew), LINK_STROKES.isNew, 'new', 'better'],
+    [paths.before.length, PATH_STROKES.before, 'path before'], [paths.now.length, PATH_STROKES.now, 'path after', 'now'],
+  ].filter(([is]) => is).map(([, ...sample]) => sampled(...sample));
+  const kinds = ['lost', 'dearer', 'moved'], changed = [...impact.values()], parts = Object.keys(RING_STROKES).filter((kind) => changed.some((counts) => ringParts(counts)[kind]));
+  const rings = mode === 'impact' && parts.length ? [element('span', {}, '◌ share of routes ', parts.map((kind) => sampled(RING_STROKES[kind], `${kind} `, kind)))] : [];
+  const heat = mode === 'sweep' ? [element('span', {}, 'if it fails: ', kinds.map((kind) => sampled(HEAT_STROKES[kind], `${kind === 'lost' ? 'loses routes' : kind} `, kind)))] : [];
+  const badge = mode === 'impact' && changed.some(({ lost }) => lost) ? [element('span', {}, element('b', { class: 'badge' }, 'n'), ' routes lost')] : [];
+  return [...signs, ...lines, ...badge, ...rings, ...heat];
+}
+
+function showLegend() {
+  $('legend').replaceChildren(...legendOf({ ...state.graph, mode: picture.mode, paths: picture.paths, impact: picture.impact }));
 }
 
 // The number of routes of a router, on the average, of which its ring shows shares.
@@ -302,16 +327,27 @@ const outcomeText = () => `${$('verdict').textContent}: ${$('held').textContent}
 // A text with names in the place of Router IDs, which documents have.
 const named = (said) => said.replace(/\b\d+\.\d+\.\d+\.\d+\b(?!\/)/g, (address) => state.graph?.nodes.get(address)?.label ?? address);
 
-function showFaults() {
-  const lines = editor.lines();
-  const wrong = [...state.answers.study].filter(([, { answer }]) => WRONG.has(answer));
-  $('faults').replaceChildren(...wrong.map(([number, answer]) => {
-    const line = lines[number - 1], mended = mend(line, answer);
-    return element('p', { class: answer.answer }, element('b', {}, `${number} ${line.trim()}: `), answer.found ? named(found(answer)) : found(answer), ' ',
-      button('Show', () => showAfter(number), { 'aria-label': `Show the network after line ${number}` }),
-      mended ? button(answer.found ? 'Expect what was found' : `Write ${mended.word}`, () => editor.change(number, mended.line)) : null,
-      button('Remove', () => editor.remove(number), { 'aria-label': `Remove line ${number}` }));
-  }));
+// What can be done about a line that is not accepted; `at` gives its number.
+function lineActions(at, line, answer) {
+  const mended = mend(line, answer), act = (label, onclick, attributes = {}) => element('button', { type: 'button', onclick, ...attributes }, label);
+  return [
+    act('Show', () => showWrong(at(), answer), { title: 'The network after this line' }),
+    mended && act(answer.found ? 'Expect what was found' : `Write ${mended.word}`, () => editor.change(at(), mended.line), { title: mended.line.trim() }),
+    act('Remove', () => editor.remove(at()), { title: 'Removes this line' }),
+  ].filter(Boolean);
+}
+
+// Where what was found is listed, by what was expected.
+const LISTED = { lost: 'Changes', gone: 'Changes', changes: 'Changes', same: 'Changes', loops: 'Loops', blackholes: 'Loops', microloops: 'Loops', audit: 'Audit', path: 'Path', route: 'Path', 'no-route': 'Path', hops: 'Path' };
+
+// Shows the network after a line that is not accepted, and lists what was found.
+function showWrong(number, { expected }) {
+  const path = pathNamed(editor.lines()[number - 1]);
+  state.tab = LISTED[expected] ?? state.tab;
+  if (state.tab === 'Changes') state.kind = ['lost', 'gone'].includes(expected) ? expected : null;
+  if (state.tab === 'Path' && path) state.path = { from: idOf(path.router), to: path.address };
+  if (state.tab === 'Audit') state.audited = 'findings';
+  showAfter(number);
 }
 
 // A line with what the hint of its refusal names in the place of the word at fault, or one that expects what was found.
@@ -438,13 +474,17 @@ function onControlKey(event, isTyped) {
 }
 
 function onKey(event) {
-  const isTyped = /INPUT|TEXTAREA|SELECT/.test(event.target.tagName) && event.target.type !== 'checkbox';
+  const isTyped = event.target.isContentEditable || (/INPUT|TEXTAREA|SELECT/.test(event.target.tagName) && event.target.type !== 'checkbox');
   if (event.altKey || document.querySelector('dialog[open], [popover]:popover-open') || !state.graph) return;
   if (event.ctrlKey || event.metaKey) {
     onControlKey(event, isTyped);
     return;
   }
   if (isTyped && event.key !== 'F8') return;
+  if (isMenuKey(event) || (event.key === 'Enter' && event.target === $('picture'))) {
+    if (openMenuByKey(event.target)) event.preventDefault();
+    return;
+  }
   const offered = state.selected ? [...$('card').querySelectorAll('[data-key]')] : [];
   const own = [event.key, event.key.toLowerCase()].map((key) => offered.find((one) => one.dataset.key === key)).find(Boolean);
   const tab = Object.keys(tabs())[Number(event.key) - 1];
@@ -538,6 +578,7 @@ function listen() {
   listenToLines();
   listenToFiles();
   listenToPicture();
+  listenToMenu();
   document.addEventListener('keydown', onKey);
   $('earlier').onclick = () => step(-1);
   $('later').onclick = () => step(1);
@@ -555,37 +596,18 @@ function listen() {
   splitter('higher', '--results', false);
 }
 
-// The small picture of a network: its links and its nodes.
-async function drawSample(canvas, { dump, names }) {
-  const given = { dump: fromBase64(dump), names: bytes(names), study: bytes('routers\nlinks\nnetworks\n'), json: true, keepGoing: true };
-  const [routers, links, networks] = documentsOf(await calculator.study(given));
-  const { nodes, edges } = topology({ routers, links, networks }, {});
-  const { places } = await calculator.ask('place', placing({ nodes, edges }));
-  const small = new Picture(canvas, { select: () => {} });
-  small.layers = { costs: false, areas: true };
-  small.margins = [26, 22];
-  small.put([...nodes.keys()], places);
-  small.show({ nodes, edges });
-  small.fit();
-}
-
-// The networks that come with the page, each with a small picture.
-function showSamples() {
-  $('samples').replaceChildren(...parts.samples.map(({ title, about, dump, names, study, name }) => element('button', {
-    type: 'button', onclick: () => open(fromBase64(dump), name, { names: bytes(names), study, studyName: name.replace(/\.oswp$/, '.study') }),
-  }, element('canvas', { 'aria-hidden': 'true' }), element('span', {}, element('b', {}, title), element('span', {}, about)))));
-  parts.samples.forEach((sample, k) => drawSample($('samples').querySelectorAll('canvas')[k], sample).catch(() => {}));
-}
-
 function begin() {
   document.documentElement.dataset.theme = matchMedia('(prefers-color-scheme: dark)').matches ? 'dark' : 'light';
   $('module').textContent = parts.hash.slice(0, 12);
   listen();
   showSamples();
+  showRecipe('FRR');
   isBusy(false);
   const saved = JSON.parse($('saved').textContent);
   if (saved) openSaved(saved);
   calculator.opened.then(({ readsCaptures }) => {
-    if (readsCaptures) $('kinds').textContent = 'A dump or a saved session (.oswp), or the captures, SNMP walks and prints of a network; with it, if you like, a hosts file for names and a study.';
+    if (!readsCaptures) return;
+    $('kinds').textContent = 'A dump or a saved session (.oswp), or the captures, SNMP walks and prints of a network; with it, if you like, a hosts file for names and a study.';
+    $('made').textContent = 'The files may be dropped here too, in place of the dump.';
   }, (error) => report(`this browser cannot run the planner: ${error.message} (it needs WebAssembly with memory64: Chromium 133, Firefox 134)`));
 }

@@ -1,4 +1,5 @@
-// The card of what is selected: what it is, and the lines that it offers, each with what the line would change.
+// The card of what is selected: what it is, and the lines that it offers, each with what the line would change. The menu of an
+// element offers the same.
 
 function select(id) {
   state.selected = id;
@@ -86,35 +87,76 @@ function aboutElement(id) {
   const { nodes, edges } = state.graph, edge = edges.get(id), node = nodes.get(id);
   if (edge) return edge.ends.map((end) => `${nameOf(end.router)} link ${end.number}, ${end.data}, cost ${end.was}${end.now === null ? ', gone' : end.now !== end.was ? `, now ${end.now}` : ''}`);
   if (node.kind === 'network') return [`Designated Router's address ${node.address}`, `members ${node.members.map(nameOf).join(', ')}`];
-  return [`Router ID ${node.id}`, `area${node.areas.length > 1 ? 's' : ''} ${node.areas.join(', ')}`, node.roles.map((role) => role.toUpperCase()).join(' and ')].filter(Boolean);
+  return [...state.announced.filter(({ router }) => idOf(router) === id).map(({ sign, prefix }) => `${sign === '+' ? 'announces' : 'does not announce'} ${prefix}`), `Router ID ${node.id}`, `area${node.areas.length > 1 ? 's' : ''} ${node.areas.join(', ')}`, node.roles.map((role) => role.toUpperCase()).join(' and ')].filter(Boolean);
+}
+
+// What has become of an element: `failed`, `drained`, or nothing.
+function conditionOf(id) {
+  const edge = state.graph.edges.get(id), node = state.graph.nodes.get(id);
+  return node?.failed || (edge && edgeFailed(edge)) ? 'failed' : node?.drained ? 'drained' : '';
+}
+
+// The actions of an element, and first that the line goes by which it failed or was drained.
+function offersOf(id) {
+  const culprit = conditionOf(id) ? lineOf(id) : 0;
+  return [...(culprit ? [{ label: `Remove line ${culprit}`, key: null, act: () => editor.remove(culprit) }] : []), ...actionsOf(id)];
+}
+
+const titleOf = (id) => state.graph.edges.has(id) ? edgeTitle(state.graph.edges.get(id), state.graph.nodes) : state.graph.nodes.get(id).label;
+const isElement = (id) => Boolean(id && (state.graph?.nodes.has(id) || state.graph?.edges.has(id)));
+const doOffer = ({ act, lines }) => act ? act() : add(...lines.map(inBranch));
+
+// A button for an action: its label, what its lines would change once that is known, and its key.
+function offerButton(action, attributes) {
+  const { label, key, lines } = action, shift = key === 'P' ? '⇧ ' : '';
+  return element('button', { type: 'button', 'data-key': key, ...attributes }, label, lines ? element('span', { class: 'forecast' }, '…') : null,
+    key ? element('kbd', { class: lines ? null : 'forecast', 'aria-hidden': 'true' }, `${shift}${key.toUpperCase()}`) : null);
+}
+
+// The links of a router, each with what is at its other end, its area and its costs; one that is chosen is selected.
+function linkList(id) {
+  const { nodes, edges } = state.graph, links = nodes.get(id)?.kind === 'router' ? nodes.get(id).edges : [];
+  if (!links.length || edges.has(id)) return null;
+  const costs = ({ ends }) => [...ends.filter(({ router }) => router === id), ...ends.filter(({ router }) => router !== id)].map(({ now }) => now ?? '✕').join(' / ');
+  const item = (edge) => element('button', { type: 'button', onclick: () => select(edge.key), ...pointAt(edge.key) }, element('b', {}, nameOf(otherEnd(edge, id))), element('span', {}, edge.area), element('span', {}, costs(edge)));
+  return element('details', { open: state.listsLinks, ontoggle: ({ target }) => { state.listsLinks = target.open; } }, element('summary', {}, counted(links.length, 'link')), links.map(item));
 }
 
 function showCard() {
-  const id = state.selected, { nodes, edges } = state.graph ?? {};
-  $('card').hidden = !id || !(nodes?.has(id) || edges?.has(id));
+  const id = state.selected;
+  $('card').hidden = !isElement(id);
   if ($('card').hidden) return;
-  const edge = edges.get(id), node = nodes.get(id), actions = actionsOf(id);
-  const condition = node?.failed || (edge && edgeFailed(edge)) ? ' (failed)' : node?.drained ? ' (drained)' : '';
-  const buttons = actions.map((action) => element('button', { type: 'button', 'data-key': action.key, onclick: action.act ?? (() => add(...action.lines.map(inBranch))) },
-    action.label, action.lines ? element('span', { class: 'forecast' }, '…') : null, action.key ? element('kbd', { class: action.lines ? null : 'forecast' }, `${action.key === 'P' ? '⇧ ' : ''}${action.key.toUpperCase()}`) : null));
-  const culprit = condition ? lineOf(id) : 0;
-  if (culprit) buttons.unshift(element('button', { type: 'button', onclick: () => editor.remove(culprit) }, `Remove line ${culprit}`));
-  $('card').replaceChildren(element('h2', {}, edge ? edgeTitle(edge, nodes) : node.label, condition), ...aboutElement(id).map((line) => element('div', { class: 'dim' }, line)),
-    element('div', { class: 'actions' }, buttons), button('×', () => select(null), { class: 'button bare close', 'aria-label': 'Close' }));
-  forecast(actions.filter(({ lines }) => lines));
+  const condition = conditionOf(id), offers = offersOf(id);
+  $('card').replaceChildren(element('h2', {}, titleOf(id), condition ? ` (${condition})` : ''), ...aboutElement(id).map((line) => element('div', { class: 'dim' }, line)),
+    offers.length ? element('div', { class: 'actions' }, offers.map((offer) => offerButton(offer, { onclick: () => doOffer(offer) }))) : '', linkList(id) ?? '', button('×', () => select(null), { class: 'button bare close', 'aria-label': 'Close' }));
+  forecast(offers, $('card'));
 }
 
-// The line of the study that names an element, the last one before the shown line.
+// The lines whose edits are done where the network is shown.
+function shownEdits() {
+  const lines = editor.lines().slice(0, state.shown);
+  return doneEdits(lines, branchOf(lines.at(-1) ?? ''), state.answers.study);
+}
+
+// The line of the study that names an element, the last one whose edit is done; 0 where there is none.
 function lineOf(id) {
   const { nodes, edges } = state.graph, edge = edges.get(id);
   const names = (edge ? [edge.a, edge.b] : [id]).flatMap((one) => [one, nodes.get(one)?.label, nodes.get(one)?.address]).filter(Boolean);
-  return editor.lines().slice(0, state.shown).findLastIndex((line) => EDITS.has(wordOf(line)) && line.split(/\s+/).some((word) => names.includes(word))) + 1;
+  const lines = editor.lines();
+  return shownEdits().findLast((number) => lines[number - 1].split(/\s+/).some((word) => names.includes(word))) ?? 0;
 }
 
-// Says beside each action what its lines would change, against what the shown line has left.
-async function forecast(actions) {
-  const places = [...$('card').querySelectorAll('span.forecast')], id = state.selected, texts = await forecasts(actions.map(({ lines }) => lines));
-  if (state.selected === id) places.forEach((one, k) => { one.textContent = texts[k] ?? ''; });
+// Says beside each action in the card or the menu what its lines would change, against what the shown line has left.
+async function forecast(offers, room) {
+  const places = [...room.querySelectorAll('span.forecast')], texts = await foreseen(offers.filter(({ lines }) => lines).map(({ lines }) => lines));
+  places.forEach((one, k) => { one.textContent = texts[k] ?? ''; });
+}
+
+// Forecasts that the card and the menu of an element share.
+function foreseen(lists) {
+  const key = `${state.asked} ${JSON.stringify(lists)}`;
+  if (state.foreseen?.key !== key) state.foreseen = { key, texts: forecasts(lists) };
+  return state.foreseen.texts;
 }
 
 // What each of some lists of lines would change by itself, in words; nothing in a large network, and nothing of what is refused.

@@ -102,21 +102,21 @@ function completeStudy(front, after, isAsked) {
 }
 
 // Where the caret of the study is on the screen: its left, its top and its height.
-function caretPlace({ text }) {
-  const front = text.value.slice(0, text.selectionStart), row = front.split('\n').length - 1, column = front.length - front.lastIndexOf('\n') - 1;
-  const { left, top } = text.getBoundingClientRect(), context = document.createElement('canvas').getContext('2d');
-  context.font = getComputedStyle(text).font;
-  return [left + 4 - text.scrollLeft + column * context.measureText('0').width, top + 6 - text.scrollTop + 22 * row, 22];
+function caretPlace({ field }) {
+  const { left, top } = field.caretRect();
+  return [left, top, 22];
 }
 
 // ---- what is found, or done
 
-// Edits of the elements of the network, as they are called in their cards.
+// Edits of the elements of the network, as they are called in their cards, and what takes them back.
 function actionsNow() {
   const { nodes, edges } = state.graph, actions = [];
   for (const id of [...edges.keys(), ...nodes.keys()]) {
     const title = edges.has(id) ? edgeTitle(edges.get(id), nodes) : nodes.get(id).label;
     for (const { label, lines } of actionsOf(id)) if (lines) actions.push({ word: `${label.replace(' the LAN', ' LAN')} ${title}`, lines });
+    const culprit = conditionOf(id) && !edges.get(id)?.isDown ? lineOf(id) : 0;
+    if (culprit) actions.push({ word: `Remove line ${culprit}: ${title} is ${conditionOf(id)}`, act: () => editor.remove(culprit) });
   }
   return actions;
 }
@@ -133,7 +133,7 @@ function findOptions(query) {
   const rank = ({ label }) => label.toLowerCase() === words[0] ? 0 : label.toLowerCase().startsWith(words[0] ?? '') ? 1 : 2;
   const nodes = [...state.graph.nodes.values()].filter(({ id, label }) => has(`${label} ${id}`)).sort((one, other) => rank(one) - rank(other)).slice(0, words.length ? 4 : 3)
     .map((node) => ({ word: node.label, about: node.kind === 'router' ? aboutRouter(node) : 'LAN', act: () => select(node.id) }));
-  const actions = words.length ? actionsNow().filter(({ word }) => has(word)).slice(0, 5).map((action) => ({ ...action, about: '', act: () => add(...action.lines.map(inBranch)) })) : [];
+  const actions = words.length ? actionsNow().filter(({ word }) => has(word)).slice(0, 5).map((action) => ({ ...action, about: '', act: () => doOffer(action) })) : [];
   const commands = COMMANDS.filter(([word]) => has(word)).map(([word, act]) => ({ word, about: '', act }));
   const whole = state.grammar?.isWhole(query.trim().split(/\s+/)) ? [{ word: query.trim(), about: 'add this line', lines: [query.trim()], act: () => add(inBranch(query.trim())) }] : [];
   const line = words.length ? completions(query) : null;

@@ -14,7 +14,7 @@ async function open(dump, name, { names = null, study = null, studyName = null, 
   const [{ routers }, { done }, { words }] = documentsOf(answer);
   keepStudy();
   Object.assign(state, {
-    dump, dumpName: name, names: given.names, done, baseline, chosen: null, selected: null, path: null, audit: null, differences: null, sweep: null, found: findings,
+    dump, dumpName: name, names: given.names, done, baseline, chosen: null, selected: null, path: null, audit: null, differences: null, sweep: null, sweepArea: null, found: findings,
     folded: new Set(), filter: '', kind: null, table: routers[0]?.router ?? null, routerCount: routers.length, isLarge: routers.length > MOST_CALCULATED,
     grammar: new Grammar(words), places,
   });

@@ -24,8 +24,34 @@ function questions(branch, { path, table, isLarge, isSmall, isChanged, edits }) 
 }
 
 const wordOf = (line) => line.replace(/^\s*@[0-7]\s/, '').trim().split(/\s+/)[0];
-const isEdit = (line) => EDITS.has(wordOf(line)) || ['undo', 'redo', 'back'].includes(wordOf(line));
+// Words that take edits back, or carry them out again.
+const STEPS = new Set(['undo', 'redo', 'back']);
+const isEdit = (line) => EDITS.has(wordOf(line)) || STEPS.has(wordOf(line));
 const branchOf = (line) => /^\s*@([0-7])(\s|$)/.exec(line)?.[1] ?? '0';
+
+// The lines of a branch whose edits are done after the last of these lines: what was taken back is not among them. Without answers
+// each line counts as accepted.
+function doneEdits(lines, branch, answers = null) {
+  const done = [], undone = [];
+  const step = (from, to, line) => {
+    for (let left = Number(line.trim().split(/\s+/).at(-1)); left > 0 && from.length; left--) to.push(from.pop());
+  };
+  lines.map((line) => line.replace(/#.*/, '')).forEach((line, k) => {
+    const word = wordOf(line);
+    if (branchOf(line) !== branch || (answers && answers.get(k + 1)?.answer !== 'ok')) return;
+    if (EDITS.has(word)) done.push(k + 1), undone.length = 0;
+    else if (word === 'redo') step(undone, done, line);
+    else if (STEPS.has(word)) step(done, undone, line);
+  });
+  return done;
+}
+
+// The prefixes that edits let routers announce, or not any more, by the words of their lines: the router, `+` or `−`, and the prefix.
+function announcements(lines) {
+  const words = lines.map((line) => line.replace(/#.*/, '').replace(/^\s*@[0-7]\s/, '').trim().split(/\s+/));
+  const at = { 'add-stub': [2, '+', 3], 'add-external': [1, '+', 2], 'drop-external': [1, '−', 2] };
+  return words.filter(([word]) => at[word]).map((line) => ({ router: line[at[line[0]][0]], sign: at[line[0]][1], prefix: line[at[line[0]][2]] }));
+}
 
 // A study with questions before its first line and after line `shown` (0: before all), and with what each edit has changed
 // where `counts` is so. Returns the text, and for each of its lines what it is: of the study by its number, or a question.
@@ -37,7 +63,7 @@ function withQuestions(lines, shown, { counts = false, ...asked }) {
     ...(counts && isEdit(line) ? [{ line: `@${branchOf(line)} changes`, part: 'counts', number }] : []),
   ];
   const branch = shown ? branchOf(lines[shown - 1]) : '0';
-  const edits = lines.slice(0, shown).filter((line) => EDITS.has(wordOf(line)) && branchOf(line) === branch).length;
+  const edits = doneEdits(lines.slice(0, shown), branch).length;
   const all = [
     ...before.map((line) => ({ line, part: 'before' })),
     ...lines.slice(0, shown).flatMap((line, k) => studied(line, k + 1)),
@@ -69,8 +95,7 @@ function readAnswers(replies, all) {
 function shownByDefault(lines) {
   const undone = lines.findLastIndex((line) => /^\s*(@0\s+)?(undo|back)\s/.test(line));
   const edited = lines.findLastIndex((line) => EDITS.has(line.trim().split(/\s+/)[0]));
-  if (undone > edited && edited >= 0) return undone;
-  let last = lines.length;
+  let last = undone > edited && edited >= 0 ? undone : lines.length;
   while (last > 0 && !lines[last - 1].trim()) last--;
   return last;
 }
@@ -158,3 +183,85 @@ const wayText = (way, name) => way.kind === 'via' ? `via ${name(way.router)}` : 
 const costText = (route) => !route ? 'none' : route.kind === 'own' ? `own ${route.metric}` : route.kind === 'ext2'
   ? `${route.metric} + ${route.cost}` : String(route.cost);
 const waysText = (route, name) => !route ? 'none' : route.kind === 'own' ? 'its own' : route.ways.map((way) => wayText(way, name)).join(', ');
+
+// The router and the address whose path a line of a study is about; of a line about a route, the first address of its prefix.
+function pathNamed(line) {
+  const words = line.replace(/#.*/, '').replace(/^\s*@[0-7]\s/, '').trim().split(/\s+/), isExpected = words[0] === 'expect';
+  const [word, router, where] = words.slice(!isExpected ? 0 : words[1] === 'not' ? 2 : 1);
+  if (!where) return null;
+  if (word === 'path') return { router, address: where };
+  return isExpected && ['route', 'no-route', 'hops'].includes(word) ? { router, address: hostIn(where) } : null;
+}
+
+// The ways of a path, each as its routers, in the order of its steps; a way ends where it comes to a router again. At most `most`.
+function waysOf({ router: from, steps }, most) {
+  const next = new Map(), found = [];
+  for (const { router, to } of steps ?? []) if (to) next.set(router, new Set([...(next.get(router) ?? []), to]));
+  const walk = (way) => {
+    const last = way.at(-1), more = way.indexOf(last) < way.length - 1 ? [] : [...(next.get(last) ?? [])];
+    if (!more.length) found.push(way);
+    for (const to of more) if (found.length < most) walk([...way, to]);
+  };
+  walk([from]);
+  return found;
+}
+
+const MOST_WAYS = 3;
+
+// A path in a line: its ways, where they end if it is not delivered, and its cost.
+function pathText(path, name) {
+  const ways = waysOf(path, MOST_WAYS + 1).map((way) => way.map(name).join(' → ')), shown = ways.slice(0, MOST_WAYS);
+  const ends = path.ends.filter((end) => end !== 'delivered' || path.ends.length > 1), cost = path.steps?.[0]?.route ? ` (${costText(path.steps[0].route)})` : '';
+  return `${[[...shown, ...(ways.length > MOST_WAYS ? ['other ways'] : [])].join(' or '), ...ends].join(', ')}${cost}`;
+}
+
+const counted = (count, one, several = `${one}s`) => `${count} ${count === 1 ? one : several}`;
+
+// What a line did that takes edits back or carries them out again, and what is changed after it.
+function stepText(line, counts) {
+  const count = Number(/\b(?:undo|redo|back)\s+(\d+)/.exec(line)?.[1] ?? 0), left = counts ? `, ${countsText(counts) || 'no table is changed'}` : '';
+  return `${counted(count, 'edit')} ${wordOf(line) === 'redo' ? 'done again' : 'taken back'}${left}`;
+}
+
+// What the reply to each question says in a line.
+const REPLIES = {
+  routers: ({ routers }) => counted(routers.length, 'router'),
+  links: ({ links }) => counted(links.length, 'link'),
+  networks: ({ networks }) => counted(networks.length, 'network'),
+  routes: ({ routes, address }, name) => address && routes.length ? `${routes[0].prefix} ${routes[0].kind} ${costText(routes[0])}, ${waysText(routes[0], name)}` : counted(routes.length, 'route'),
+  path: (path, name) => pathText(path, name),
+  explain: ({ route, rule }, name) => route ? `${route.kind} ${costText(route)}, ${waysText(route, name)}: ${rule}` : 'no route',
+  changes: ({ counts }) => countsText(counts) || 'changes no table',
+  differences: ({ differences }) => counted(differences.length, 'difference'),
+  lost: ({ pairs }) => counted(pairs.length, 'route'),
+  gone: ({ pairs }) => counted(pairs.length, 'route'),
+  loops: ({ loops, blackholes }) => `${counted(loops.length, 'loop')}, ${counted(blackholes.length, 'blackhole')}`,
+  microloops: ({ loops }) => loops.length ? `${loops.length} may loop while routers change over` : 'none may loop',
+  audit: ({ wrong, findings, places }) => places ? counted(places.length, 'place') : wrong ? `${wrong} wrong` : findings.length ? `clean, ${counted(findings.length, 'note')}` : 'clean',
+  table: ({ routes }) => counted(routes.length, 'route'),
+  tables: ({ tables }) => counted(tables.length, 'table'),
+  compare: ({ changes }) => counted(changes.length, 'change'),
+  info: ({ areas, lsas, done }) => `${counted(areas, 'area')}, ${counted(lsas, 'LSA')}, ${counted(done, 'edit')}`,
+  log: ({ lines }) => counted(lines.length, 'edit'),
+  help: ({ words }) => words.length === 1 ? words[0].meaning ?? words[0].line : counted(words.length, 'line'),
+};
+const replyText = (answer, name) => REPLIES[answer.word]?.(answer, name) ?? '';
+
+const LSA_NAMES = { 1: 'router', 2: 'network', 3: 'summary', 4: 'asbr-summary', 5: 'external' };
+
+// An LSA by its area, its type, what it describes and its router.
+function lsaText({ area, type, id, router, prefix }) {
+  const named = { 1: router, 3: `${prefix} by ${router}`, 5: `${prefix} by ${router}` }[type] ?? `${id} by ${router}`;
+  return [area && `area ${area}`, LSA_NAMES[type] ?? `type ${type}`, named].filter(Boolean).join(' ');
+}
+
+// A difference of the database, as `differences` writes it.
+function differenceText({ change, area, lsa, what }) {
+  const of = lsa ? lsaText(lsa) : area ? `area ${area}` : '';
+  return `${[change === 'changed' ? '' : change, of].filter(Boolean).join(' ')}: ${what}`;
+}
+
+// A candidate for a route: which LSA it is of, how far, and by which rule it is used or not.
+function candidateText({ lsa, link, distance, metric, rule }) {
+  return `${lsaText(lsa)}${link === null ? '' : ` #${link}`}${distance === null ? '' : ` distance ${distance}`} metric ${metric}: ${rule}`;
+}

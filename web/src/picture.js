@@ -9,6 +9,20 @@ const REST = 140;
 // How much of the picture is drawn beyond each side of what is to be seen, as a share of it.
 const MARGIN = 0.3;
 
+// How links are drawn, by what became of them: never by a color alone, but each with dashes of its own.
+const LINK_STROKES = {
+  plain: { color: 'link', width: 1.6, dash: [] }, failed: { color: 'down', width: 2.2, dash: [5, 4] }, oneWay: { color: 'down', width: 2.2, dash: [1.5, 4] },
+  changed: { color: 'dearer', width: 3.2, dash: [14, 3, 3, 3] }, isNew: { color: 'better', width: 3.2, dash: [10, 4] },
+};
+// How a link is drawn in Sweep, by what its failure would do; where routes are lost the width says how many.
+const HEAT_STROKES = { lost: { color: 'lost', width: 3.4, dash: [] }, dearer: { color: 'dearer', width: 3.4, dash: [11, 4] }, moved: { color: 'moved', width: 3, dash: [3, 4] } };
+// The parts of the ring of a router, by what became of its routes.
+const RING_STROKES = { lost: { color: 'lost', width: 5, dash: [] }, dearer: { color: 'dearer', width: 3, dash: [] }, moved: { color: 'moved', width: 3, dash: [4, 2] }, better: { color: 'better', width: 3, dash: [1.5, 2] } };
+// The path as loaded, and after the shown line.
+const PATH_STROKES = { before: { color: 'before', width: 3.4, dash: [6, 4] }, now: { color: 'now', width: 3.4, dash: [] } };
+// The rims of areas, the backbone first: areas of one color have names that differ.
+const AREA_DASHES = [[], [9, 3], [2, 3], [9, 3, 2, 3], [5, 5], [14, 4], [2, 6], [9, 3, 2, 3, 2, 3], [5, 2, 5, 6]];
+
 class Picture {
   constructor(canvas, on) {
     this.canvas = canvas;
@@ -94,6 +108,13 @@ class Picture {
     this.draw();
   }
 
+  // The place of a node, or of the middle of an edge, in the window; null where it is not drawn.
+  placeOf(id) {
+    const edge = this.edges.get(id), at = this.places.get(id), { left, top } = this.canvas.getBoundingClientRect();
+    const place = edge ? this.endsOf(edge) && this.middle(edge) : at && this.onScreen(at);
+    return place ? [left + place[0], top + place[1]] : null;
+  }
+
   onScreen([x, y]) {
     return [this.view.x + this.view.scale * x, this.view.y + this.view.scale * y];
   }
@@ -111,6 +132,10 @@ class Picture {
     this.listenToPointer();
     const { canvas } = this;
     canvas.addEventListener('pointerleave', () => this.hover(null));
+    canvas.addEventListener('contextmenu', (event) => {
+      const id = this.at(event.offsetX, event.offsetY);
+      if (id && isPointed(event) && this.on.menu?.(id, event.clientX, event.clientY)) event.preventDefault();
+    });
     canvas.addEventListener('keydown', (event) => {
       const by = { ArrowLeft: [60, 0], ArrowRight: [-60, 0], ArrowUp: [0, 60], ArrowDown: [0, -60] }[event.key];
       if (!by) return;
@@ -127,6 +152,7 @@ class Picture {
     const { canvas } = this;
     let drag = null;
     canvas.addEventListener('pointerdown', (event) => {
+      if (event.button) return;
       drag = { x: event.offsetX, y: event.offsetY, moved: false };
       canvas.setPointerCapture(event.pointerId);
     });
@@ -247,14 +273,17 @@ class Picture {
     if (this.layers.areas) this.drawAreas(context);
     this.drawEdges(context, usual);
     this.drawPaths(context);
-    if (this.layers.costs && usual > 52) for (const edge of this.edges.values()) if (this.isSeen(edge)) this.drawCosts(context, edge);
+    if (this.layers.costs && usual > 52) {
+      const seen = [...this.edges.values()].filter((edge) => this.isSeen(edge));
+      for (const edge of [...seen.filter(edgeChanged), ...seen.filter((edge) => !edgeChanged(edge))]) this.drawCosts(context, edge);
+    }
     this.drawNodes(context, usual);
     if (usual > 26) this.drawNames(context, usual);
     if (usual >= 17) this.drawEnds(context, usual);
   }
 
   radius(usual) {
-    return usual < 17 ? 3.5 : Math.max(6, RADIUS * Math.min(1.15, this.view.scale));
+    return usual < 17 ? (this.width < 200 ? 2 : 3.5) : Math.max(6, RADIUS * Math.min(1.15, this.view.scale));
   }
 
   // The rectangles of nodes with their rings.
@@ -292,17 +321,19 @@ class Picture {
       hull.forEach((point, at) => context[at ? 'lineTo' : 'moveTo'](...point));
       context.closePath();
       context.fillStyle = context.strokeStyle = this.colors.areas[k];
-      context.lineWidth = 1;
+      context.lineWidth = 1.2;
       context.globalAlpha = 0.09;
       context.fill();
-      context.globalAlpha = 0.36;
+      context.globalAlpha = 0.55;
+      context.setLineDash(AREA_DASHES[k]);
       context.stroke();
+      context.setLineDash([]);
       context.globalAlpha = 1;
       this.drawAreaName(context, area, hull);
     }
   }
 
-  // The name of an area, at the top, the left, the right or below of its hull: where there is room.
+  // The name of an area, at the top, the left, the right or below of its hull, where there is room, or in one of its corners.
   drawAreaName(context, area, hull) {
     if (this.width < 200) return;
     const label = area === BACKBONE ? 'backbone 0.0.0.0' : `area ${area}`;
@@ -313,7 +344,8 @@ class Picture {
     const [top, right, left, low] = [([, y]) => y, ([x]) => -x, ([x]) => x, ([, y]) => -y].map(extreme);
     const offered = [[top[0], top[1] - 9], [right[0] + half, right[1]], [left[0] - half, left[1]], [low[0], low[1] + 9]];
     const inside = ([x, y]) => x > half && x < this.width - half && y > 44 && y < this.height - 34;
-    const found = offered.find((place) => inside(place) && this.takes(...place, 2 * half, 14));
+    const corners = [[1, 1], [-1, 1], [1, -1], [-1, -1]].map(([right, low]) => extreme(([x, y]) => -(right * x + low * y))).map(([x, y]) => [x + (x > this.width / 2 ? half : -half), y]);
+    const found = [...offered, ...corners].find((place) => inside(place) && this.takes(...place, 2 * half, 14));
     if (!found) return;
     const [x, y] = found;
     context.lineWidth = 3;
@@ -333,25 +365,28 @@ class Picture {
       if (!groups.has(state)) groups.set(state, []);
       groups.get(state).push(edge);
     }
-    const strokes = { failed: this.colors.down, changed: this.colors.dearer, isNew: this.colors.better, plain: this.colors.link, oneWay: this.colors.down };
-    const dashes = { failed: [5, 4], oneWay: [1.5, 4], isNew: [9, 3] };
     for (const [state, edges] of groups) {
       context.beginPath();
       for (const edge of edges) {
         const ends = this.endsOf(edge);
         if (ends) context.moveTo(...ends[0]), context.lineTo(...ends[1]);
       }
-      context.strokeStyle = strokes[state];
-      context.lineWidth = usual < 17 ? 1 : state === 'plain' ? 1.6 : 2.2;
-      context.setLineDash(dashes[state] ?? []);
-      context.globalAlpha = state === 'plain' && hasPath ? 0.55 : 1;
-      context.stroke();
-      context.setLineDash([]);
-      context.globalAlpha = 1;
+      this.stroke(context, LINK_STROKES[state], { alpha: state === 'plain' && hasPath ? 0.55 : 1, width: usual < 17 && state === 'plain' ? 1 : null });
     }
-    if (this.mode === 'sweep') this.drawHeat(context);
+    if (this.mode === 'sweep') this.drawHeat(context, usual);
     for (const key of [this.hovered, this.selected]) this.drawMarked(context, key);
     for (const edge of groups.get('failed') ?? []) if (usual >= 17 && this.isSeen(edge)) this.drawCross(context, ...this.middle(edge), 7);
+  }
+
+  // Draws what was begun: in the color, the width and the dashes of a table.
+  stroke(context, { color, width, dash }, { alpha = 1, width: other = null } = {}) {
+    context.strokeStyle = this.colors[color];
+    context.lineWidth = other ?? width;
+    context.setLineDash(dash);
+    context.globalAlpha = alpha;
+    context.stroke();
+    context.setLineDash([]);
+    context.globalAlpha = 1;
   }
 
   // An edge that is selected or under the pointer.
@@ -369,17 +404,16 @@ class Picture {
     context.globalAlpha = 1;
   }
 
-  // Each link as wide as its failure hurts.
-  drawHeat(context) {
-    const most = Math.max(1, ...[...this.heat.values()].map(({ lost }) => lost));
+  // Each link as wide as its failure hurts, and a ring around each router and LAN.
+  drawHeat(context, usual) {
+    const most = Math.max(1, ...[...this.heat.values()].map(({ lost }) => lost)), radius = this.radius(usual) * 1.3 + 5;
     for (const [key, { lost, dearer, moved }] of this.heat) {
-      const ends = this.edges.has(key) && this.endsOf(this.edges.get(key));
-      if (!ends || !(lost || dearer || moved)) continue;
+      const ends = this.edges.has(key) && this.endsOf(this.edges.get(key)), place = this.nodes.has(key) && this.places.get(key);
+      if (!(ends || place) || !(lost || dearer || moved)) continue;
       context.beginPath();
-      context.moveTo(...ends[0]), context.lineTo(...ends[1]);
-      context.strokeStyle = lost ? this.colors.lost : dearer ? this.colors.dearer : this.colors.moved;
-      context.lineWidth = lost ? 3 + 7 * Math.sqrt(lost / most) : dearer ? 3.4 : 2.2;
-      context.stroke();
+      if (ends) context.moveTo(...ends[0]), context.lineTo(...ends[1]);
+      else context.arc(...this.onScreen(place), radius, 0, 2 * Math.PI);
+      this.stroke(context, HEAT_STROKES[lost ? 'lost' : dearer ? 'dearer' : 'moved'], { width: lost ? 3 + (ends ? 7 : 4) * Math.sqrt(lost / most) : null });
     }
   }
 
@@ -425,14 +459,18 @@ class Picture {
     context.font = this.colors.small;
     context.textAlign = 'center';
     context.textBaseline = 'middle';
+    const placeAt = (t) => [x + (u - x) * t - (v - y) / length * aside, y + (v - y) * t + (u - x) / length * aside];
     for (const [label, t] of labels) {
-      const [px, py] = [x + (u - x) * t - (v - y) / length * aside, y + (v - y) * t + (u - x) / length * aside];
-      if (!label || !this.takes(px, py, label.length * 6.4 + 4, 13)) continue;
+      // What changed is written in any case, farther from its end where there is no room.
+      const isSet = label.includes('→'), offered = isSet ? [t, t + (0.5 - t) / 2, 0.5] : [t];
+      const found = offered.map(placeAt).find((place) => this.takes(...place, label.length * 6.4 + 4, 13)) ?? (isSet ? placeAt(t + (0.5 - t) / 2) : null);
+      if (!label || !found) continue;
+      const [px, py] = found;
       context.lineWidth = 4.5;
       context.lineJoin = 'round';
       context.strokeStyle = this.colors.map;
       context.strokeText(label, px, py);
-      context.fillStyle = label.includes('→') ? this.colors.dearerText : this.colors.cost;
+      context.fillStyle = isSet ? this.colors.dearerText : this.colors.cost;
       context.fillText(label, px, py);
     }
   }
@@ -443,8 +481,9 @@ class Picture {
 
   // The path before, in dashes, and now, each with chevrons, on two sides of the links.
   drawPaths(context) {
-    for (const [steps, stroke, dash, side] of [[this.paths.before, this.colors.before, [6, 4], -3.6], [this.paths.now, this.colors.now, [], 3.6]]) {
-      for (const [from, to] of steps) {
+    for (const [when, side] of [['before', -3.6], ['now', 3.6]]) {
+      const stroke = this.colors[PATH_STROKES[when].color], { dash } = PATH_STROKES[when];
+      for (const [from, to] of this.paths[when]) {
         const a = this.places.get(from), b = this.places.get(to);
         if (a && b) this.drawStep(context, this.onScreen(a), this.onScreen(b), { stroke, dash, side: from < to ? side : -side });
       }
@@ -497,9 +536,10 @@ class Picture {
       context.globalAlpha = 1;
     };
     context.beginPath();
-    outline(context, node, x, y, radius);
+    if (usual < 17 && counts) dot(context, worst(counts), x, y, radius * (1 + 0.8 * this.share(counts)));
+    else outline(context, node, x, y, radius);
     if (usual < 17) {
-      fill(node.failed ? this.colors.down : counts ? this.worst(counts) : area, 1);
+      fill(node.failed ? this.colors.down : counts ? this.colors[worst(counts)] : area, 1);
     } else {
       fill(node.failed ? this.colors.map : this.colors.node, 1);
       if (!node.failed) fill(area, isRouter ? 0.13 : 0.45);
@@ -509,6 +549,7 @@ class Picture {
       context.stroke();
       context.setLineDash([]);
       if (node.drained) this.hatch(context, node, x, y, radius);
+      if (node.flag) this.drawFlag(context, node.flag, x - radius * 0.9, y - radius * 0.7);
       if (node.failed) this.drawCross(context, x + radius * 0.95, y - radius * 0.95, 6.4);
       if (counts) this.drawImpact(context, counts, x, y, radius * 1.3 + 3);
       if (counts && counts.lost) this.drawBadge(context, String(counts.lost), x + radius * 1.25, y - radius * 1.25, this.colors.lost);
@@ -522,8 +563,10 @@ class Picture {
     }
   }
 
-  worst(counts) {
-    return counts.lost + counts.gone ? this.colors.lost : counts.dearer ? this.colors.dearer : this.colors.moved;
+  // The share of a router's routes that changed.
+  share(counts) {
+    const changed = Object.entries(counts).reduce((sum, [kind, count]) => kind.startsWith('router-') ? sum : sum + count, 0);
+    return Math.min(1, changed / (this.routeCount || 1));
   }
 
   // Stripes over a router that is drained.
@@ -545,22 +588,17 @@ class Picture {
   drawImpact(context, counts, x, y, radius) {
     if (!this.routeCount) return;
     let angle = -Math.PI / 2;
-    const parts = [
-      [counts.lost + counts.gone, this.colors.lost], [counts.dearer, this.colors.dearer], [counts.moved + counts.type, this.colors.moved],
-      [counts.gained + counts.cheaper, this.colors.better],
-    ];
     context.lineWidth = 3;
     context.beginPath();
     context.arc(x, y, radius, 0, 2 * Math.PI);
     context.strokeStyle = this.colors.none;
     context.stroke();
-    for (const [count, stroke] of parts) {
+    for (const [kind, count] of Object.entries(ringParts(counts))) {
       if (!count) continue;
       const part = Math.max(0.3, 2 * Math.PI * Math.min(1, count / this.routeCount));
       context.beginPath();
       context.arc(x, y, radius, angle, angle + part);
-      context.strokeStyle = stroke;
-      context.stroke();
+      this.stroke(context, RING_STROKES[kind]);
       angle += part;
     }
   }
@@ -580,6 +618,22 @@ class Picture {
     context.stroke();
     context.fillStyle = this.colors.map;
     context.fillText(label, x, y + 0.5);
+  }
+
+  // A flag at a router that announces more than it did, or less: with a plus or a minus on it.
+  drawFlag(context, sign, x, y) {
+    context.beginPath();
+    context.moveTo(x, y), context.lineTo(x, y - 17), context.lineTo(x - 17, y - 17), context.lineTo(x - 13, y - 11.5), context.lineTo(x - 17, y - 6), context.lineTo(x, y - 6);
+    context.fillStyle = this.colors.map;
+    context.fill();
+    context.strokeStyle = this.colors.text;
+    context.lineWidth = 1.3;
+    context.stroke();
+    context.font = this.colors.font;
+    context.textAlign = 'center';
+    context.textBaseline = 'middle';
+    context.fillStyle = this.colors.text;
+    context.fillText(sign, x - 6, y - 11);
   }
 
   // How the shown path ends: in red where it does not arrive.
@@ -648,6 +702,23 @@ function outline(context, node, x, y, radius) {
     const angle = turn + k * 2 * Math.PI / corners;
     context[k ? 'lineTo' : 'moveTo'](x + size * Math.cos(angle), y + size * Math.sin(angle));
   }
+  context.closePath();
+}
+
+// The parts of the ring of a router: how many of its routes are lost, cost more, moved, or are better.
+const ringParts = (counts) => ({ lost: counts.lost + counts.gone, dearer: counts.dearer, moved: counts.moved + counts.type, better: counts.gained + counts.cheaper });
+
+// What became of a router's routes at worst.
+const worst = (counts) => counts.lost + counts.gone ? 'lost' : counts.dearer ? 'dearer' : 'moved';
+
+// The outline of a router that is drawn as a dot: a cross where routes are lost, a triangle where they cost more, else a circle.
+function dot(context, kind, x, y, radius) {
+  const corners = {
+    lost: [[1, 0.35], [0.35, 0.35], [0.35, 1], [-0.35, 1], [-0.35, 0.35], [-1, 0.35], [-1, -0.35], [-0.35, -0.35], [-0.35, -1], [0.35, -1], [0.35, -0.35], [1, -0.35]].map(([u, v]) => [(u - v) * 0.9, (u + v) * 0.9]),
+    dearer: [[0, -1.25], [1.15, 0.85], [-1.15, 0.85]],
+  }[kind];
+  if (!corners) context.arc(x, y, radius, 0, 2 * Math.PI);
+  else corners.forEach(([u, v], k) => context[k ? 'lineTo' : 'moveTo'](x + radius * u, y + radius * v));
   context.closePath();
 }
 

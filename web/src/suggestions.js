@@ -15,7 +15,7 @@ class Suggestions {
     for (const [name, value] of Object.entries({ 'aria-autocomplete': 'list', 'aria-controls': id, 'aria-haspopup': 'listbox' })) field.setAttribute(name, value);
     field.addEventListener('input', () => this.open());
     field.addEventListener('blur', () => this.close());
-    field.addEventListener('scroll', () => { if (this.isOpen) this.put(); });
+    document.addEventListener('scroll', () => { if (this.isOpen) this.put(); }, { capture: true, passive: true });
     field.addEventListener('keydown', (event) => this.onKey(event), { capture: true });
     this.list.addEventListener('pointerdown', (event) => {
       event.preventDefault();
@@ -90,8 +90,12 @@ class Suggestions {
       return;
     }
     field.focus();
-    field.setSelectionRange(field.selectionStart - this.part.length, field.selectionStart);
-    const isSpaced = /^\s/.test(field.value.slice(field.selectionEnd));
-    document.execCommand('insertText', false, `${option.word}${isSpaced ? '' : ' '}`);
+    const end = field.selectionStart, isSpaced = /^\s/.test(field.value.slice(end)), word = `${option.word}${isSpaced ? '' : ' '}`;
+    if (field.replaceText) {
+      field.replaceText(end - this.part.length, end, word);
+      return;
+    }
+    field.setSelectionRange(end - this.part.length, end);
+    document.execCommand('insertText', false, word);
   }
 }

@@ -3,9 +3,19 @@
 // How many failures are asked for at a time.
 const AT_A_TIME = 8;
 
-function sweepLines(kind) {
-  const { nodes, edges } = state.graph, present = [...nodes.values()].filter((node) => !node.failed);
-  const links = new Map([...edges.values()].filter((edge) => edge.kind === 'link' && !edgeFailed(edge)).map((edge) => [CUTS.link(edge), edge.key]));
+// Whether an element is in an area, or in any where none is named: a link by its own, a border router in each that it has.
+function isWithin(id, area) {
+  const { nodes, edges } = state.graph;
+  return !area || (edges.has(id) ? edges.get(id).area === area : Boolean(nodes.get(id)?.areas.includes(area)));
+}
+
+// The areas of the network, in order of their numbers.
+const areasNow = () => [...new Set([...state.graph.nodes.values()].flatMap(({ areas }) => areas))].sort((one, other) => addressNumber(one) - addressNumber(other));
+
+// The lines that fail what is there of a kind, each with its element: all of it, or what is within an area.
+function sweepLines(kind, area = null) {
+  const { nodes, edges } = state.graph, present = [...nodes.values()].filter((node) => !node.failed && isWithin(node.id, area));
+  const links = new Map([...edges.values()].filter((edge) => edge.kind === 'link' && !edgeFailed(edge) && isWithin(edge.key, area)).map((edge) => [CUTS.link(edge), edge.key]));
   const networks = present.filter((node) => node.kind === 'network').map((node) => [`fail-net ${node.area} ${node.address}`, node.id]);
   const routers = present.filter((node) => node.kind === 'router').map((node) => [`fail-router ${nameOf(node.id)}`, node.id]);
   return { links: [...links], networks, routers, all: [...links, ...networks, ...routers] }[kind];
@@ -13,8 +23,8 @@ function sweepLines(kind) {
 
 async function sweep() {
   const before = editor.lines().slice(0, state.shown);
-  let lines = sweepLines(state.sweepKind);
-  const run = { rows: [], count: lines.length, worker: new Calculator(parts) };
+  let lines = sweepLines(state.sweepKind, state.sweepArea);
+  const run = { rows: [], count: lines.length, worker: new Calculator(parts), area: state.sweepArea };
   state.sweep = run;
   picture.mode = 'sweep';
   for (let at = 0; at < lines.length && !run.isStopped; at += AT_A_TIME) {
@@ -58,7 +68,9 @@ function pointAt(key) {
 }
 
 // What is drawn on links while a sweep is shown.
-const heatOf = (run) => new Map((run?.rows ?? []).map((one) => [one.key, one]));
+const heatOf = (run) => new Map(sweptRows(run).map((one) => [one.key, one]));
+
+const barLength = ({ lost, gone, dearer, moved }) => lost + gone + dearer + moved;
 
 // Shares of a row's counts, against the greatest sum.
 function bar(counts, most) {
@@ -69,21 +81,44 @@ function bar(counts, most) {
   }));
 }
 
+// A list of areas to choose from. Of a sweep of all areas the rows of the chosen one are shown; another sweep is forgotten.
+function areaChoice() {
+  const options = [['', 'all areas'], ...areasNow().map((area) => [area, area === BACKBONE ? `backbone ${area}` : `area ${area}`])];
+  const onchange = ({ target }) => {
+    state.sweepArea = target.value || null;
+    if (state.sweep?.area && state.sweep.area !== state.sweepArea) {
+      state.sweep.isStopped = true;
+      state.sweep = null;
+    }
+    showPicture();
+    showTabs();
+    $('within').focus();
+  };
+  return element('select', { id: 'within', 'aria-label': 'Within area', onchange }, options.map(([value, label]) => element('option', { value, selected: value === (state.sweepArea ?? '') }, label)));
+}
+
+// The rows of a sweep that are within the chosen area, those that lose most first.
+function sweptRows(run) {
+  const rows = (run?.rows ?? []).filter(({ key }) => isWithin(key, state.sweepArea));
+  return rows.sort((a, b) => b.lost - a.lost || b.gone - a.gone || b.dearer - a.dearer);
+}
+
 function showSweep() {
   const run = state.sweep;
   const kinds = switched('What fails', [['links', 'links'], ['networks', 'LANs'], ['routers', 'routers'], ['all', 'all']], state.sweepKind, (value) => { state.sweepKind = value; showTabs(); }, 'sweep');
   if (state.isLarge) return 'With this number of routers a sweep takes too long in a browser: ospf-study carries it out.';
   const start = button(run ? 'Run again' : 'Run', () => { sweep(); showTabs(); }, { id: 'sweep', class: 'button first' });
-  if (!run) return [chips(kinds, start), 'Fails each one by itself, after the shown line, and counts what every router loses.'];
-  const rows = [...run.rows].sort((a, b) => b.lost - a.lost || b.gone - a.gone || b.dearer - a.dearer);
-  const most = Math.max(1, ...rows.map(({ lost, gone, dearer, moved }) => lost + gone + dearer + moved));
+  const choice = [kinds, areaChoice()];
+  if (!run) return [chips(choice, start), 'Fails each one by itself, after the shown line, and counts what every router loses.'];
+  const rows = sweptRows(run);
+  const most = Math.max(1, ...rows.map(barLength));
   const losing = rows.filter(({ lost }) => lost).length;
   const said = run.isDone ? [element('span', { class: 'dim' }, `${rows.length} failures: `, element('b', { class: losing ? 'lost' : '' }, `${losing} lose routes`))]
-    : [element('progress', { max: run.count, value: rows.length, 'aria-label': 'Progress' }), element('span', { class: 'dim' }, `${rows.length} of ${run.count}`), button('Stop', () => { run.isStopped = true; showTabs(); })];
+    : [element('progress', { max: run.count, value: run.rows.length, 'aria-label': 'Progress' }), element('span', { class: 'dim' }, `${run.rows.length} of ${run.count}`), button('Stop', () => { run.isStopped = true; showTabs(); })];
   const cell = (count, kind) => element('span', { class: count ? kind : 'faint' }, String(count));
   const write = run.isDone && rows.length <= MOST_WRITTEN
     ? [element('span', { class: 'grow' }), button('Expect this', () => add(...sweepExpectations(rows)), { title: 'Adds each failure, what it may lose, and that it is taken back' })] : [];
-  return [chips(kinds, run.isDone || run.isStopped ? start : null, ...said, ...write), scroll(table(['Failure', 'What it does', 'Lost', 'Gone', 'Dearer', 'Moved', 'Loops'], rows.map((one) => row(
+  return [chips(choice, run.isDone || run.isStopped ? start : null, ...said, ...write), scroll(table(['Failure', 'What it does', 'Lost', 'Gone', 'Dearer', 'Moved', 'Loops'], rows.map((one) => row(
     [element('span', { class: 'mono' }, one.line), bar(one, most), cell(one.lost, 'lost'), cell(one.gone, 'lost'), cell(one.dearer, 'dearer'), cell(one.moved, 'moved'), cell(one.loops, 'lost')],
     () => { add(inBranch(one.line)); }, { 'data-line': one.line, ...pointAt(one.key) },
   ))))];

@@ -15,6 +15,7 @@ function tabs() {
 
 function showTab(name) {
   state.tab = name;
+  if (!state.answers) return;
   if (name !== 'Sweep' && picture.mode === 'sweep') picture.mode = 'impact';
   showPicture();
   showTabs();
@@ -22,7 +23,7 @@ function showTab(name) {
 
 function badges() {
   const { changes, loops } = state.answers.now, { sweep, audit, found: findings } = state;
-  const losing = sweep?.rows.filter(({ lost }) => lost).length;
+  const losing = sweep && sweptRows(sweep).filter(({ lost }) => lost).length;
   const wrong = audit?.findings.filter((finding) => finding.class === 'wrong').length;
   return {
     Changes: [changes?.changes.length], Loops: [loops && loops.loops.length + loops.blackholes.length, 'bad'],
@@ -222,16 +223,22 @@ function drawMatrix(canvas, { routers, prefixes, at, names, width, height }) {
       const kind = at.get(`${node.id} ${prefix}`)?.change, left = names + x * width, top = y * height;
       context.fillStyle = color(FILLS[kind] ?? 'none-fill');
       if (!node.failed) context.fillRect(left, top, width - (width > 5), height - (height > 5));
-      if (width > 8 && height > 8 && (kind === 'lost' || kind === 'gone' || kind === 'moved')) drawSign(context, kind, left + width / 2 - 0.5, top + height / 2 - 0.5, color('panel'));
+      if (width > 8 && height > 8 && kind && kind !== 'dearer') drawSign(context, kind, left + width / 2 - 0.5, top + height / 2 - 0.5, color('panel'));
     });
   });
 }
 
-// A cross on a cell of a lost route, and a dash on one of a route that moved, so that color is not all.
+// The strokes of a sign on a cell, as from where to where: a cross where a route is lost, a dash where it moved, and a plus where
+// it is better, so that color is not all.
+function signOf(kind) {
+  if (kind === 'lost' || kind === 'gone') return [[-3, -3, 3, 3], [3, -3, -3, 3]];
+  if (kind === 'moved' || kind === 'type') return [[-3.5, 0, 3.5, 0]];
+  return kind === 'cheaper' || kind === 'gained' ? [[-3.5, 0, 3.5, 0], [0, -3.5, 0, 3.5]] : [];
+}
+
 function drawSign(context, kind, x, y, stroke) {
   context.beginPath();
-  if (kind === 'moved') context.moveTo(x - 3.5, y), context.lineTo(x + 3.5, y);
-  else context.moveTo(x - 3, y - 3), context.lineTo(x + 3, y + 3), context.moveTo(x + 3, y - 3), context.lineTo(x - 3, y + 3);
+  for (const [left, top, right, bottom] of signOf(kind)) context.moveTo(x + left, y + top), context.lineTo(x + right, y + bottom);
   context.strokeStyle = stroke;
   context.lineWidth = 1.5;
   context.stroke();
@@ -261,8 +268,8 @@ function pathSide(title, path, other, kind) {
   ));
   for (const loop of path?.loops ?? []) rows.push(row([`loop ${loop.map(nameOf).join(', ')}`, '', '', '', '', ''], null, { class: 'end bad' }));
   const routers = new Set((path?.steps ?? []).map(({ router }) => router)).size;
-  const end = path?.steps?.[0]?.route;
-  return element('div', { class: `scroll ${kind}` }, element('h3', {}, `${kind === 'before' ? '┅' : '━'} ${title}`, element('span', { class: 'dim' }, path ? `${routers} routers, ${path.ends.join(', ')}` : 'no answer'), element('span', { class: 'grow' }), end ? costText(end) : ''),
+  const [end, was] = [path, other].map((one) => one?.steps?.[0]?.route), more = kind === 'now' && end && was ? added({ was, now: end }) : 0;
+  return element('div', { class: `scroll ${kind}` }, element('h3', {}, element('span', { class: 'stroke' }, strokeSample(PATH_STROKES[kind])), title, element('span', { class: 'dim' }, path?.ends ? `${counted(routers, 'router')}, ${path.ends.join(', ')}` : path?.code ? named(found(path)) : 'no answer'), element('span', { class: 'grow' }), end ? costText(end) : '', more ? element('span', { class: more > 0 ? 'dearer' : 'cheaper' }, `${more > 0 ? '+' : '−'}${Math.abs(more)}`) : ''),
     table(['Router', 'Next', 'Out', 'Cost', 'Left', 'Route'], rows));
 }
 
@@ -309,24 +316,86 @@ function showLoops() {
 
 // ---- routes
 
-function showRoutes() {
-  const { routes } = state.answers.now;
-  if (!state.table || !routes?.routes) return 'Choose a router, and Routes in its card.';
-  const rows = routes.routes.slice(0, MOST_ROWS).map((route) => row([
-    route.prefix, route.kind, costText(route), waysText(route, nameOf), button('Why', (event) => { event.stopPropagation(); explain(route.prefix); }, { class: 'button bare', 'aria-label': `Why ${route.prefix} is so` }),
-  ], () => showPath(state.table, addressIn(route.prefix))));
-  const bar = chips(element('b', {}, `What ${nameOf(state.table)} uses`), element('span', { class: 'dim' }, `${routes.routes.length} prefixes`));
-  return [bar, element('div', { class: 'beside' }, scroll(table(['Prefix', 'Kind', 'Cost', 'Ways', ''], rows)), element('pre', { id: 'why', class: 'scroll', hidden: true }))];
+// Whether a prefix covers an address.
+function covers(prefix, address) {
+  const [network, length] = prefix.split('/'), size = 2 ** (32 - Number(length));
+  return Math.floor(addressNumber(network) / size) === Math.floor(addressNumber(address) / size);
 }
 
-// Why a route is what it is, by the rules of RFC 2328.
-async function explain(prefix) {
+// The routes that cover an address, the longest prefix first: the first is the one that packets to it take.
+function matchesOf(routes, address) {
+  const lengthOf = ({ prefix }) => Number(prefix.split('/')[1]);
+  return routes.filter(({ prefix }) => covers(prefix, address)).sort((one, other) => lengthOf(other) - lengthOf(one));
+}
+
+// A way with the neighbor, its address, and the router's own interface.
+function wayCell(way) {
+  const [first, address] = way.kind === 'via' ? [nameOf(way.router), way.addresses.join('/')] : [way.kind, way.address];
+  return element('span', { class: 'way' }, element('b', {}, first), address ? ` ${address}` : '', way.out ? element('span', { class: 'dim' }, ` out ${way.out}`) : '');
+}
+
+// The router whose routes are listed, and an address for which the longest match is looked for.
+function routesForm() {
+  const onsubmit = (event) => {
+    event.preventDefault();
+    const [router, address] = ['router', 'address'].map((name) => event.target.elements[name].value.trim());
+    state.match = /^\d+\.\d+\.\d+\.\d+$/.test(address) ? address : '';
+    state.table = idOf(router);
+    calculate(false);
+  };
+  return element('form', { class: 'chips', onsubmit }, element('label', {}, 'Router ', element('input', { name: 'router', list: 'found', size: 12, value: state.table ? nameOf(state.table) : '' })),
+    element('label', {}, ' address ', element('input', { name: 'address', size: 16, placeholder: 'longest match', value: state.match })), element('button', { class: 'button' }, 'Show'));
+}
+
+// A route in the list of those of a router: with what it was where it changed, and why it is so.
+function routeRow(route, was) {
+  const act = (event) => {
+    event.stopPropagation();
+    explain(route.prefix, event.target.closest('tr'));
+  };
+  const why = button('Why', act, { class: 'button bare', 'aria-expanded': 'false', 'aria-label': `Why ${route.prefix} is so`, onkeydown: (event) => event.stopPropagation() });
+  const ways = route.kind === 'own' ? 'its own' : route.ways.map(wayCell), wasWays = was?.was ? waysText(was.was, nameOf) : '';
+  const cells = [
+    was ? element('b', { class: was.change }, `${SIGNS[was.change]} ${was.change}`) : '', route.prefix, route.kind, costText(route), was ? costText(was.was) : '', route.area ?? '',
+    [ways, wasWays && wasWays !== waysText(route, nameOf) ? element('span', { class: 'dim' }, ` was ${wasWays}`) : ''], why,
+  ];
+  return row(cells, () => showPath(state.table, addressIn(route.prefix)));
+}
+
+function showRoutes() {
+  const { routes, changes } = state.answers.now, form = routesForm();
+  if (!state.table || !routes?.routes) return [form, 'Choose a router, here or by Routes in its card.'];
+  const was = new Map((changes?.changes ?? []).filter(({ router, prefix }) => router === routes.router && prefix).map((change) => [change.prefix, change]));
+  const listed = state.match ? matchesOf(routes.routes, state.match) : routes.routes;
+  form.append(element('span', { class: 'grow' }), element('span', { class: 'dim' }, state.match ? `${counted(listed.length, 'route')} for ${state.match}, the longest match first` : counted(routes.routes.length, 'route')));
+  const heads = ['Change', 'Prefix', 'Kind', 'Cost', 'Was', 'Area', 'Ways: neighbor, its address, own interface', ''];
+  return [form, scroll(table(heads, listed.slice(0, MOST_ROWS).map((route) => routeRow(route, was.get(route.prefix)))))];
+}
+
+// Shows below a route why it is what it is, by the rules of RFC 2328; where that is shown already, closes it.
+async function explain(prefix, at) {
+  const shown = $('pane').querySelector('.drawer'), isOpen = shown?.previousElementSibling === at;
+  shown?.previousElementSibling.querySelector('[aria-expanded]').setAttribute('aria-expanded', 'false');
+  shown?.remove();
+  if (isOpen) return;
   const lines = [...editor.lines().slice(0, state.shown), inBranch(`explain ${nameOf(state.table)} ${prefix}`)];
-  const answer = await calculator.study(asked(lines.join('\n'), { json: false }));
-  const said = text(answer.replies).split('\n'), at = said.findLastIndex((line) => /^@\d explain /.test(line));
-  if (!$('why')) return;
-  $('why').hidden = false;
-  $('why').textContent = said.slice(at, -2).join('\n');
+  const answer = documentsOf(await calculator.study(asked(lines.join('\n')))).findLast(({ word }) => word === 'explain');
+  if (!at.isConnected) return;
+  at.querySelector('[aria-expanded]').setAttribute('aria-expanded', 'true');
+  at.after(element('tr', { class: 'drawer' }, element('td', { colspan: at.cells.length }, answer.code ? named(found(answer)) : reasons(answer))));
+  for (const shownRow of [at.nextElementSibling, at]) shownRow.scrollIntoView({ block: 'nearest' });
+}
+
+// The rule of a route, its candidates with the used ones first, its least paths, and the LSAs on which it rests.
+function reasons({ rule, candidates, steps, rests }) {
+  const ordered = [...candidates.filter((one) => one.state === 'used'), ...candidates.filter((one) => one.state !== 'used')];
+  const stepText = ({ router, kind, to, out, cost, sum }) => `${nameOf(router)} → ${kind === 'router' ? nameOf(to) : `network ${to}`} out ${out} cost ${cost}, ${sum} in all`;
+  const part = (title, listed) => listed.length ? [element('h4', {}, title), element('ul', {}, listed)] : [];
+  return [
+    element('b', {}, rule ?? 'no route'),
+    ...part('Candidates', ordered.map((one) => element('li', { class: one.state === 'used' ? '' : 'dim' }, `${one.state === 'used' ? '✓' : '✕'} ${named(candidateText(one))}`))),
+    ...part('Least paths', steps.map((step) => element('li', {}, stepText(step)))), ...part('Rests on', rests.map((lsa) => element('li', {}, named(lsaText(lsa))))),
+  ];
 }
 
 // ---- elements, audit, files
@@ -341,6 +410,14 @@ function showElements() {
   return [scroll(table(['What', 'Name', 'Area', 'Cost', ''], [...listed.slice(0, MOST_ROWS), listed.length > MOST_ROWS ? element('tr', {}, element('td', { colspan: 5, class: 'dim' }, `and ${listed.length - MOST_ROWS} more: find them by name (/)`)) : null]))];
 }
 
+// What an audit looks for, by docs/STUDY.md, 9.
+const AUDIT_KINDS = [
+  'nssa', 'area-kind', 'virtual-link', 'area-missing', 'abr-without-backbone', 'abr-without-bit-b', 'split-area',
+  'summary-raised', 'summary-not-due', 'summary-missing', 'rfc1583', 'external-without-bit-e', 'undescribed-router',
+  'several-networks', 'duplicate-address', 'own-external', 'forward-unreached', 'one-way-link', 'unequal-cost',
+  'point-to-multipoint', 'drained', 'unreached-router', 'orphan-lsa', 'opaque', 'max-age',
+];
+
 // What the audit says of the loaded database, or how the network after the shown line differs from it, by meaning.
 function showAudit() {
   const kinds = [['findings', 'Findings'], ['differences', 'Differences']];
@@ -354,13 +431,27 @@ function showFindings(which) {
     return [chips(which), 'Calculating.'];
   }
   const bar = chips(which, element('span', { class: 'dim' }, 'what of the loaded database the answers may not be trusted for'), element('span', { class: 'grow' }), button('Expect an audit without findings', () => add('expect audit clean')));
-  if (!state.audit.findings.length) return [bar, 'Clean: nothing in the database makes a table wrong.'];
-  const sorted = [...state.audit.findings].sort((one, other) => (other.class === 'wrong') - (one.class === 'wrong'));
+  const sorted = [...state.audit.findings].sort((one, other) => (other.class === 'wrong') - (one.class === 'wrong')), found = new Set(sorted.map(({ kind }) => kind));
   const rows = sorted.map((finding) => {
     const router = routerIn(finding.first);
-    return row([element('b', { class: finding.class === 'wrong' ? 'lost' : 'dim' }, finding.class), finding.kind, finding.count, named(finding.first), finding.meaning, finding.action], router ? () => select(router) : null);
+    const places = button(String(finding.count), (event) => { event.stopPropagation(); listPlaces(finding.kind); }, { class: 'button bare', 'aria-label': `${finding.kind}: list each place` });
+    return row([element('b', { class: finding.class === 'wrong' ? 'lost' : 'dim' }, finding.class), finding.kind, places, named(finding.first), finding.meaning, finding.action], router ? () => select(router) : null);
   });
-  return [bar, scroll(table(['Class', 'Kind', 'Count', 'First', 'Meaning', 'What to do'], rows, { class: 'wraps' }))];
+  const clean = element('p', { class: 'quiet' }, rows.length ? 'Not found: ' : 'Clean. Not found: ', AUDIT_KINDS.filter((kind) => !found.has(kind)).join(', '));
+  const heads = ['Class', 'Kind', 'Count', 'First', 'Meaning', 'What to do'];
+  return [bar, element('div', { class: 'beside' }, scroll(rows.length ? table(heads, rows, { class: 'wraps' }) : '', clean), element('div', { id: 'places', class: 'scroll', hidden: true }))];
+}
+
+// Lists each place of the loaded database at which the audit has a finding of a kind; a click selects its router.
+async function listPlaces(kind) {
+  const [{ places }] = documentsOf(await calculator.study(asked(`audit ${kind}`)));
+  if (!$('places')) return;
+  $('places').hidden = false;
+  $('places').replaceChildren(table([`${kind}: ${counted(places.length, 'place')}`], places.slice(0, MOST_ROWS).map((place) => {
+    const router = routerIn(place);
+    return row([named(place)], router ? () => select(router) : null);
+  }), { class: 'wraps' }));
+  stopOnce($('pane'));
 }
 
 // The router that a place of the database is about.
@@ -375,12 +466,10 @@ function showDifferences(which) {
   if (!differences?.length) return [bar, `No LSA differs from ${baselineName()}.`];
   const rows = differences.slice(0, MOST_ROWS).map(({ change, area, lsa, what }) => {
     const router = lsa && state.graph.nodes.has(lsa.router) ? lsa.router : null;
-    return row([change, area ?? '', lsa ? `${LSA_TYPES[lsa.type] ?? `type ${lsa.type}`} ${lsa.id}` : '', lsa ? nameOf(lsa.router) : '', named(what ?? '')], router ? () => select(router) : null);
+    return row([change, area ?? '', lsa ? `${LSA_NAMES[lsa.type] ?? `type ${lsa.type}`} ${lsa.id}` : '', lsa ? nameOf(lsa.router) : '', named(what ?? '')], router ? () => select(router) : null);
   });
   return [bar, scroll(table(['Change', 'Area', 'LSA', 'By', 'What'], [...rows, rest(differences.length, 5)], { class: 'wraps' }))];
 }
-
-const LSA_TYPES = { 1: 'router', 2: 'network', 3: 'summary', 4: 'asbr-summary', 5: 'external' };
 
 // Asks a question after some lines, and shows its answer in the tab.
 async function askFor(key, line, lines) {
