@@ -1,4 +1,3 @@
-use Rattle.std.specs.Prelude.{Unit}
 use Rattle.edit_script.specs.declared.command.Command.{Command}
 use Rattle.edit_history.specs.Session.{NoneRefused}
 use Rattle.branches.specs.Branches.{resumed}
