@@ -28,8 +28,10 @@ module _ (db : Lists) (area : AreaId) (gone : RouterId) (lsa : List ℕ) (other 
   none_after =
       ap (λ (routers : List RouterId). let slot : Slot = cond (is_transit_still routers) (redesignated db area gone lsa routers) None in slot) nobody_stays
 
+  -- what becomes of a link of another router, where these stay
+  abbrev link_where : RouterId → List RouterId → LinkChange
+  link_where router routers = cond (list_any (λ listed. listed.0 == router.0) routers) (link_of_staying db area gone lsa routers) Stays
+
   -- a link of another router stays
   pub link_stays : (router : RouterId) → (router.0 == gone.0) ≡ false → link_to_left db area gone lsa router ≡ Stays
-  link_stays router another =
-      cond-false _ _ _ another
-      ∙ ap (λ (routers : List RouterId). let change : LinkChange = cond (list_any (λ listed. listed.0 == router.0) routers) (link_of_staying db area gone lsa routers) Stays in change) nobody_stays
+  link_stays router another = cond-false _ _ _ another ∙ ap (link_where router) nobody_stays
