@@ -20,9 +20,9 @@ use lsdb::{Database, LONGEST_DUMP, MOST_AREAS, text_laws};
 use std::alloc::Allocator;
 
 /// The database whose sections have the newest instance of each LSA among the observations that are
-/// not forgotten; flushed LSAs are left out, or kept at MaxAge, as `flushed` says. Its areas are those that are reported
-/// and those that have LSAs. An area is a stub area where a report says so, and else ordinary; the
-/// backbone is always ordinary.
+/// not forgotten; flushed LSAs are left out, or kept at MaxAge, as `flushed` says. Its areas are
+/// those that are reported and those that have LSAs. An area is a stub area where a report says so,
+/// and else ordinary; the backbone is always ordinary.
 ///
 /// # Errors
 ///
