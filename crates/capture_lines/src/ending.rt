@@ -30,7 +30,7 @@ fn file_status(end: FileEnd) -> u8
     match end {
         FileEnd::Open | FileEnd::Read | FileEnd::Write | FileEnd::TooLarge => 4,
         FileEnd::Refused(fault) => refusal_status(fault),
-        FileEnd::NotAList | FileEnd::CompressedList => 3,
+        FileEnd::NotAList => 3,
     }
 }
 
@@ -168,9 +168,6 @@ fn file_line<A: Allocator + Copy>(
         FileEnd::TooLarge => format!(in alloc; "{name}: TooLarge\n"),
         FileEnd::Refused(fault) => refused_line(alloc, name, fault),
         FileEnd::NotAList => format!(in alloc; "{name}: NotAList\n"),
-        FileEnd::CompressedList => format!(in alloc;
-            "{name}: Compressed (zcat {name} | ospf-capture --against - ..)\n"
-        ),
     }
 }
 
