@@ -13,11 +13,11 @@ pub(crate) enum Table {
     Read(LsType),
     /// LSAs of type 7 (RFC 3101). They are counted alone.
     Nssa,
-    /// Opaque LSAs of link scope, of type 9 (RFC 5250).
+    /// Opaque LSAs of link scope, of type 9 (RFC 5250). They are counted alone.
     LinkOpaque,
-    /// Opaque LSAs of area scope, of type 10.
+    /// Opaque LSAs of area scope, of type 10. They are counted alone.
     AreaOpaque,
-    /// Opaque LSAs of AS scope, of type 11.
+    /// Opaque LSAs of AS scope, of type 11. They are counted alone.
     AsOpaque,
 }
 

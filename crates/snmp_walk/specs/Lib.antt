@@ -7,6 +7,5 @@ pub mod Printing
 pub mod ParsedObjects
 pub mod Sorting
 pub mod Missing
-pub mod Counts
 pub mod Contents
 pub mod steps

@@ -4,7 +4,6 @@
 //! form, with the MIB or without.
 #![tactic(auto)]
 
-mod count;
 mod fault;
 mod laws;
 mod missing;
