@@ -448,7 +448,7 @@ OSPF = [1, 3, 6, 1, 2, 1, 14]
 # The table of each name of the OSPF-MIB, the column of its bytes, and its columns.
 COLUMNS = ["AreaId", "Type", "Lsid", "RouterId", "Sequence", "Age", "Checksum", "Advertisement"]
 TABLES = {4: ("ospfLsdb", 1), 12: ("ospfExtLsdb", 0), 19: ("ospfAsLsdb", 0)}
-NAMES = {"ospfImportAsExtern": (2, 3)} | {
+NAMES = {"ospfImportAsExtern": (2, 3), "ospfAreaLsaCount": (2, 7)} | {
     table + column: (index, before + place)
     for index, (table, before) in TABLES.items() for place, column in enumerate(COLUMNS)
 }
@@ -490,7 +490,7 @@ def arcs_of(name: str) -> list[int] | None:
         return None
     if head.startswith("OSPF-MIB::"):
         table, column = NAMES.get(head.removeprefix("OSPF-MIB::"), (0, 0))
-        heads[head] = OSPF + [table, 1, column]
+        heads[head] = OSPF + ([1, 6] if head == "OSPF-MIB::ospfExternLsaCount" else [table, 1, column])
     arcs = heads[head] + [arc(word) for word in rest.split(".")]
     return arcs[7:] if arcs[:7] == OSPF else None
 
@@ -522,6 +522,8 @@ class Walk:
         # The rows with other columns, and those with the bytes.
         self.columns: set[tuple[bytes, bytes]] = set()
         self.rows: set[tuple[bytes, bytes]] = set()
+        # What the router counts: the LSAs of an area, or of no area, which are AS-external-LSAs.
+        self.counts: list[tuple[bytes, int]] = []
 
     def read(self) -> Contents:
         for name, value in objects(self.text):
@@ -533,6 +535,11 @@ class Walk:
             raise Refused("Compressed") if self.text[:2] == b"\x1f\x8b" else Refused("UnknownKind", 0)
         for row in self.columns - self.rows:
             self.row_finding(row, "Missing")
+        for area, count in self.counts:
+            found = sum(where == area and (bool(area) or key[0] == 5) for where, key in self.columns | self.rows)
+            if found < count:
+                what = f"area {address(area)}" if area else "externals"
+                self.contents.findings.append(f"Fewer {what} {found} of {count}")
         return self.contents
 
     def row_finding(self, row: tuple[bytes, bytes], fault: str) -> None:
@@ -562,6 +569,10 @@ class Walk:
             area = number(bytes_of(index, 4))
             if not is_last:
                 self.kind(area, value)
+        elif entry == 1 and (table, column) == (2, 7):
+            self.count(bytes_of(index, 4), value)
+        elif (table, entry, column, index) == (1, 6, 0, []):
+            self.count(b"", value)
         elif entry == 1 and table in TABLES:
             in_area = table == 4
             data = bytes_of(index, 13 if in_area else 9)
@@ -576,6 +587,11 @@ class Walk:
             self.contents.kinds.append((area, KINDS[word[1]]))
         else:
             self.contents.findings.append(f"Kind area {address(area)}")
+
+    def count(self, area: bytes, value: bytes) -> None:
+        found = re.match(rb"Gauge32: ([0-9]+)(?![^ \t\n\r])", value)
+        if found and int(found[1]) < 2 ** 32:
+            self.counts.append((area, int(found[1])))
 
     def column(self, row: tuple[bytes, bytes], is_data: bool, value: bytes) -> None:
         if not is_data:

@@ -208,7 +208,7 @@ class PrintReading:
         fault = fault_of_lsa(made) or ("Body" if header.length != len(made) else None)
         if fault:
             self.found.findings.append(f"RefusedLsa {fault} {key}")
-        elif area is None and header.kind != 5:
+        elif area is None and header.kind not in (5, 11):
             self.found.findings.append(f"NoArea {key}")
         else:
             self.found.observations.append(Observation(scope(header.kind, area), None, made))
@@ -358,7 +358,15 @@ def body_of(value, kind: int) -> bytes:
             + address_at(value, "forwardAddress") + number_at(value, "externalRouteTag", 2 ** 32 - 1).to_bytes(4, "big"))
 
 
-# The databases whose LSAs are not read.
+def data_of(value) -> bytes:
+    """The data of an opaque LSA, which are printed in two hexadecimal digits for each byte."""
+    digits = text_at(value, "opaqueData")
+    if not re.fullmatch(rb"(?:[0-9A-Fa-f]{2})*", digits):
+        raise Unreadable
+    return bytes.fromhex(digits.decode())
+
+
+# Further databases: LSAs of type 7 are not read, opaque LSAs where all their fields are there.
 OTHERS = {"nssaExternalLinkStates": 7, "linkLocalOpaqueLsa": 9, "areaLocalOpaqueLsa": 10, "asExternalOpaqueLsa": 11}
 
 
@@ -367,14 +375,21 @@ def read_array(reading: PrintReading, value, kind: int, area: int | None) -> Non
     if type(value) is not list:
         reading.unreadable += 1
         return
-    if kind > 5:
-        reading.left_out["Nssa" if kind == 7 else "Opaque"] += len(value)
+    if kind == 7:
+        reading.left_out["Nssa"] += len(value)
         return
     for one in value:
         try:
-            reading.lsa(header_of(one, kind), body_of(one, kind), area)
+            header = header_of(one, kind)
+            body = body_of(one, kind) if kind < 6 else data_of(one)
+            if kind > 6 and header.length != 20 + len(body):
+                raise Unreadable
+            reading.lsa(header, body, area)
         except Unreadable:
-            reading.unreadable += 1
+            if kind < 6:
+                reading.unreadable += 1
+            else:
+                reading.left_out["Opaque"] += 1
 
 
 def read_document(file: bytes) -> Contents:

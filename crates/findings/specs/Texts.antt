@@ -15,6 +15,11 @@ use Rattle.lsa_codec.specs.declared.fault.LsaFault.TheVariants as lsa
 use Rattle.lsa_codec.specs.Spelling.{address_text}
 use Rattle.lsa_instances.specs.Texts.{key_text, place_text, scope_text}
 
+-- what a router counts: the LSAs of an area, or AS-external-LSAs
+abbrev pub counted_text : Option AreaId → List ℕ
+counted_text None = codes "externals "
+counted_text (Some area) = codes "area " ++ address_text area.0 ++ codes " "
+
 -- an LSA that is refused
 abbrev pub refused_name : LsaFault → List ℕ
 refused_name lsa.Truncated = codes "RefusedLsa Truncated"
@@ -74,6 +79,7 @@ finding_text (findings.Unused one reason) = reason_name reason ++ codes " " ++ r
 finding_text (findings.Unreadable count) = codes "Unreadable " ++ decimal count
 finding_text (findings.NotRead feature count) = feature_name feature ++ codes " " ++ decimal count
 finding_text (findings.Listed count) = codes "List " ++ decimal count ++ codes " (use --against)"
+finding_text (findings.Fewer counted found count) = codes "Fewer " ++ counted_text counted ++ decimal found ++ codes " of " ++ decimal count
 finding_text findings.NoSuchObject = codes "NoSuchObject"
 finding_text findings.Empty = codes "Empty"
 finding_text (findings.UnreadableKind area) = codes "Kind area " ++ address_text area.0

@@ -30,6 +30,10 @@ pub enum Finding {
     NotRead(Feature, usize),
     /// This number of rows is printed of a list of LSAs, which has no bodies.
     Listed(usize),
+    /// A walk has this number of LSAs of an area, or, where there is none, of AS-external-LSAs, and
+    /// its router counts more: the number that stands last (RFC 4750: `ospfAreaLsaCount`,
+    /// `ospfExternLsaCount`).
+    Fewer(Option<AreaId>, usize, u32),
     /// The agent of a walk does not have the objects that were asked for (RFC 3416, 4.2.1).
     NoSuchObject,
     /// The file contains no LSA, no kind of an area and no header of an LSA.
@@ -84,6 +88,11 @@ impl fmt::Display for Finding {
             Finding::Unreadable(count) => write!(f, "Unreadable {count}"),
             Finding::NotRead(feature, count) => write!(f, "{feature} {count}"),
             Finding::Listed(count) => write!(f, "List {count} (use --against)"),
+            Finding::Fewer(Some(area), found, count) => write!(
+                f,
+                "Fewer area {area} {found} of {count}"
+            ),
+            Finding::Fewer(None, found, count) => write!(f, "Fewer externals {found} of {count}"),
             Finding::NoSuchObject => write!(f, "NoSuchObject"),
             Finding::Empty => write!(f, "Empty"),
             Finding::UnreadableKind(area) => write!(f, "Kind area {area}"),

@@ -16,6 +16,9 @@ use Rattle.frr_text.specs.Words.{Word}
 use Rattle.frr_json.specs.Members.{members_at}
 use Rattle.frr_json.specs.Header.{header_in}
 use Rattle.frr_json.specs.Bodies.{body_in}
+use Rattle.frr_json.specs.Opaque.{parsed_opaque}
+use Rattle.lsa_codec.specs.LsTypes.{as_opaque_lsa}
+use Rattle.lsa_instances.specs.LsTypes.{area_opaque_lsa, link_opaque_lsa}
 use Rattle.frr_json.specs.declared.table.Table.{Table}
 use Rattle.frr_json.specs.declared.table.Table.TheVariants as tables
 use Rattle.frr_json.specs.Tables.{is_as_wide, table_name}
@@ -33,13 +36,13 @@ module _ {A : Type 0} where
   abbrev pub parsed_lsa : LsType → Option AreaId → Json → Part A
   parsed_lsa ls_type area json = parsed_header area json (header_in ls_type json)
 
-  -- an object in a database: the planner leaves out opaque LSAs, and those of type 7
+  -- an object in a database: LSAs of type 7 are counted alone
   abbrev pub parsed_item : Table → Option AreaId → Json → Part A
   parsed_item (tables.Read ls_type) area json = parsed_lsa ls_type area json
   parsed_item tables.Nssa area json = contents.NotRead features.Nssa
-  parsed_item tables.LinkOpaque area json = contents.NotRead features.Opaque
-  parsed_item tables.AreaOpaque area json = contents.NotRead features.Opaque
-  parsed_item tables.AsOpaque area json = contents.NotRead features.Opaque
+  parsed_item tables.LinkOpaque area json = parsed_opaque link_opaque_lsa area json
+  parsed_item tables.AreaOpaque area json = parsed_opaque area_opaque_lsa area json
+  parsed_item tables.AsOpaque area json = parsed_opaque as_opaque_lsa area json
 
   -- the LSAs of an area, one after another
   unfoldable pub lsas_in : Table → Option AreaId → Items → List (Part A)

@@ -13,7 +13,7 @@ use std::alloc::Allocator;
 
 /// LS age and options.
 #[tactic(auto, unfolding(crate::specs::Header::age_and_options_in))]
-fn age_and_options_in<A: Allocator>(json: &Value<'_, A>) -> Option<AgeAndOptions>
+pub(crate) fn age_and_options_in<A: Allocator>(json: &Value<'_, A>) -> Option<AgeAndOptions>
     ensures { result ≡ age_and_options_in (value_view json.now) }
 {
     let age = number_at(0xffff, "lsaAge", json)?;
@@ -36,7 +36,7 @@ fn flags_in<A: Allocator>(json: &Value<'_, A>) -> Option<u8>
 
 /// Advertising Router and LS sequence number.
 #[tactic(auto, unfolding(crate::specs::Header::origination_in))]
-fn origination_in<A: Allocator>(json: &Value<'_, A>) -> Option<Origination>
+pub(crate) fn origination_in<A: Allocator>(json: &Value<'_, A>) -> Option<Origination>
     ensures { result ≡ origination_in (value_view json.now) }
 {
     let adv = address_at("advertisingRouter", json)?;
@@ -49,7 +49,7 @@ fn origination_in<A: Allocator>(json: &Value<'_, A>) -> Option<Origination>
 
 /// LS checksum and length.
 #[tactic(auto, unfolding(crate::specs::Header::checksum_and_length_in))]
-fn checksum_and_length_in<A: Allocator>(json: &Value<'_, A>) -> Option<ChecksumAndLength>
+pub(crate) fn checksum_and_length_in<A: Allocator>(json: &Value<'_, A>) -> Option<ChecksumAndLength>
     ensures { result ≡ checksum_and_length_in (value_view json.now) }
 {
     let checksum = hex_at(0xffff, "checksum", json)?;

@@ -3,8 +3,8 @@
 //! The documents are those of `show ip ospf database router json`, and of the same with `network`,
 //! `summary`, `asbr-summary` and `external`. As in `frr_text`, an LSA is rebuilt from the
 //! printed fields and must then be an accepted LSA with the very checksum and length that were
-//! printed. Members stay in the order of the text, which is the order of links and attached
-//! routers.
+//! printed. So is an opaque LSA, whose data are printed whole. Members stay in the order of the
+//! text, which is the order of links and attached routers.
 #![tactic(auto)]
 
 // Members of objects, and their values.
@@ -16,6 +16,7 @@ mod body;
 mod external;
 mod header;
 mod network;
+mod opaque;
 mod router;
 mod summary;
 // What a document contains.

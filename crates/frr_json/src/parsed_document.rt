@@ -10,12 +10,14 @@ ghost use Rattle.frr_json.specs.ParsedDocuments.{area_named, parsed_lsa, parsed_
 use crate::body::body_in;
 use crate::header::header_in;
 use crate::member::{items_of, members_at, members_of};
+use crate::opaque::parsed_opaque;
 use crate::table::{Table, is_as_wide, table_name};
 use findings::{Feature, Part};
 use frr_text::fields::{Header, LsType};
 use frr_text::rebuilt;
 use json::Value;
-use lsa_codec::AreaId;
+use lsa_codec::{AS_OPAQUE_LSA, AreaId};
+use lsa_instances::{AREA_OPAQUE_LSA, LINK_OPAQUE_LSA};
 use std::alloc::{AllocError, Allocator};
 use text_words::address_of;
 
@@ -72,9 +74,9 @@ fn parsed_item<A: Allocator + Copy>(
     match table {
         Table::Read(ls_type) => parsed_lsa(alloc, ls_type, area, json),
         Table::Nssa => Ok(Part::NotRead(Feature::Nssa)),
-        Table::LinkOpaque | Table::AreaOpaque | Table::AsOpaque => {
-            Ok(Part::NotRead(Feature::Opaque))
-        }
+        Table::LinkOpaque => parsed_opaque(alloc, LINK_OPAQUE_LSA, area, json),
+        Table::AreaOpaque => parsed_opaque(alloc, AREA_OPAQUE_LSA, area, json),
+        Table::AsOpaque => parsed_opaque(alloc, AS_OPAQUE_LSA, area, json),
     }
 }
 

@@ -13,11 +13,11 @@ pub(crate) enum Table {
     Read(LsType),
     /// LSAs of type 7 (RFC 3101). They are counted alone.
     Nssa,
-    /// Opaque LSAs of link scope, of type 9 (RFC 5250). They are counted alone.
+    /// Opaque LSAs of link scope, of type 9 (RFC 5250).
     LinkOpaque,
-    /// Opaque LSAs of area scope, of type 10. They are counted alone.
+    /// Opaque LSAs of area scope, of type 10.
     AreaOpaque,
-    /// Opaque LSAs of AS scope, of type 11. They are counted alone.
+    /// Opaque LSAs of AS scope, of type 11.
     AsOpaque,
 }
 

@@ -10,8 +10,8 @@ use Rattle.frr_text.specs.declared.label.Label.TheVariants as label
 use Rattle.frr_text.specs.Words.{Word}
 use Rattle.frr_text.specs.Labels.{after_label}
 use Rattle.frr_text.specs.Bodies.{body_in}
-use Rattle.frr_text.specs.Making.{header_bytes}
-use Rattle.frr_text.specs.ParsedParts.{key_of, in_scope, parsed_decoded, rebuilt, parsed_header, lsa_from, lsas_at}
+use Rattle.frr_text.specs.Making.{header_bytes, key_of}
+use Rattle.frr_text.specs.ParsedParts.{in_scope, parsed_decoded, rebuilt, parsed_header, lsa_from, lsas_at}
 use Rattle.frr_text.specs.Printing.{printed_byte, label_words, said, Beside, flags_words, name_words, origination_words, checksum_and_length_words, header_words, HeaderFits}
 use Rattle.frr_text.specs.PrintingBodies.{Body, body_words, lsa_words, body_bytes, BodyFits}
 use Rattle.frr_text.proofs.PrintedLabels.{label_again}

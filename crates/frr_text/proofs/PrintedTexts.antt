@@ -23,8 +23,8 @@ use Rattle.frr_text.specs.Words.{Word, words}
 use Rattle.frr_text.specs.Labels.{text_of}
 use Rattle.frr_text.specs.Fields.{type_label, id_label}
 use Rattle.frr_text.specs.Bodies.{link_label, link_id_label, data_label}
-use Rattle.frr_text.specs.Making.{header_bytes}
-use Rattle.frr_text.specs.ParsedParts.{key_of, in_scope, lsas_at, parsed_in}
+use Rattle.frr_text.specs.Making.{header_bytes, key_of}
+use Rattle.frr_text.specs.ParsedParts.{in_scope, lsas_at, parsed_in}
 use Rattle.frr_text.specs.Printing.{printed_hex, printed_byte, printed_mask, label_words, said, Beside, names_of_bits, flags_words, name_words, origination_words, checksum_and_length_words, header_words, HeaderFits}
 use Rattle.frr_text.specs.PrintingBodies.{link_words, LinkFits, attached_words, metric_type_label, Body, of_router, of_network, of_summary, of_external, body_words, lsa_words, body_bytes, BodyFits}
 use Rattle.frr_text.specs.PrintingTexts.{IsPlain, ArePlain}

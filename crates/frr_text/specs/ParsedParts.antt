@@ -19,11 +19,7 @@ use Rattle.frr_text.specs.Labels.{after_label}
 use Rattle.findings.specs.declared.feature.Feature.{Feature}
 use Rattle.frr_text.specs.Fields.{feature_in, header_in}
 use Rattle.frr_text.specs.Bodies.{body_in}
-use Rattle.frr_text.specs.Making.{type_code, header_bytes}
-
--- the key of an LSA with this header
-abbrev pub key_of : Header → Key
-key_of header = record { kind = type_code header.name.ls_type; id = header.name.id; adv = header.origination.adv }
+use Rattle.frr_text.specs.Making.{header_bytes, key_of}
 
 module _ {A : Type 0} where
   abbrev pub in_scope : Key → List ℕ → Option Scope → Part A

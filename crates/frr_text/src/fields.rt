@@ -3,7 +3,7 @@
 
 pub use crate::external::{External, external_bytes};
 pub use crate::header::{
-    AgeAndOptions, ChecksumAndLength, Header, Name, Origination, header_bytes,
+    AgeAndOptions, ChecksumAndLength, Header, Name, Origination, bytes_with_key, header_bytes,
 };
 pub use crate::ls_type::LsType;
 pub use crate::router::{Link, LinkType, link_bytes};

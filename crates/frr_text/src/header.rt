@@ -3,14 +3,14 @@
 ghost use Rattle.std.specs.Prelude.{◌≡◌, option_map};
 ghost use Rattle.frr_text.specs.Words.{words};
 ghost use Rattle.frr_text.specs.Fields.{age_and_options_in, past_names, flags_in, ls_types, name_as, name_in, origination_in, checksum_and_length_in, header_in, is_opaque, feature_named, feature_in};
-ghost use Rattle.frr_text.specs.Making.{header_bytes};
+ghost use Rattle.frr_text.specs.Making.{bytes_with_key, header_bytes, key_of};
 
 use crate::label::{
     Label, address_after, after_label, hex_after, marked_after, number_after, past, word_after,
 };
 use crate::ls_type::LsType;
 use findings::Feature;
-use lsa_codec::{Addr, LONGEST_LSA, RouterId};
+use lsa_codec::{Addr, Key, LONGEST_LSA, RouterId};
 
 /// The age of the LSA, and what its originator can do.
 #[derive(Clone, Copy)]
@@ -224,19 +224,48 @@ pub(crate) fn feature_in(text: &[u8]) -> Option<Feature>
     feature_named(past(Label::Translated, rest))
 }
 
+/// The bytes of the header of the LSA with this key, with its checksum and its length as they were
+/// printed.
+pub fn bytes_with_key(
+    age_and_options: AgeAndOptions,
+    key: Key,
+    sequence: u32,
+    checksum_and_length: ChecksumAndLength,
+) -> [u8; 20]
+    ensures { result ≡ bytes_with_key age_and_options key sequence checksum_and_length }
+{
+    let [a0, a1] = age_and_options.age.to_be_bytes();
+    let [i0, i1, i2, i3] = key.id.0.to_be_bytes();
+    let [r0, r1, r2, r3] = key.adv.0.to_be_bytes();
+    let [s0, s1, s2, s3] = sequence.to_be_bytes();
+    let [c0, c1] = checksum_and_length.checksum.to_be_bytes();
+    let [l0, l1] = checksum_and_length.size.to_be_bytes();
+    let options = age_and_options.options;
+    let kind = key.kind;
+    [
+        a0, a1, options, kind, i0, i1, i2, i3, r0, r1, r2, r3, s0, s1, s2, s3, c0, c1, l0, l1,
+    ]
+}
+
+/// The key of the LSA.
+pub(crate) fn key_of(header: Header) -> Key
+    ensures { result ≡ key_of header }
+{
+    Key {
+        kind: header.name.ls_type.code(),
+        id: header.name.id,
+        adv: header.origination.adv,
+    }
+}
+
 /// The bytes of a header, with its checksum and its length as they were printed.
 pub fn header_bytes(header: Header) -> [u8; 20]
     ensures { result ≡ header_bytes header }
 {
-    let [a0, a1] = header.age_and_options.age.to_be_bytes();
-    let [i0, i1, i2, i3] = header.name.id.0.to_be_bytes();
-    let [r0, r1, r2, r3] = header.origination.adv.0.to_be_bytes();
-    let [s0, s1, s2, s3] = header.origination.sequence.to_be_bytes();
-    let [c0, c1] = header.checksum_and_length.checksum.to_be_bytes();
-    let [l0, l1] = header.checksum_and_length.size.to_be_bytes();
-    let options = header.age_and_options.options;
-    let code = header.name.ls_type.code();
-    [
-        a0, a1, options, code, i0, i1, i2, i3, r0, r1, r2, r3, s0, s1, s2, s3, c0, c1, l0, l1,
-    ]
+    bytes_with_key(
+        header.age_and_options,
+        key_of(header),
+        header.origination.sequence,
+        header.checksum_and_length,
+    )
 }

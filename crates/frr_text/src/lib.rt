@@ -32,6 +32,6 @@ pub use laws::{
     printed_bodies_are_read, printed_headers_are_read, printed_lsas_are_read,
     printed_words_are_read,
 };
-pub use parsed_part::rebuilt;
+pub use parsed_part::{parsed_bytes, rebuilt};
 pub use printed::{is_printed, read_printed};
 pub use text::next_word;

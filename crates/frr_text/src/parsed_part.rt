@@ -4,13 +4,13 @@ ghost use Rattle.std.specs.Prelude.{◌≡◌, ◌++◌, IfOk, OnOk, None};
 ghost use Rattle.frr_text.specs.Words.{words};
 ghost use Rattle.frr_text.specs.Bodies.{body_in};
 ghost use Rattle.frr_text.specs.Fields.{feature_in, header_in};
-ghost use Rattle.frr_text.specs.Making.{header_bytes};
-ghost use Rattle.frr_text.specs.ParsedParts.{key_of, in_scope, parsed_decoded, rebuilt, left_unread, parsed_header, kinds_at, lsas_at, parsed_in};
+ghost use Rattle.frr_text.specs.Making.{header_bytes, key_of};
+ghost use Rattle.frr_text.specs.ParsedParts.{in_scope, parsed_decoded, rebuilt, left_unread, parsed_header, kinds_at, lsas_at, parsed_in};
 ghost use Rattle.lsa_codec.specs.Decoding.{decoded};
 ghost use Rattle.lsa_instances.specs.Order.{scope_of_report};
 
 use crate::body::body_in;
-use crate::header::{Header, feature_in, header_bytes, header_in};
+use crate::header::{Header, feature_in, header_bytes, header_in, key_of};
 use crate::heading::{area_at, heading_at};
 use crate::label::{Label, after_label};
 use crate::text::next_word;
@@ -18,17 +18,6 @@ use findings::{Part, UnusedReason};
 use lsa_codec::{AreaId, Key, Lsa, LsaFault};
 use lsa_instances::{Observation, Scope};
 use std::alloc::{AllocError, Allocator};
-
-/// The key of the LSA.
-fn key_of(header: Header) -> Key
-    ensures { result ≡ key_of header }
-{
-    Key {
-        kind: header.name.ls_type.code(),
-        id: header.name.id,
-        adv: header.origination.adv,
-    }
-}
 
 /// An LSA, in its scope.
 fn in_scope<A: Allocator + Copy>(area: Option<AreaId>, key: Key, lsa: Lsa<A>) -> Part<A>
@@ -44,8 +33,12 @@ fn in_scope<A: Allocator + Copy>(area: Option<AreaId>, key: Key, lsa: Lsa<A>) ->
     }
 }
 
-/// What the bytes contain that the fields of the LSA with this key make.
-fn parsed_bytes<A: Allocator + Copy>(
+/// What the bytes contain that the fields of the LSA with this key make, or why it cannot be used.
+///
+/// # Errors
+///
+/// Memory ran out.
+pub fn parsed_bytes<A: Allocator + Copy>(
     alloc: A,
     area: Option<AreaId>,
     key: Key,

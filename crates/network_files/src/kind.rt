@@ -48,8 +48,8 @@ fn is_capture(bytes: &[u8]) -> bool
     big == SECTION_HEADER || is_magic(big) || is_magic(LittleEndian::read_u32(bytes))
 }
 
-/// Whether the file begins as one does that gzip has compressed (RFC 1952, 2.3.1).
-pub(crate) fn is_compressed(bytes: &[u8]) -> bool
+/// Whether a file begins as one does that gzip has compressed (RFC 1952, 2.3.1).
+pub fn is_compressed(bytes: &[u8]) -> bool
     ensures { result ≡ is_compressed bytes.now }
 {
     matches!(bytes, [0x1f, 0x8b, ..])

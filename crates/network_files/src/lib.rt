@@ -16,6 +16,6 @@ mod parsed_file;
 
 pub use dump::{JoinedFiles, areas_of, join_files};
 pub use fault::FileFault;
-pub use kind::FileKind;
+pub use kind::{FileKind, is_compressed};
 pub use laws::{files_in_any_order, one_reading_of_a_file};
 pub use parsed_file::{ParsedFile, read_file};

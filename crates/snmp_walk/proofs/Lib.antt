@@ -4,3 +4,4 @@ pub mod ParsedObjects
 pub mod Quotes
 pub mod Printed
 pub mod Rows
+pub mod Counted

@@ -14,6 +14,7 @@ use Rattle.lsa_codec.specs.Order.{area_cmp, key_cmp}
 use Rattle.lsa_codec.proofs.OrderLemmas.{area_exact, key_exact, then_both}
 use Rattle.findings.specs.Order.{reported_cmp}
 use Rattle.findings.specs.declared.reported_lsa.ReportedLsa.{ReportedLsa}
+use Rattle.snmp_walk.specs.Counts.{AreRows}
 use Rattle.snmp_walk.specs.Missing.{has, AreMissing}
 
 area_of_row_exact : (a b : Option AreaId) → option_cmp area_cmp a b ≡ Equal → a ≡ b
@@ -27,7 +28,7 @@ row_exact a b h =
     let p = then_both (option_cmp area_cmp a.area b.area) (key_cmp a.key b.key) h in
     λ i. record { area = area_of_row_exact a.area b.area p.0 i; key = key_exact a.key b.key p.1 i }
 
-eq_true : (o : Ordering) → is_eq o ≡ true → o ≡ Equal
+pub eq_true : (o : Ordering) → is_eq o ≡ true → o ≡ Equal
 eq_true Less h = cc
 eq_true Equal h = refl
 eq_true Greater h = cc
@@ -42,4 +43,12 @@ left_over columns bytes these others rows h k e = record {
       ∙ ap (λ b. not b && has row these.keys) (k.0 row)
       ∙ ap (λ b. not (has row bytes) && b) (h.0 row);
   order = subst (λ l. IsStrictlySortedBy reported_cmp l) (sym e) (IsStrictlySortedBy-filter reported_cmp (λ row. not (contains reported_cmp others row)) these.keys h.1);
+}
+
+-- the rows of a set, in order
+pub rows_once : (rows : List ReportedLsa) (set : BTreeSet ReportedLsa) (once : List ReportedLsa) → IsFromIterResult reported_cmp rows set → once ≡ set.keys
+    → AreRows rows once
+rows_once rows set once h e = record {
+  which = λ row. ap (has row) e ∙ h.0 row;
+  order = subst (λ l. IsStrictlySortedBy reported_cmp l) (sym e) h.1;
 }

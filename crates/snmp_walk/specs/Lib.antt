@@ -7,5 +7,6 @@ pub mod Printing
 pub mod ParsedObjects
 pub mod Sorting
 pub mod Missing
+pub mod Counts
 pub mod Contents
 pub mod steps

@@ -28,6 +28,7 @@ module _ {A : Type 0} where
   column_row (contents.Kind area) = None
   column_row (contents.Finding finding) = None
   column_row (contents.Row row) = Some row
+  column_row (contents.Count area count) = None
   column_row contents.Nothing = None
   column_row contents.Foreign = None
 
@@ -38,6 +39,7 @@ module _ {A : Type 0} where
   bytes_row (contents.Finding (findings.Unused row reason)) = Some row
   bytes_row (contents.Finding _) = None
   bytes_row (contents.Row row) = None
+  bytes_row (contents.Count area count) = None
   bytes_row contents.Nothing = None
   bytes_row contents.Foreign = None
 

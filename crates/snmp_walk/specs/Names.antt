@@ -64,7 +64,10 @@ in_area_table word (Some column) = in_table 4 1 (column_named column)
 
 -- the table and the column that a word of the OSPF-MIB names
 unfoldable pub object_named : List ℕ → ℕ × ℕ
-object_named word = if bytes_eq word (codes "ospfImportAsExtern") then (2, 3) else in_area_table word (after (codes "ospfLsdb") word)
+object_named word =
+    if bytes_eq word (codes "ospfImportAsExtern") then (2, 3)
+    else if bytes_eq word (codes "ospfAreaLsaCount") then (2, 7)
+    else in_area_table word (after (codes "ospfLsdb") word)
 
 -- OSPF in MIB-2
 abbrev pub ospf : List ℕ
@@ -75,10 +78,11 @@ named_head None = None
 named_head (Some word) = Some (ospf ++ (object_named word).0 ∷ 1 ∷ (object_named word).1 ∷ [])
 
 -- what the first word of a name stands for: nothing stands before the dot of `.1.3.6`, and `iso` is 1. The other words
--- come from MIB-2 and the OSPF-MIB
+-- come from MIB-2 and the OSPF-MIB, of which ospfExternLsaCount is the only one that is no column
 unfoldable pub head_of : List ℕ → Option (List ℕ)
 head_of word =
     if bytes_eq word [] then Some []
     else if bytes_eq word (codes "iso") then Some (1 ∷ [])
+    else if bytes_eq word (codes "OSPF-MIB::ospfExternLsaCount") then Some (1 ∷ 3 ∷ 6 ∷ 1 ∷ 2 ∷ 1 ∷ 14 ∷ 1 ∷ 6 ∷ [])
     else if bytes_eq word (codes "SNMPv2-SMI::mib-2") then Some (1 ∷ 3 ∷ 6 ∷ 1 ∷ 2 ∷ 1 ∷ [])
     else named_head (after (codes "OSPF-MIB::") word)

@@ -19,7 +19,7 @@ use Rattle.snmp_walk.specs.declared.parsed_object.ParsedObject.TheVariants.{Lsa,
 use Rattle.snmp_walk.specs.declared.parsed_object.ParsedObject.TheVariants as contents
 use Rattle.snmp_walk.specs.Objects.{Object, objects}
 use Rattle.snmp_walk.specs.Subjects.{subject_of}
-use Rattle.snmp_walk.specs.Values.{is_absent, is_end_of_view, kind_in, bytes_in}
+use Rattle.snmp_walk.specs.Values.{is_absent, is_end_of_view, kind_in, bytes_in, count_in}
 
 abbrev pub same_key : Key → Key → Bool
 same_key a b = (a.kind == b.kind) && ((a.id.0 == b.id.0) && (a.adv.0 == b.adv.0))
@@ -64,10 +64,18 @@ module _ {A : Type 0} where
   abbrev pub parsed_column : ReportedLsa → List ℕ → ParsedObject A
   parsed_column row value = if is_end_of_view value then Nothing else contents.Row row
 
+  abbrev pub count_of : Option AreaId → Option ℕ → ParsedObject A
+  count_of area None = Nothing
+  count_of area (Some count) = contents.Count area count
+
+  abbrev pub parsed_count : Option AreaId → List ℕ → ParsedObject A
+  parsed_count area value = count_of area (count_in value)
+
   abbrev pub parsed_of : Subject → List ℕ → ParsedObject A
   parsed_of (subjects.Kind area) value = parsed_kind area value
   parsed_of (subjects.Bytes row) value = parsed_bytes row value
   parsed_of (subjects.Column row) value = parsed_column row value
+  parsed_of (subjects.Count area) value = parsed_count area value
   parsed_of subjects.Other value = Nothing
   parsed_of subjects.Unreadable value = Finding findings.UnreadableName
   parsed_of subjects.Foreign value = Foreign

@@ -12,6 +12,7 @@ module _ {A : Type 0} where
   part_of (contents.Kind area) = Some (parts.Kind area)
   part_of (contents.Finding finding) = Some (parts.Finding finding)
   part_of (contents.Row row) = None
+  part_of (contents.Count area count) = None
   part_of contents.Nothing = None
   part_of contents.Foreign = None
 
@@ -22,5 +23,6 @@ module _ {A : Type 0} where
   is_of_mib (contents.Finding findings.UnreadableName) = false
   is_of_mib (contents.Finding _) = true
   is_of_mib (contents.Row row) = true
+  is_of_mib (contents.Count area count) = true
   is_of_mib contents.Nothing = true
   is_of_mib contents.Foreign = false

@@ -5,7 +5,7 @@ use Rattle.hex.specs.Hex.{decode_of}
 use Rattle.lsa_instances.specs.declared.area.AreaKind.{AreaKind}
 use Rattle.lsa_instances.specs.declared.area.AreaKind.TheVariants.{Ordinary, Stub, Nssa}
 use Rattle.snmp_walk.specs.Text.{is_blank, after, first_word}
-use Rattle.snmp_walk.specs.Names.{◌>>=◌}
+use Rattle.snmp_walk.specs.Names.{◌>>=◌, number_of}
 
 -- printed in place of a value where the agent has no more objects, after the last name once more
 abbrev pub is_end_of_view : List ℕ → Bool
@@ -64,3 +64,7 @@ kind_named word =
 
 unfoldable pub kind_in : List ℕ → Option AreaKind
 kind_in value = after (codes "INTEGER: ") value >>= (λ text. kind_named (first_word text))
+
+-- the number in a value of a count
+unfoldable pub count_in : List ℕ → Option ℕ
+count_in value = after (codes "Gauge32: ") value >>= (λ text. number_of (first_word text))

@@ -1,2 +1,3 @@
 -- Steps of the code, which no public contract cites.
 pub mod ParsedLines
+pub mod Numbers

@@ -4,6 +4,7 @@
 //! form, with the MIB or without.
 #![tactic(auto)]
 
+mod count;
 mod fault;
 mod laws;
 mod missing;

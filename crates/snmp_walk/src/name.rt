@@ -129,6 +129,9 @@ fn object_named(word: &[u8]) -> (u32, u32)
     if word == b"ospfImportAsExtern".as_slice() {
         return (2, 3);
     }
+    if word == b"ospfAreaLsaCount".as_slice() {
+        return (2, 7);
+    }
     if let Some(column) = word.strip_prefix(b"ospfLsdb".as_slice()) {
         return in_table(4, 1, column_named(column));
     }
@@ -154,6 +157,9 @@ pub(crate) fn head_of<A: Allocator + Copy>(
     }
     if word == b"iso".as_slice() {
         return Ok(Some(Vec::from_slice(alloc, &[1])?));
+    }
+    if word == b"OSPF-MIB::ospfExternLsaCount".as_slice() {
+        return Ok(Some(Vec::from_slice(alloc, &[1, 3, 6, 1, 2, 1, 14, 1, 6])?));
     }
     if word == b"SNMPv2-SMI::mib-2".as_slice() {
         return Ok(Some(Vec::from_slice(alloc, &[1, 3, 6, 1, 2, 1])?));

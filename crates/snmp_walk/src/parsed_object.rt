@@ -1,12 +1,12 @@
 //! What one object of a walk contains.
 
 ghost use Rattle.std.specs.Prelude.{◌≡◌, IfOk, OnOk, ◌++◌, List, ℕ};
-ghost use Rattle.snmp_walk.specs.ParsedObjects.{same_key, parsed_kind, placed, parsed_lsa, parsed_bytes, parsed_column, parsed_absent, parsed_by, parsed_in};
+ghost use Rattle.snmp_walk.specs.ParsedObjects.{same_key, parsed_kind, placed, parsed_lsa, parsed_bytes, parsed_column, parsed_count, parsed_absent, parsed_by, parsed_in};
 ghost use Rattle.snmp_walk.specs.steps.ParsedLines.{parsed_at, parsed_after};
 
 use crate::object::object_at;
 use crate::subject::{Subject, subject_of};
-use crate::value::{bytes_in, is_absent, is_end_of_view, kind_in};
+use crate::value::{bytes_in, count_in, is_absent, is_end_of_view, kind_in};
 use findings::{Finding, ReportedLsa, UnusedReason};
 use lsa_codec::{AreaId, Key, Lsa, LsaFault};
 use lsa_instances::{AreaReport, Observation, Scope};
@@ -23,6 +23,9 @@ pub(crate) enum ParsedObject<A: Allocator> {
     Finding(Finding),
     /// Another column of a row.
     Row(ReportedLsa),
+    /// The number of LSAs that the router has of this area, or, where there is none, of
+    /// AS-external-LSAs.
+    Count(Option<AreaId>, u32),
     /// An object of the MIB that is not needed here.
     Nothing,
     /// An object of another MIB.
@@ -118,6 +121,16 @@ fn parsed_column<A: Allocator + Copy>(row: ReportedLsa, value: &[u8]) -> ParsedO
     }
 }
 
+/// What a value of a count contains.
+fn parsed_count<A: Allocator + Copy>(area: Option<AreaId>, value: &[u8]) -> ParsedObject<A>
+    ensures { result ≡ parsed_count area value.now }
+{
+    match count_in(value) {
+        Some(count) => ParsedObject::Count(area, count),
+        None => ParsedObject::Nothing,
+    }
+}
+
 /// What an object contains that the agent does not have.
 fn parsed_absent<A: Allocator + Copy>(subject: Subject) -> ParsedObject<A>
     ensures { result ≡ parsed_absent subject }
@@ -145,6 +158,7 @@ fn parsed_by<A: Allocator + Copy>(
         Subject::Kind(area) => Ok(parsed_kind(area, value)),
         Subject::Bytes(row) => parsed_bytes(alloc, row, value),
         Subject::Column(row) => Ok(parsed_column(row, value)),
+        Subject::Count(area) => Ok(parsed_count(area, value)),
         Subject::Other => Ok(ParsedObject::Nothing),
         Subject::Unreadable => Ok(ParsedObject::Finding(Finding::UnreadableName)),
         Subject::Foreign => Ok(ParsedObject::Foreign),

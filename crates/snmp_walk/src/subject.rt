@@ -1,7 +1,7 @@
 //! What the objects of the OSPF-MIB are about (RFC 4750).
 
 ghost use Rattle.std.specs.Prelude.{◌≡◌, IfOk};
-ghost use Rattle.snmp_walk.specs.Subjects.{byte_of, address_of, key_in, as_row, area_row, kind_subject, row_subject, entry_subject, inner_subject, subject_of};
+ghost use Rattle.snmp_walk.specs.Subjects.{byte_of, address_of, key_in, as_row, area_row, row_subject, area_subject, entry_subject, scalar_subject, inner_subject, subject_of};
 
 use crate::name::{arcs_after, head_of};
 use crate::text::first_dot;
@@ -18,6 +18,9 @@ pub(crate) enum Subject {
     Bytes(ReportedLsa),
     /// Another column of this row.
     Column(ReportedLsa),
+    /// The number of LSAs of this area, or, where there is none, of AS-external-LSAs:
+    /// `ospfAreaLsaCount`, `ospfExternLsaCount`.
+    Count(Option<AreaId>),
     /// Another object of the MIB.
     Other,
     /// The name, or the index in it, cannot be read.
@@ -102,6 +105,25 @@ fn row_subject(bytes: u32, column: u32, row: Option<ReportedLsa>) -> Subject
     }
 }
 
+/// The subject of an object in the row of an area.
+fn area_subject(column: u32, index: &[u32]) -> Subject
+    ensures { result ≡ area_subject column index.now }
+{
+    if column != 3 && column != 7 {
+        return Subject::Other;
+    }
+    match address_of(index) {
+        None => Subject::Unreadable,
+        Some(area) => {
+            if column == 3 {
+                Subject::Kind(AreaId(area))
+            } else {
+                Subject::Count(Some(AreaId(area)))
+            }
+        }
+    }
+}
+
 /// The subject of an object in a row of a table.
 fn entry_subject(table: u32, column: u32, index: &[u32]) -> Subject
     ensures { result ≡ entry_subject table column index.now }
@@ -115,15 +137,21 @@ fn entry_subject(table: u32, column: u32, index: &[u32]) -> Subject
     if table == 19 {
         return row_subject(7, column, as_row(index));
     }
-    if table != 2 {
-        return Subject::Other;
+    if table == 2 {
+        return area_subject(column, index);
     }
-    if column != 3 {
-        return Subject::Other;
-    }
-    match address_of(index) {
-        None => Subject::Unreadable,
-        Some(area) => Subject::Kind(AreaId(area)),
+    Subject::Other
+}
+
+/// The subject of an object that is no row of a table, by its group, its number in that, and what
+/// follows it: `ospfExternLsaCount.0` is 1.6.0.
+fn scalar_subject(group: u32, object: u32, instance: u32, index: &[u32]) -> Subject
+    ensures { result ≡ scalar_subject group object instance index.now }
+{
+    if group == 1 && object == 6 && instance == 0 && index.is_empty() {
+        Subject::Count(None)
+    } else {
+        Subject::Other
     }
 }
 
@@ -138,7 +166,7 @@ fn inner_subject(arcs: &[u32]) -> Subject
     if *entry == 1 {
         entry_subject(*table, *column, index)
     } else {
-        Subject::Other
+        scalar_subject(*table, *entry, *column, index)
     }
 }
 

@@ -3,12 +3,13 @@
 ghost use Rattle.std.specs.Prelude.{◌≡◌, IfOk, option_map, not, filter, false, []};
 ghost use Rattle.std.specs.List.{list_all};
 ghost use Rattle.snmp_walk.specs.Text.{is_blank, first_word};
-ghost use Rattle.snmp_walk.specs.Values.{is_absent, is_end_of_view, pairs_of, quoted_after, string_in, bytes_in, kind_named, kind_in};
+ghost use Rattle.snmp_walk.specs.Values.{is_absent, is_end_of_view, pairs_of, quoted_after, string_in, bytes_in, kind_named, kind_in, count_in};
 
 use crate::text::{is_blank, word_len};
 use hex::FromHexError;
 use lsa_instances::AreaKind;
 use std::alloc::{AllocError, Allocator};
+use text_words::decimal_up_to;
 
 /// Whether the agent printed this in place of a value, since it has no more objects.
 pub(crate) fn is_end_of_view(value: &[u8]) -> bool
@@ -140,6 +141,17 @@ pub(crate) fn kind_in(value: &[u8]) -> Option<AreaKind>
 {
     match value.strip_prefix(b"INTEGER: ".as_slice()) {
         Some(text) => kind_named(&text[..word_len(text)]),
+        None => None,
+    }
+}
+
+/// The number in a value of a count.
+#[tactic(auto, unfolding(crate::specs::Values::count_in))]
+pub(crate) fn count_in(value: &[u8]) -> Option<u32>
+    ensures { result ≡ count_in value.now }
+{
+    match value.strip_prefix(b"Gauge32: ".as_slice()) {
+        Some(text) => decimal_up_to(u32::MAX, &text[..word_len(text)]),
         None => None,
     }
 }

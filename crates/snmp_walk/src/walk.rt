@@ -8,6 +8,7 @@ ghost use Rattle.snmp_walk.specs.Contents.{HasContent};
 ghost use Rattle.snmp_walk.specs.ParsedObjects.{parsed_in};
 ghost use Rattle.snmp_walk.specs.Sorting.{is_of_mib, part_of};
 
+use crate::count::{fewer_in, put_fewer};
 use crate::fault::WalkFault;
 use crate::missing::{put_missing, rows_missing};
 use crate::parsed_object::{ParsedObject, parse_all};
@@ -22,7 +23,10 @@ fn part_of<A: Allocator + Copy>(parsed: ParsedObject<A>) -> Option<Part<A>>
         ParsedObject::Lsa(_, observation) => Some(Part::Lsa(observation)),
         ParsedObject::Kind(area) => Some(Part::Kind(area)),
         ParsedObject::Finding(finding) => Some(Part::Finding(finding)),
-        ParsedObject::Row(_) | ParsedObject::Nothing | ParsedObject::Foreign => None,
+        ParsedObject::Row(_)
+        | ParsedObject::Count(_, _)
+        | ParsedObject::Nothing
+        | ParsedObject::Foreign => None,
     }
 }
 
@@ -74,7 +78,9 @@ pub fn read_walk<A: Allocator + Copy>(alloc: A, text: &[u8]) -> Result<Content<A
         return Err(WalkFault::NotAWalk);
     }
     let missing = rows_missing(alloc, &parsed)?;
+    let fewer = fewer_in(alloc, &parsed)?;
     let mut parts = parts_of(alloc, parsed)?;
     put_missing(&mut parts, &missing)?;
+    put_fewer(&mut parts, &fewer)?;
     Ok(sorted(alloc, parts)?)
 }

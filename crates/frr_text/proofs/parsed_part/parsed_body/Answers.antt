@@ -1,8 +1,8 @@
 use Rattle.std.proofs.Common.{◌++◌, ap, ◌∙◌}
 use Rattle.std.proofs.lemmas.Result.{IfOk-weaker}
 use Rattle.lsa_codec.specs.Decoding.{decoded}
-use Rattle.frr_text.specs.Making.{header_bytes}
-use Rattle.frr_text.specs.ParsedParts.{key_of, parsed_decoded, rebuilt}
+use Rattle.frr_text.specs.Making.{header_bytes, key_of}
+use Rattle.frr_text.specs.ParsedParts.{parsed_decoded, rebuilt}
 use Rattle.frr_text.proofs.parsed_part.parsed_body.Goals as goal
 
 pub returns-in-Some : goal.returns-in-Some

@@ -1,7 +1,8 @@
 use Rattle.std.proofs.Common.{ℕ, List, ◌++◌, ap, ◌∙◌}
 use Rattle.std.proofs.lemmas.Result.{IfOk-weaker}
 use Rattle.lsa_codec.specs.Decoding.{decoded}
-use Rattle.frr_text.specs.ParsedParts.{key_of, parsed_decoded}
+use Rattle.frr_text.specs.Making.{key_of}
+use Rattle.frr_text.specs.ParsedParts.{parsed_decoded}
 use Rattle.frr_text.proofs.parsed_part.rebuilt.Goals as goal
 
 pub returns : goal.returns

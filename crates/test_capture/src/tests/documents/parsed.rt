@@ -1,13 +1,13 @@
 //! What documents contain: LSAs, and why there is none.
 
 use super::pieces::{
-    ASBR, ASBR_BYTES, LINKS, LINKS_BYTES, NETWORK, NETWORK_BYTES, NO_AREA, OTHER_METRIC, ROUTER,
-    ROUTER_BYTES, SUMMARY, SUMMARY_BYTES, SUMMARY_KEY, TYPE_1, TYPE_1_BYTES, TYPE_2, TYPE_2_BYTES,
-    UNREADABLE,
+    ASBR, ASBR_BYTES, LINKS, LINKS_BYTES, NETWORK, NETWORK_BYTES, NO_AREA, OPAQUE, OPAQUE_BYTES,
+    OPAQUE_CUT, OTHER_METRIC, ROUTER, ROUTER_BYTES, SUMMARY, SUMMARY_BYTES, SUMMARY_KEY, TYPE_1,
+    TYPE_1_BYTES, TYPE_2, TYPE_2_BYTES, UNREADABLE,
 };
 use crate::tests::contents::has;
 use crate::tests::observed::Expected;
-use findings::{Finding, ReportedLsa, UnusedReason};
+use findings::{Feature, Finding, ReportedLsa, UnusedReason};
 use frr_json::{JsonFault, is_printed_json, read_printed_json};
 use lsa_codec::{AreaId, LsaFault};
 use lsa_instances::Scope;
@@ -72,6 +72,13 @@ const DOCUMENTS: &[(&str, &[u8], &[Expected], &[Finding])] = &[
         TYPE_2,
         &[(Scope::AsWide, TYPE_2_BYTES)],
         &[],
+    ),
+    ("an opaque LSA", OPAQUE, &[(BACKBONE, OPAQUE_BYTES)], &[]),
+    (
+        "an opaque LSA without all its data",
+        OPAQUE_CUT,
+        &[],
+        &[Finding::NotRead(Feature::Opaque, 1)],
     ),
     (
         "another checksum than the printed one",

@@ -109,6 +109,32 @@ pub(super) const TYPE_2_BYTES: &[u8] = &[
     0x80, 0, 0, 9, 0xc0, 0xa8, 50, 77, 0, 0, 0, 9,
 ];
 
+/// An opaque LSA of area scope: Router Information of 10.255.0.3.
+pub(super) const OPAQUE: &[u8] =
+    b"{\"routerId\": \"10.255.0.6\", \"areaLocalOpaqueLsa\": {\"areas\": {\"0.0.0.0\": [{ \
+    \"lsaAge\": 201, \"options\": \"*|O|-|-|-|-|E|-\", \"lsaFlags\": 6, \"lsaType\": \
+    \"Area-Local Opaque-LSA\", \"linkStateId\": \"4.0.0.0\", \"advertisingRouter\": \
+    \"10.255.0.3\", \"lsaSeqNumber\": \"80000001\", \"checksum\": \"31be\", \"length\": 28, \
+    \"opaqueType\": \
+    \"Router Information LSA\", \"opaqueId\": 0, \"opaqueDataLength\": 8, \"opaqueData\": \
+    \"0001000410000000\"}]}}}";
+
+/// Its bytes.
+pub(super) const OPAQUE_BYTES: &[u8] = &[
+    0, 201, 0x42, 10, 4, 0, 0, 0, 10, 255, 0, 3, 0x80, 0, 0, 1, 0x31, 0xbe, 0, 28, 0, 1, 0, 4,
+    0x10, 0, 0, 0,
+];
+
+/// The same with a byte less of its data.
+pub(super) const OPAQUE_CUT: &[u8] =
+    b"{\"routerId\": \"10.255.0.6\", \"areaLocalOpaqueLsa\": {\"areas\": {\"0.0.0.0\": [{ \
+    \"lsaAge\": 201, \"options\": \"*|O|-|-|-|-|E|-\", \"lsaFlags\": 6, \"lsaType\": \
+    \"Area-Local Opaque-LSA\", \"linkStateId\": \"4.0.0.0\", \"advertisingRouter\": \
+    \"10.255.0.3\", \"lsaSeqNumber\": \"80000001\", \"checksum\": \"31be\", \"length\": 28, \
+    \"opaqueType\": \
+    \"Router Information LSA\", \"opaqueId\": 0, \"opaqueDataLength\": 8, \"opaqueData\": \
+    \"00010004100000\"}]}}}";
+
 /// The summary-LSA with another metric, and the checksum as before.
 pub(super) const OTHER_METRIC: &[u8] =
     b"{\"routerId\": \"1.1.1.1\", \"summaryLinkStates\": {\"areas\": {\"0.0.0.0\": [{\"lsaAge\": \

@@ -1,8 +1,8 @@
 //! What walks contain, what is missing in them, and texts that are no walks.
 
 use super::pieces::{
-    CUT_ROW, DEFAULT, END_OF_VIEW, EXTERNAL, EXTERNAL_KEY, KINDS, NAMED, NETWORK, NUMERIC,
-    OTHER_INDEX,
+    COUNTED, CUT_ROW, DEFAULT, END_OF_VIEW, EXTERNAL, EXTERNAL_KEY, FEWER, KINDS, NAMED, NETWORK,
+    NUMERIC, OTHER_INDEX,
 };
 use crate::tests::contents::{Format, Row, first_other};
 use findings::{Finding, ReportedLsa, UnusedReason};
@@ -73,6 +73,24 @@ const WALKS: &[Row] = &[
         &[],
         &[],
         &[Finding::Unused(CUT_LSA, UnusedReason::Missing)],
+    ),
+    (
+        "the number of rows that is counted",
+        COUNTED,
+        &[(OTHER_AREA, NETWORK), (Scope::AsWide, EXTERNAL)],
+        &[],
+        &[],
+    ),
+    (
+        "fewer rows than are counted",
+        FEWER,
+        &[(OTHER_AREA, NETWORK), (Scope::AsWide, EXTERNAL)],
+        &[],
+        &[
+            Finding::Fewer(None, 1, 8),
+            Finding::Fewer(Some(AreaId(1)), 1, 22),
+            Finding::Fewer(Some(AreaId(2)), 0, 18),
+        ],
     ),
     (
         "bytes of another key",

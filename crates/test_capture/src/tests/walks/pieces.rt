@@ -46,6 +46,27 @@ pub(super) const CUT_ROW: &[u8] =
     b".1.3.6.1.2.1.14.4.1.5.0.0.0.0.2.192.168.0.1.1.1.1.1 = INTEGER: 33554560\n\
     .1.3.6.1.2.1.14.4.1.7.0.0.0.0.2.192.168.0.1.1.1.1.1 = INTEGER: 54266\n";
 
+/// A walk of both LSAs. Its router counts one LSA of area 0.0.0.1 and one AS-external-LSA.
+pub(super) const COUNTED: &[u8] = b".1.3.6.1.2.1.14.1.6.0 = Gauge32: 1\n\
+    .1.3.6.1.2.1.14.2.1.7.0.0.0.1 = Gauge32: 1\n\
+    .1.3.6.1.2.1.14.4.1.8.0.0.0.1.2.192.168.50.4.4.4.4.4 = \
+    Hex-STRING: 00 01 02 02 C0 A8 32 04 04 04 04 04 80 00 00 01 \n\
+    14 7E 00 20 FF FF FF 00 02 02 02 02 04 04 04 04 \n\
+    .1.3.6.1.2.1.14.12.1.7.5.10.98.0.255.3.3.3.3 = \
+    Hex-STRING: 00 04 02 05 0A 62 00 FF 03 03 03 03 80 00 00 01 \n\
+    CB 85 00 24 FF FF FF 00 80 00 00 08 00 00 00 00 \n00 00 00 01 \n";
+
+/// The same where it counts 22 LSAs of the area, 18 of another one, and 8 AS-external-LSAs.
+pub(super) const FEWER: &[u8] = b"OSPF-MIB::ospfExternLsaCount.0 = Gauge32: 8\n\
+    OSPF-MIB::ospfAreaLsaCount.0.0.0.1 = Gauge32: 22\n\
+    OSPF-MIB::ospfAreaLsaCount.0.0.0.2 = Gauge32: 18\n\
+    .1.3.6.1.2.1.14.4.1.8.0.0.0.1.2.192.168.50.4.4.4.4.4 = \
+    Hex-STRING: 00 01 02 02 C0 A8 32 04 04 04 04 04 80 00 00 01 \n\
+    14 7E 00 20 FF FF FF 00 02 02 02 02 04 04 04 04 \n\
+    .1.3.6.1.2.1.14.12.1.7.5.10.98.0.255.3.3.3.3 = \
+    Hex-STRING: 00 04 02 05 0A 62 00 FF 03 03 03 03 80 00 00 01 \n\
+    CB 85 00 24 FF FF FF 00 80 00 00 08 00 00 00 00 \n00 00 00 01 \n";
+
 /// The bytes of 10.98.0.255 under the index of 10.98.0.0.
 pub(super) const OTHER_INDEX: &[u8] = b".1.3.6.1.2.1.14.12.1.7.5.10.98.0.0.3.3.3.3 = \
     Hex-STRING: 00 04 02 05 0A 62 00 FF 03 03 03 03 80 00 00 01 \n\
