@@ -1,0 +1,6 @@
+mod AreaIds
+mod SlotWalks
+mod Sections
+mod Refusals
+mod LinksOfRouters
+mod RouterLsas

@@ -1,0 +1,148 @@
+//! What becomes of each LSA where a router goes.
+
+ghost use Rattle.std.specs.Prelude.{◌≡◌, ◌≤◌, ◌<◌, ◌^◌, length, IfOk, Some};
+ghost use Rattle.std.specs.List.{All, list_all};
+ghost use Rattle.lsa_remaking.specs.Relinking.{IsWithin};
+ghost use Rattle.lsdb.specs.declared.section.Section.TheVariants.{Area, AsWide};
+ghost use Rattle.lsdb.specs.Slots.{lists_of};
+ghost use Rattle.event_lsas.specs.Outcomes.{LsaChange, becomes, unless_empty};
+ghost use Rattle.event_lsas.specs.SlotChanges.{slot_change};
+ghost use Rattle.network_departures.specs.Leaving.{networks_left};
+ghost use Rattle.departures.specs.Departures.{is_stay, relinked_by, router_lsa_after, is_of_failed, new_networks, area_lsa_after, as_lsa_after};
+
+use crate::change::Change;
+use crate::new_networks::has_key_of;
+use lsa_codec::{AreaId, Lsa};
+use lsa_remaking::{ChangedLink, LinkChange, RemakeFault, count_left, relink};
+use lsdb::{Database, Section, SlotId};
+use network_departures::{Departure, is_left, links_after, network_after};
+use std::alloc::Allocator;
+
+/// The change of a slot where another LSA takes the place of one, or none does.
+fn change_to<A: Allocator + Copy>(
+    slot: SlotId,
+    section: Section,
+    old: &Lsa<A>,
+    lsa: Option<Lsa<A>>,
+) -> Change<A>
+    ensures { Some result ≡ slot_change slot section old.now (becomes lsa) }
+{
+    Change::of(old.key().kind, section, slot, lsa)
+}
+
+/// Whether a link stays as it is.
+fn is_stay(changed: &ChangedLink) -> bool
+    ensures { result ≡ is_stay changed.now.change }
+{
+    matches!(changed.change, LinkChange::Stays)
+}
+
+/// A router-LSA with these links; none where no link is left.
+fn unless_empty<A: Allocator + Copy>(
+    alloc: A,
+    lsa: &Lsa<A>,
+    links: &[ChangedLink],
+) -> Result<Option<Lsa<A>>, RemakeFault>
+    requires header { 24 ≤ length lsa.now }
+    requires links { All (IsWithin lsa.now) links.now }
+    requires few { length links.now < 2 ^ 16 }
+    ensures { IfOk result (λ new. new ≡ unless_empty links.now lsa.now) }
+{
+    if count_left(links) == 0 {
+        return Ok(None);
+    }
+    let new = relink(alloc, lsa, links)?;
+    Ok(Some(new))
+}
+
+/// The change of the slot of a router-LSA with these links, where one of them changes.
+fn relinked_by<A: Allocator + Copy>(
+    alloc: A,
+    slot: SlotId,
+    area: AreaId,
+    lsa: &Lsa<A>,
+    links: &[ChangedLink],
+) -> Result<Option<Change<A>>, RemakeFault>
+    requires header { 24 ≤ length lsa.now }
+    requires links { All (IsWithin lsa.now) links.now }
+    requires few { length links.now < 2 ^ 16 }
+    ensures { IfOk result (λ new. new
+        ≡ slot_change slot (Area area) lsa.now (relinked_by links.now lsa.now)) }
+{
+    if links.iter().all(|changed| is_stay(changed)) {
+        return Ok(None);
+    }
+    let new = unless_empty(alloc, lsa, links)?;
+    Ok(Some(change_to(slot, Section::Area(area), lsa, new)))
+}
+
+/// The change of the slot of a router-LSA, where one of its links changes.
+#[tactic(auto, using(crate::proofs::LinksOfRouters::header, crate::proofs::LinksOfRouters::all_within, crate::proofs::LinksOfRouters::all_few, crate::proofs::RouterLsas::other_kept, crate::proofs::RouterLsas::old_kept, crate::proofs::RouterLsas::relinked))]
+fn router_lsa_after<A: Allocator + Copy>(
+    database: &Database<A>,
+    event: &Departure,
+    area: AreaId,
+    networks: &[Lsa<A>],
+    slot: SlotId,
+    lsa: &Lsa<A>,
+) -> Result<Option<Change<A>>, RemakeFault>
+    ensures { IfOk result (λ new. new ≡ slot_change slot (Area area) lsa.now
+        (router_lsa_after (lists_of database.now) event.now area networks.now lsa.now)) }
+{
+    let Some(view) = lsa.router() else {
+        return Ok(None);
+    };
+    if lsa.at_max_age() {
+        return Ok(None);
+    }
+    let links = links_after(database, event, area, networks, lsa.key().adv, &view)?;
+    relinked_by(database.alloc(), slot, area, lsa, &links)
+}
+
+/// Whether an LSA is one of a router that fails.
+fn is_of_failed<A: Allocator + Copy>(event: &Departure, lsa: &Lsa<A>) -> bool
+    ensures { result ≡ is_of_failed event.now lsa.now }
+{
+    event.fails() && lsa.key().adv.0 == event.router().0
+}
+
+/// The change of the slot of an LSA of an area, where these are the network-LSAs of the networks
+/// there that are left, and those that are there afterwards.
+pub(crate) fn area_lsa_after<A: Allocator + Copy>(
+    database: &Database<A>,
+    event: &Departure,
+    area: AreaId,
+    networks: &[Lsa<A>],
+    new: &[Lsa<A>],
+    slot: SlotId,
+    lsa: &Lsa<A>,
+) -> Result<Option<Change<A>>, RemakeFault>
+    requires networks { networks.now ≡ networks_left (lists_of database.now) event.now area }
+    requires new { new.now ≡ new_networks (lists_of database.now) event.now area }
+    ensures { IfOk result (λ change. change ≡ slot_change slot (Area area) lsa.now
+        (area_lsa_after (lists_of database.now) event.now area lsa.now)) }
+{
+    let section = Section::Area(area);
+    if is_left(database, event, area, lsa) {
+        let after = network_after(database, area, event.router(), lsa)?;
+        return Ok(Some(change_to(slot, section, lsa, after)));
+    }
+    if is_of_failed(event, lsa) || has_key_of(new, lsa) {
+        return Ok(Some(change_to(slot, section, lsa, None)));
+    }
+    router_lsa_after(database, event, area, networks, slot, lsa)
+}
+
+/// The change of the slot of an LSA of AS scope.
+pub(crate) fn as_lsa_after<A: Allocator + Copy>(
+    event: &Departure,
+    slot: SlotId,
+    lsa: &Lsa<A>,
+) -> Option<Change<A>>
+    ensures { result ≡ slot_change slot AsWide lsa.now (as_lsa_after event.now lsa.now) }
+{
+    if !is_of_failed(event, lsa) {
+        return None;
+    }
+    Some(change_to(slot, Section::AsWide, lsa, None))
+}
