@@ -44,11 +44,13 @@ module _ (change : List ℕ → LsaChange) (number : ℕ) (name : Section) where
       ++ section_changes change number name (suc i) (drop (suc i) (slots_in d number))) (sym there)
 
   -- one more slot is passed
-  pub slot_passed : (d : Slots) (i next : ℕ) (old new all : List SlotChangeData) → i < length (slots_in d number) → next ≡ suc i
-      → new ≡ old ++ change_in d i → old ++ from_slot d i ≡ all → new ++ from_slot d next ≡ all
-  slot_passed d i next old new all below follows added so_far =
+  pub slot_passed : (d : Slots) (i next : ℕ) (found : Option SlotChangeData) (old new all : List SlotChangeData) → i < length (slots_in d number)
+      → next ≡ suc i → found ≡ change_at change (slot_of number i) name (slot_at d (slot_of number i)) → new ≡ old ++ option_to_list found
+      → old ++ from_slot d i ≡ all → new ++ from_slot d next ≡ all
+  slot_passed d i next found old new all below follows is added so_far =
       ap (λ (k : ℕ). new ++ from_slot d k) follows
       ∙ ap (λ (cs : List SlotChangeData). cs ++ from_slot d (suc i)) added
+      ∙ ap (λ (o : Option SlotChangeData). (old ++ option_to_list o) ++ from_slot d (suc i)) is
       ∙ append_assoc old (change_in d i) (from_slot d (suc i))
       ∙ sym (ap (λ (cs : List SlotChangeData). old ++ cs) (unrolled d i below))
       ∙ so_far

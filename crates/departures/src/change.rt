@@ -1,6 +1,8 @@
 //! What a slot of a database gets where a router goes.
 
-ghost use Rattle.std.specs.Prelude.{◌≡◌, option_map};
+ghost use Rattle.std.specs.Prelude.{◌≡◌, Some, option_map};
+ghost use Rattle.event_lsas.specs.Outcomes.{becomes};
+ghost use Rattle.event_lsas.specs.SlotChanges.{slot_change};
 
 use lsa_codec::Lsa;
 use lsdb::{Section, SlotId};
@@ -28,23 +30,17 @@ impl<A: Allocator> Model for Change<A> {
 }
 
 impl<A: Allocator + Copy> Change<A> {
-    /// The change of a slot of a section, where an LSA of this LS type was.
-    pub(crate) fn of(kind: u8, section: Section, slot: SlotId, lsa: Option<Lsa<A>>) -> Change<A>
-        ensures { result ≡ record { slot = slot; section = section; kind = kind; new = lsa } }
+    /// The change of a slot where another LSA takes the place of one, or none does.
+    pub(crate) fn to(lsa: Option<Lsa<A>>, slot: SlotId, section: Section, old: &Lsa<A>) -> Change<A>
+        ensures { Some result ≡ slot_change slot section old.now (becomes lsa) }
     {
+        let kind = old.key().kind;
         Change {
             lsa,
             kind,
             section,
             slot,
         }
-    }
-
-    /// The LS type of the LSA that was there.
-    pub fn kind(&self) -> u8
-        ensures { result ≡ self.now.kind }
-    {
-        self.kind
     }
 
     /// The slot.
@@ -61,17 +57,17 @@ impl<A: Allocator + Copy> Change<A> {
         self.lsa.as_ref()
     }
 
-    /// The section of the slot.
-    pub fn section(&self) -> Section
-        ensures { result ≡ self.now.section }
-    {
-        self.section
-    }
-
     /// The LSA that the slot gets, by value.
     pub fn into_lsa(self) -> Option<Lsa<A>>
         ensures { result ≡ self.new }
     {
         self.lsa
+    }
+
+    /// The section of the slot, and the LS type of the LSA that was there.
+    pub fn place(&self) -> (Section, u8)
+        ensures { result ≡ (self.now.section, self.now.kind) }
+    {
+        (self.section, self.kind)
     }
 }

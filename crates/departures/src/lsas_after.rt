@@ -1,11 +1,11 @@
 //! What becomes of each LSA where a router goes.
 
-ghost use Rattle.std.specs.Prelude.{◌≡◌, ◌≤◌, ◌<◌, ◌^◌, length, IfOk, Some};
-ghost use Rattle.std.specs.List.{All, list_all};
+ghost use Rattle.std.specs.Prelude.{◌≡◌, ◌≤◌, ◌<◌, ◌^◌, length, IfOk};
+ghost use Rattle.std.specs.List.{All};
 ghost use Rattle.lsa_remaking.specs.Relinking.{IsWithin};
 ghost use Rattle.lsdb.specs.declared.section.Section.TheVariants.{Area, AsWide};
 ghost use Rattle.lsdb.specs.Slots.{lists_of};
-ghost use Rattle.event_lsas.specs.Outcomes.{LsaChange, becomes, unless_empty};
+ghost use Rattle.event_lsas.specs.Outcomes.{unless_empty};
 ghost use Rattle.event_lsas.specs.SlotChanges.{slot_change};
 ghost use Rattle.network_departures.specs.Leaving.{networks_left};
 ghost use Rattle.departures.specs.Departures.{is_stay, relinked_by, router_lsa_after, is_of_failed, new_networks, area_lsa_after, as_lsa_after};
@@ -17,18 +17,6 @@ use lsa_remaking::{ChangedLink, LinkChange, RemakeFault, count_left, relink};
 use lsdb::{Database, Section, SlotId};
 use network_departures::{Departure, is_left, links_after, network_after};
 use std::alloc::Allocator;
-
-/// The change of a slot where another LSA takes the place of one, or none does.
-fn change_to<A: Allocator + Copy>(
-    slot: SlotId,
-    section: Section,
-    old: &Lsa<A>,
-    lsa: Option<Lsa<A>>,
-) -> Change<A>
-    ensures { Some result ≡ slot_change slot section old.now (becomes lsa) }
-{
-    Change::of(old.key().kind, section, slot, lsa)
-}
 
 /// Whether a link stays as it is.
 fn is_stay(changed: &ChangedLink) -> bool
@@ -73,7 +61,7 @@ fn relinked_by<A: Allocator + Copy>(
         return Ok(None);
     }
     let new = unless_empty(alloc, lsa, links)?;
-    Ok(Some(change_to(slot, Section::Area(area), lsa, new)))
+    Ok(Some(Change::to(new, slot, Section::Area(area), lsa)))
 }
 
 /// The change of the slot of a router-LSA, where one of its links changes.
@@ -125,10 +113,10 @@ pub(crate) fn area_lsa_after<A: Allocator + Copy>(
     let section = Section::Area(area);
     if is_left(database, event, area, lsa) {
         let after = network_after(database, area, event.router(), lsa)?;
-        return Ok(Some(change_to(slot, section, lsa, after)));
+        return Ok(Some(Change::to(after, slot, section, lsa)));
     }
     if is_of_failed(event, lsa) || has_key_of(new, lsa) {
-        return Ok(Some(change_to(slot, section, lsa, None)));
+        return Ok(Some(Change::to(None, slot, section, lsa)));
     }
     router_lsa_after(database, event, area, networks, slot, lsa)
 }
@@ -144,5 +132,5 @@ pub(crate) fn as_lsa_after<A: Allocator + Copy>(
     if !is_of_failed(event, lsa) {
         return None;
     }
-    Some(change_to(slot, Section::AsWide, lsa, None))
+    Some(Change::to(None, slot, Section::AsWide, lsa))
 }

@@ -1,6 +1,6 @@
 //! The slots that a departure changes.
 
-ghost use Rattle.std.specs.Prelude.{◌≡◌, ◌++◌, IsSome, IfOk, IfErr, OnOk, option_to_list};
+ghost use Rattle.std.specs.Prelude.{◌≡◌, ◌++◌, IsSome, IfOk, IfErr, OnOk};
 ghost use Rattle.lsdb.specs.declared.section.Section.TheVariants.{Area, AsWide};
 ghost use Rattle.lsdb.specs.Slots.{item_at, slot_at, slots_in, head_or_none, lists_of};
 ghost use Rattle.event_lsas.specs.Outcomes.{section_name};
@@ -19,28 +19,25 @@ use lsdb::{Database, SlotId};
 use network_departures::{Departure, networks_left};
 use std::alloc::Allocator;
 
-/// Adds the change of a slot of an area, where its LSA changes.
-fn add_of_area<A: Allocator + Copy>(
-    changes: &mut Vec<Change<A>, A>,
+/// The change of a slot of an area, where there is an LSA that changes.
+fn change_in_area<A: Allocator + Copy>(
     database: &Database<A>,
     event: &Departure,
     area: AreaId,
     networks: &[Lsa<A>],
     new: &[Lsa<A>],
     slot: SlotId,
-) -> Result<(), RemakeFault>
+) -> Result<Option<Change<A>>, RemakeFault>
     requires networks { networks.now ≡ networks_left (lists_of database.now) event.now area }
     requires new { new.now ≡ new_networks (lists_of database.now) event.now area }
-    ensures { OnOk result (changes.new.items ≡ changes.old.items
-        ++ option_to_list (change_at (area_lsa_after (lists_of database.now) event.now area) slot
-        (Area area) (slot_at database.now slot))) }
+    ensures { IfOk result (λ change. change
+        ≡ change_at (area_lsa_after (lists_of database.now) event.now area) slot (Area area)
+        (slot_at database.now slot)) }
 {
-    let Some(lsa) = database.get(slot) else {
-        return Ok(());
-    };
-    let change = area_lsa_after(database, event, area, networks, new, slot, lsa)?;
-    push_some(changes, change)?;
-    Ok(())
+    match database.get(slot) {
+        Some(lsa) => area_lsa_after(database, event, area, networks, new, slot, lsa),
+        None => Ok(None),
+    }
 }
 
 /// Adds the changes of the slots of an area, by its number and its ID.
@@ -53,8 +50,8 @@ fn add_area<A: Allocator + Copy>(
 ) -> Result<(), RemakeFault>
     requires { IsSome (item_at database.now number) }
     ensures { OnOk result (changes.new.items ≡ changes.old.items
-        ++ section_changes (area_lsa_after (lists_of database.now) event.now area) number (Area area) 0
-        (slots_in database.now number)) }
+        ++ section_changes (area_lsa_after (lists_of database.now) event.now area) number
+        (Area area) 0 (slots_in database.now number)) }
 {
     let networks = networks_left(database, event, area)?;
     let new = new_networks(database, area, event.router(), &networks)?;
@@ -63,27 +60,25 @@ fn add_area<A: Allocator + Copy>(
             section: number,
             index,
         };
-        add_of_area(changes, database, event, area, &networks, &new, slot)?;
+        let change = change_in_area(database, event, area, &networks, &new, slot)?;
+        push_some(changes, change)?;
     }
     Ok(())
 }
 
-/// Adds the change of a slot of the LSAs of AS scope, where its LSA changes.
-fn add_of_as<A: Allocator + Copy>(
-    changes: &mut Vec<Change<A>, A>,
+/// The change of a slot of the LSAs of AS scope, where there is one that changes.
+fn change_in_as<A: Allocator + Copy>(
     database: &Database<A>,
     event: &Departure,
     slot: SlotId,
-) -> Result<(), RemakeFault>
-    ensures { OnOk result (changes.new.items ≡ changes.old.items
-        ++ option_to_list (change_at (as_lsa_after event.now) slot AsWide
-        (slot_at database.now slot))) }
+) -> Option<Change<A>>
+    ensures { result
+        ≡ change_at (as_lsa_after event.now) slot AsWide (slot_at database.now slot) }
 {
-    let Some(lsa) = database.get(slot) else {
-        return Ok(());
-    };
-    push_some(changes, as_lsa_after(event, slot, lsa))?;
-    Ok(())
+    match database.get(slot) {
+        Some(lsa) => as_lsa_after(event, slot, lsa),
+        None => None,
+    }
 }
 
 /// Adds the changes of the slots of the LSAs of AS scope, by the number of their section.
@@ -95,14 +90,15 @@ fn add_as_wide<A: Allocator + Copy>(
 ) -> Result<(), RemakeFault>
     requires { IsSome (item_at database.now number) }
     ensures { OnOk result (changes.new.items ≡ changes.old.items
-        ++ section_changes (as_lsa_after event.now) number AsWide 0 (slots_in database.now number)) }
+        ++ section_changes (as_lsa_after event.now) number AsWide 0
+        (slots_in database.now number)) }
 {
     for index in 0..database.slot_count(number) {
         let slot = SlotId {
             section: number,
             index,
         };
-        add_of_as(changes, database, event, slot)?;
+        push_some(changes, change_in_as(database, event, slot))?;
     }
     Ok(())
 }
@@ -141,8 +137,7 @@ fn slots_after<A: Allocator + Copy>(
     Ok(changes)
 }
 
-/// The slots that a departure changes, each with the LSA that it gets, in their order: the database
-/// with them is the one after the departure.
+/// The slots that a departure changes, each with the LSA that it gets, in their order.
 ///
 /// # Errors
 ///

@@ -22,6 +22,11 @@ pub(super) fn lan() -> Prefix {
     Prefix::masked(Addr(0xc0a8_0100), 24)
 }
 
+/// A router leaves 192.168.1.0/24.
+pub(super) fn leaves(router: RouterId) -> Departure {
+    Departure::LeavesNetwork { router, net: lan() }
+}
+
 /// The database that a text describes.
 fn database(alloc: Global, text: &str) -> Result<Database, Fail> {
     Ok(Database::load(alloc, &dump_of_text(alloc, text)?)?)

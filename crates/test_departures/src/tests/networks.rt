@@ -1,15 +1,8 @@
 //! Routers that leave a transit network. The texts are the databases of real routers before and
 //! after, but for ages, sequence numbers and other LSAs.
 
-use super::built::{R1, R2, lan, leads_to};
-use lsa_codec::RouterId;
-use network_departures::Departure;
+use super::built::{R1, R2, leads_to, leaves};
 use std::test::*;
-
-/// The router leaves 192.168.1.0/24.
-fn leaves(router: RouterId) -> Departure {
-    Departure::LeavesNetwork { router, net: lan() }
-}
 
 /// A network of 1.1.1.1 and 2.2.2.2, its Designated Router.
 const TWO: &str = "area 0.0.0.1

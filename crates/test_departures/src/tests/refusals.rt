@@ -1,6 +1,6 @@
 //! Departures that are refused, and what nobody leaves.
 
-use super::built::{R1, R3, fault, lan, leads_to};
+use super::built::{R1, R3, fault, lan, leads_to, leaves};
 use departures::DepartureFault;
 use lsa_codec::RouterId;
 use network_departures::Departure;
@@ -23,10 +23,7 @@ fn a_router_is_to_be_there(rt: HostRuntime) -> Result<(), Fail> {
 
 #[test]
 fn a_router_is_to_be_on_the_network_that_it_leaves(rt: HostRuntime) -> Result<(), Fail> {
-    let event = Departure::LeavesNetwork {
-        router: R3,
-        net: lan(),
-    };
+    let event = leaves(R3);
     let found = fault(rt.alloc(), NETWORK, &event)?;
     assert!(rt; found == DepartureFault::NotOnNetwork(R3, lan()));
     Ok(())
@@ -61,10 +58,7 @@ network 192.168.1.2/24 by=2.2.2.2: 1.1.1.1, 2.2.2.2";
 
 #[test]
 fn a_router_without_links_is_no_more(rt: HostRuntime) -> Result<(), Fail> {
-    let event = Departure::LeavesNetwork {
-        router: R3,
-        net: lan(),
-    };
+    let event = leaves(R3);
     assert!(rt; leads_to(rt.alloc(), OLD_NETWORK_LSA, &event, LEFT)?);
     Ok(())
 }
@@ -85,10 +79,7 @@ network 192.168.1.3/24 by=3.3.3.3: 2.2.2.2, 3.3.3.3";
 
 #[test]
 fn a_network_lsa_forgets_a_router(rt: HostRuntime) -> Result<(), Fail> {
-    let event = Departure::LeavesNetwork {
-        router: R1,
-        net: lan(),
-    };
+    let event = leaves(R1);
     assert!(rt; leads_to(rt.alloc(), THREE, &event, OTHERS)?);
     Ok(())
 }
