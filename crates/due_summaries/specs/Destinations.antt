@@ -1,0 +1,42 @@
+-- What summary-LSAs describe: networks, and AS boundary routers (RFC 2328, 12.4.3).
+use Rattle.std.specs.Prelude.{ℕ, Bool, false, ◌&&◌, List, map, ◌++◌, ◌==◌, filter, Option, Some, None, if◌then◌else◌}
+use Rattle.lsa_codec.specs.LsTypes.{summary_lsa}
+use Rattle.lsa_codec.specs.declared.address.RouterId.{RouterId}
+use Rattle.lsa_codec.specs.Fields.{kind_of}
+use Rattle.lsa_codec.specs.Order.{router_cmp}
+use Rattle.lsa_codec.specs.Prefix.{Net}
+use Rattle.lsa_codec.specs.Views.{net_of_lsa}
+use Rattle.lsdb.specs.Lists.{Lists}
+use Rattle.area_graph.specs.Rising.{rising}
+use Rattle.area_routes.specs.Inter.{is_summary, named_router, same_router}
+use Rattle.area_routes.specs.Values.{EntryValue}
+use Rattle.best_ways.specs.Routes.{nets}
+use Rattle.external_routes.specs.Choose.{is_asbr_kind}
+use Rattle.summary_metrics.specs.Refreshed.{routes_inside, entries_inside}
+use Rattle.due_summaries.specs.declared.destination.Destination.{Destination}
+use Rattle.due_summaries.specs.declared.destination.Destination.TheVariants.{Network, BoundaryRouter}
+
+-- the destination of a summary-LSA
+abbrev pub summary_destination : List ℕ → Destination
+summary_destination lsa = if kind_of lsa == summary_lsa then Network (net_of_lsa lsa) else BoundaryRouter (named_router lsa)
+
+-- the destination of an LSA, if it is a summary-LSA
+abbrev pub destination_of : List ℕ → Option Destination
+destination_of lsa = if is_summary lsa then Some (summary_destination lsa) else None
+
+abbrev pub same_net : Net → Net → Bool
+same_net a b = (a.addr.0 == b.addr.0) && (a.len == b.len)
+
+abbrev pub same_destination : Destination → Destination → Bool
+same_destination (Network a) (Network b) = same_net a b
+same_destination (BoundaryRouter a) (BoundaryRouter b) = same_router a b
+same_destination (Network a) (BoundaryRouter b) = false
+same_destination (BoundaryRouter a) (Network b) = false
+
+-- the AS boundary routers that have an entry, in order
+abbrev pub boundary_routers : List EntryValue → List RouterId
+boundary_routers entries = rising router_cmp (map (λ e. e.router) (filter (λ e. is_asbr_kind e.kind) entries))
+
+-- what a router has a route or an entry to: networks in order of prefix, then AS boundary routers
+abbrev pub destinations_inside : Lists → RouterId → List Destination
+destinations_inside db router = map Network (nets (routes_inside db router)) ++ map BoundaryRouter (boundary_routers (entries_inside db router))

@@ -1,0 +1,27 @@
+-- What becomes of each LSA of an area where summaries follow (RFC 2328, 12.4.3).
+use Rattle.std.specs.Prelude.{ℕ, Bool, ◌||◌, ◌==◌, not, List, Some, None, if◌then◌else◌}
+use Rattle.lsa_codec.specs.declared.address.AreaId.{AreaId}
+use Rattle.lsa_codec.specs.Originating.{with_metric}
+use Rattle.lsa_codec.specs.Views.{ls_infinity, metric_of}
+use Rattle.lsdb.specs.Lists.{Lists}
+use Rattle.area_routes.specs.Inter.{originator_of}
+use Rattle.external_routes.specs.Summaries.{is_calculated}
+use Rattle.event_lsas.specs.Outcomes.{LsaChange, kept, becomes}
+use Rattle.due_summaries.specs.Destinations.{summary_destination}
+use Rattle.due_summaries.specs.DueSummaries.{metric_due}
+use Rattle.summary_settling.specs.Loaded.{is_held}
+
+-- a summary gets the metric that is due, or is withdrawn where none is
+abbrev pub with_due : ℕ → List ℕ → LsaChange
+with_due metric lsa =
+    if metric_of lsa == metric then kept else
+    if metric == ls_infinity then becomes None else becomes (Some (with_metric metric lsa))
+
+-- an LSA is no live summary, or its summary is held
+abbrev pub stays : Lists → Lists → AreaId → List ℕ → Bool
+stays loaded db area lsa = not (is_calculated db area lsa) || is_held loaded area (originator_of lsa) (summary_destination lsa)
+
+-- what becomes of an LSA of an area
+abbrev pub followed : Lists → Lists → AreaId → List ℕ → LsaChange
+followed loaded db area lsa =
+    if stays loaded db area lsa then kept else with_due (metric_due db area (originator_of lsa) (summary_destination lsa)) lsa

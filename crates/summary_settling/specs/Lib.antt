@@ -1,0 +1,6 @@
+pub mod Standing
+pub mod Loaded
+pub mod Following
+pub mod Placing
+pub mod BorderBits
+pub mod Settled

@@ -1,0 +1,33 @@
+//! The summary-LSAs and the bits B of border routers after a network has changed (RFC 2328, 12.4.1,
+//! 12.4.3 and appendix E).
+//!
+//! [`settled`] returns the database in which each border router has originated what it is due,
+//! relative to the loaded database, of which [`LoadedSummaries`] keeps what matters. A summary that
+//! stood in the loaded database with the metric that was due there follows: it gets the metric that
+//! is due now, or is withdrawn. One that stood with another metric is held as it is, as ranges and
+//! filters leave them. One that is due now and does not stand is made, unless it was due in the
+//! loaded database and did not stand there.
+#![tactic(auto)]
+
+// What depends on the loaded database.
+mod announcement;
+mod fault;
+mod loaded;
+mod standing;
+
+// Bits B.
+mod border_bits;
+
+// Summaries.
+mod following;
+mod new_summary;
+mod placing;
+
+// All together.
+mod settling;
+mod slots;
+
+pub use announcement::Announcement;
+pub use fault::SettleFault;
+pub use loaded::LoadedSummaries;
+pub use settling::settled;

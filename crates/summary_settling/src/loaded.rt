@@ -1,0 +1,122 @@
+//! What the summaries of a database depend on in the loaded one.
+
+ghost use Rattle.std.specs.Prelude.{◌≡◌};
+
+use crate::announcement::Announcement;
+use crate::standing::standing;
+use due_summaries::{DueSummary, border_routers, destination_of, due_into, metric_due};
+use external_routes::is_calculated;
+use lsa_codec::{AreaId, Lsa, RouterId};
+use lsdb::{Database, Section};
+use routing_table::KeptTrees;
+use std::alloc::{AllocError, Allocator};
+use std::collections::BTreeSet;
+
+/// What the summaries of a database depend on in the loaded one: what is held there as it is, what
+/// is left out, and which routers border areas.
+#[derive(Drop)]
+pub struct LoadedSummaries<A: Allocator> {
+    held: BTreeSet<Announcement, A>,
+    left_out: BTreeSet<Announcement, A>,
+    borders: Vec<RouterId, A>,
+}
+
+/// What an LSA of an area announces, where it is a live summary that is not due with its metric.
+fn not_due<A: Allocator + Copy>(
+    database: &Database<A>,
+    area: AreaId,
+    due: &[DueSummary],
+    lsa: &Lsa<A>,
+) -> Option<Announcement> {
+    if !is_calculated(database, area, lsa) {
+        return None;
+    }
+    let (router, destination) = (lsa.key().adv, destination_of(lsa)?);
+    if lsa.summary()?.metric() == metric_due(due, router, destination) {
+        return None;
+    }
+    Some(Announcement {
+        area,
+        router,
+        destination,
+    })
+}
+
+impl<A: Allocator + Copy> LoadedSummaries<A> {
+    /// Adds what the summaries of an area announce that are not due with their metrics.
+    fn add_held(
+        &mut self,
+        database: &Database<A>,
+        area: AreaId,
+        due: &[DueSummary],
+    ) -> Result<(), AllocError> {
+        for lsa in database.lsas(Section::Area(area)) {
+            if let Some(announced) = not_due(database, area, due, lsa) {
+                self.held.insert(announced)?;
+            }
+        }
+        Ok(())
+    }
+
+    /// Adds what is due in an area and does not stand there.
+    fn add_left_out(
+        &mut self,
+        database: &Database<A>,
+        area: AreaId,
+        due: &[DueSummary],
+    ) -> Result<(), AllocError> {
+        for summary in due {
+            let announced = Announcement {
+                area,
+                router: summary.router,
+                destination: summary.destination,
+            };
+            if standing(database, announced).is_none() {
+                self.left_out.insert(announced)?;
+            }
+        }
+        Ok(())
+    }
+
+    /// What the summaries of a database depend on in this one, the loaded one.
+    ///
+    /// # Errors
+    ///
+    /// Memory ran out.
+    pub fn of(alloc: A, database: &Database<A>) -> Result<LoadedSummaries<A>, AllocError> {
+        let mut trees = KeptTrees::new(alloc);
+        let mut loaded = LoadedSummaries {
+            held: BTreeSet::new(alloc),
+            left_out: BTreeSet::new(alloc),
+            borders: border_routers(alloc, database)?,
+        };
+        for i in 0..database.area_count() {
+            let area = database.area(i);
+            let due = due_into(alloc, database, area, &loaded.borders, &mut trees)?;
+            loaded.add_held(database, area.0, &due)?;
+            loaded.add_left_out(database, area.0, &due)?;
+        }
+        Ok(loaded)
+    }
+
+    /// Whether what a router announces for a destination is held as it is. It takes no memory.
+    pub fn is_held(&self, announced: Announcement) -> bool {
+        self.held.contains(&announced)
+    }
+
+    /// Whether a summary is due in the loaded database and does not stand there. It takes no
+    /// memory.
+    pub fn is_left_out(&self, announced: Announcement) -> bool {
+        self.left_out.contains(&announced)
+    }
+
+    /// Whether a router is attached to several areas. It takes no memory.
+    pub(crate) fn is_border_router(&self, router: RouterId) -> bool {
+        self.borders.as_slice().binary_search(&router).is_ok()
+    }
+
+    /// What is held, in order.
+    pub fn held(&self) -> &BTreeSet<Announcement, A> {
+        &self.held
+    }
+}
