@@ -8,9 +8,7 @@ ghost use Rattle.routing_table.specs.AreasTrees.{AreOfDatabase};
 ghost use Rattle.summary_metrics.specs.Refreshed.{routes_inside, entries_inside};
 ghost use Rattle.due_summaries.specs.Destinations.{boundary_routers};
 
-use area_routes::{
-    AreaResult, EntryKind, InsideRoutes, RouterEntries, RouterEntry, inter, intra,
-};
+use area_routes::{AreaResult, EntryKind, InsideRoutes, RouterEntries, RouterEntry, inter, intra};
 use best_ways::Route;
 use lsa_codec::{Prefix, RouterId};
 use lsdb::Database;

@@ -17,9 +17,15 @@ with_due metric lsa =
     if metric_of lsa == metric then kept else
     if metric == ls_infinity then becomes None else becomes (Some (with_metric metric lsa))
 
--- an LSA is no live summary, or its summary is held
+-- the metric that a drained border router gives to its summaries: LSInfinity less the greatest cost of a link
+abbrev pub raised_metric : ℕ
+raised_metric = 16711680
+
+-- an LSA is no live summary, or its summary is held, or raised since
 abbrev pub stays : Lists → Lists → AreaId → List ℕ → Bool
-stays loaded db area lsa = not (is_calculated db area lsa) || is_held loaded area (originator_of lsa) (summary_destination lsa)
+stays loaded db area lsa =
+    not (is_calculated db area lsa)
+    || ((metric_of lsa == raised_metric) || is_held loaded area (originator_of lsa) (summary_destination lsa))
 
 -- what becomes of an LSA of an area
 abbrev pub followed : Lists → Lists → AreaId → List ℕ → LsaChange

@@ -60,7 +60,13 @@ fn turned_at<A: Allocator + Copy>(
         return Ok(None);
     };
     let router = lsa.key().adv;
-    let due = bit_due(before, loaded, area, router, borders.binary_search(&router).is_ok());
+    let due = bit_due(
+        before,
+        loaded,
+        area,
+        router,
+        borders.binary_search(&router).is_ok(),
+    );
     if lsa.at_max_age() || (view.flags() & BIT_B != 0) == due {
         return Ok(None);
     }

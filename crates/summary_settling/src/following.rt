@@ -10,6 +10,10 @@ use lsa_codec::{AreaId, LS_INFINITY, Lsa};
 use lsdb::{Database, SlotId};
 use std::alloc::Allocator;
 
+/// The metric that a drained border router gives to its summaries: LSInfinity less the greatest
+/// cost of a link.
+const RAISED_METRIC: u32 = 16_711_680;
+
 /// What becomes of an LSA.
 #[derive(Drop)]
 enum LsaChange<A: Allocator> {
@@ -19,7 +23,8 @@ enum LsaChange<A: Allocator> {
     Becomes(Option<Lsa<A>>),
 }
 
-/// The metric that is due for an LSA of an area, where it is a live summary that is not held.
+/// The metric that is due for an LSA of an area, where it is a live summary that is neither held nor
+/// raised since.
 fn due_for<A: Allocator + Copy>(
     loaded: &LoadedSummaries<A>,
     database: &Database<A>,
@@ -36,7 +41,7 @@ fn due_for<A: Allocator + Copy>(
         router,
         destination,
     };
-    if loaded.is_held(announced) {
+    if lsa.summary()?.metric() == RAISED_METRIC || loaded.is_held(announced) {
         return None;
     }
     Some(metric_due(due, router, destination))

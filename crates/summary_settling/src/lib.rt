@@ -5,8 +5,8 @@
 //! relative to the loaded database, of which [`LoadedSummaries`] keeps what matters. A summary that
 //! stood in the loaded database with the metric that was due there follows: it gets the metric that
 //! is due now, or is withdrawn. One that stood with another metric is held as it is, as ranges and
-//! filters leave them. One that is due now and does not stand is made, unless it was due in the
-//! loaded database and did not stand there.
+//! filters leave them; so is one that a drained router has raised since. One that is due now and
+//! does not stand is made, unless it was due in the loaded database and did not stand there.
 #![tactic(auto)]
 
 // What depends on the loaded database.
