@@ -4,3 +4,4 @@ pub mod Following
 pub mod Placing
 pub mod BorderBits
 pub mod Settled
+pub mod Changes

@@ -7,6 +7,7 @@
 //! is due now, or is withdrawn. One that stood with another metric is held as it is, as ranges and
 //! filters leave them; so is one that a drained router has raised since. One that is due now and
 //! does not stand is made, unless it was due in the loaded database and did not stand there.
+//! [`settling_changes`] returns the slots that change.
 #![tactic(auto)]
 
 // What depends on the loaded database.
@@ -24,10 +25,14 @@ mod new_summary;
 mod placing;
 
 // All together.
+mod changes;
 mod settling;
+mod slot_content;
 mod slots;
 
 pub use announcement::Announcement;
+pub use changes::settling_changes;
 pub use fault::SettleFault;
 pub use loaded::LoadedSummaries;
 pub use settling::settled;
+pub use slot_content::SlotContent;

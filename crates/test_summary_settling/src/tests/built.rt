@@ -5,7 +5,7 @@ use lsa_codec::{AreaId, Lsa};
 use lsdb::{Database, Section};
 use std::alloc::Global;
 use std::test::*;
-use summary_settling::{LoadedSummaries, settled};
+use summary_settling::{LoadedSummaries, settled, settling_changes};
 use test_support::dump_of_text;
 
 /// Texts that give way to others, each standing once.
@@ -121,6 +121,24 @@ pub(super) fn settle(alloc: Global, before: &Database, after: &Database) -> Resu
     Ok(settled(before, &loaded, after)?)
 }
 
+/// Whether the slots that change lead from a database to the settled one.
+fn changes_lead(
+    alloc: Global,
+    before: &Database,
+    after: &Database,
+    new: &Database,
+) -> Result<bool, Fail> {
+    let mut changed = after.clone_of()?;
+    for change in settling_changes(before, &LoadedSummaries::of(alloc, before)?, after)? {
+        let mut content = change.lsa;
+        if change.slot.index == changed.slot_count(change.slot.section) {
+            changed.open_slot(change.section)?;
+        }
+        changed.swap(change.slot, &mut content);
+    }
+    Ok(changed.dump()? == new.dump()?)
+}
+
 /// Those of some that are not among others.
 fn only_in(alloc: Global, some: &[Said], others: &[Said]) -> Result<Vec<Said>, Fail> {
     let mut only = Vec::new(alloc);
@@ -147,7 +165,7 @@ pub(super) fn changed(
 }
 
 /// Whether settling takes away and adds what is wanted, nothing in the loaded database, and nothing
-/// where all has settled.
+/// where all has settled; and whether the slots that change lead there.
 pub(super) fn differences(alloc: Global, text: &str, wanted: Wanted<'_>) -> Result<bool, Fail> {
     let (before, after) = changed(alloc, text, wanted)?;
     let new = settle(alloc, &before, &after)?;
