@@ -9,10 +9,12 @@ use Rattle.lsa_codec.specs.Views.{net_of_lsa}
 use Rattle.lsdb.specs.Lists.{Lists}
 use Rattle.area_graph.specs.Rising.{rising}
 use Rattle.area_routes.specs.Inter.{is_summary, named_router, same_router}
+use Rattle.area_routes.specs.AreaResults.{results_of}
 use Rattle.area_routes.specs.Values.{EntryValue}
 use Rattle.best_ways.specs.Routes.{nets}
+use Rattle.best_ways.specs.Values.{RouteValue}
 use Rattle.external_routes.specs.Choose.{is_asbr_kind}
-use Rattle.summary_metrics.specs.Refreshed.{routes_inside, entries_inside}
+use Rattle.routing_table.specs.Tables.{inside, inter_result}
 use Rattle.due_summaries.specs.declared.destination.Destination.{Destination}
 use Rattle.due_summaries.specs.declared.destination.Destination.TheVariants.{Network, BoundaryRouter}
 
@@ -32,6 +34,16 @@ same_destination (Network a) (Network b) = same_net a b
 same_destination (BoundaryRouter a) (BoundaryRouter b) = same_router a b
 same_destination (Network a) (BoundaryRouter b) = false
 same_destination (BoundaryRouter a) (Network b) = false
+
+-- ---- what a router has routes and entries to
+
+-- the intra-area and inter-area routes of a router
+abbrev pub routes_inside : Lists → RouterId → List RouteValue
+routes_inside db router = inside db router (results_of db router)
+
+-- its router entries
+abbrev pub entries_inside : Lists → RouterId → List EntryValue
+entries_inside db router = (inter_result db router (results_of db router)).routers
 
 -- the AS boundary routers that have an entry, in order
 abbrev pub boundary_routers : List EntryValue → List RouterId

@@ -7,14 +7,15 @@ use Rattle.lsa_codec.specs.declared.address.RouterId.{RouterId}
 use Rattle.lsa_codec.specs.Views.{ls_infinity}
 use Rattle.lsdb.specs.Lists.{Lists}
 use Rattle.best_ways.specs.Values.{RouteValue}
+use Rattle.area_routes.specs.Attached.{is_attached}
 use Rattle.area_routes.specs.Values.{EntryValue}
 use Rattle.routing_table.specs.Routers.{attached_routers}
-use Rattle.external_routes.specs.Summaries.{borders, cost_of_asbr, cost_of_net, is_default, is_stub_area}
-use Rattle.summary_metrics.specs.Refreshed.{routes_inside, entries_inside}
+use Rattle.external_routes.specs.Summaries.{cost_of_asbr, cost_of_net, is_default, is_stub_area}
 use Rattle.due_summaries.specs.declared.destination.Destination.{Destination}
 use Rattle.due_summaries.specs.declared.destination.Destination.TheVariants.{Network, BoundaryRouter}
 use Rattle.due_summaries.specs.declared.due_summary.DueSummary.{DueSummary}
-use Rattle.due_summaries.specs.Destinations.{destinations_inside}
+use Rattle.due_summaries.specs.BorderRouters.{is_border_router}
+use Rattle.due_summaries.specs.Destinations.{destinations_inside, entries_inside, routes_inside}
 
 -- the cost that a router with these routes and entries announces into an area for a destination. Into a stub area it announces
 -- no AS boundary router, and its default route has a configured metric (12.4.3.1).
@@ -27,10 +28,10 @@ abbrev pub announced_metric : ℕ → Option ℕ
 announced_metric cost = if nat_lt cost ls_infinity then Some cost else None
 
 -- the metric of the summary that a router is due to originate into an area for a destination: none where none is due. The router
--- is attached to the area and to another one.
+-- is attached to the area, and is a border router.
 abbrev pub due_metric : Lists → AreaId → RouterId → Destination → Option ℕ
 due_metric db area router destination =
-    if borders db area router
+    if is_attached db area router && is_border_router db router
     then option_and_then announced_metric (announced_cost db area (routes_inside db router) (entries_inside db router) destination)
     else None
 

@@ -3,6 +3,7 @@
 ghost use Rattle.std.specs.Prelude.{◌≡◌};
 ghost use Rattle.external_routes.specs.Summaries.{is_announced_entry, is_announced_route};
 ghost use Rattle.due_summaries.specs.DueSummaries.{announced_metric};
+ghost use Rattle.due_summaries.specs.steps.Ways.{boundary_router_metric, entry_metric, network_metric, route_metric};
 
 use crate::ways::RouterWays;
 use area_routes::{EntryKind, RouterEntry};
@@ -42,34 +43,49 @@ fn announced_metric(cost: u64) -> Option<u32>
     }
 }
 
-/// The metric that a router with these ways announces into an area for a network, if it does. Into
-/// a stub area the metric of the default route is configured (RFC 2328, 12.4.3.1).
-pub(crate) fn network_metric<A: Allocator + Copy>(
-    area: AreaId,
-    is_stub: bool,
-    ways: &RouterWays<A>,
-    net: Prefix,
-) -> Option<u32> {
-    if is_stub && net.len() == 0 {
-        return None;
-    }
-    let route = ways.route_to(net)?;
+/// The metric of a route, if it is announced into an area.
+fn route_metric<A: Allocator + Copy>(area: AreaId, route: &Route<A>) -> Option<u32>
+    ensures { result ≡ route_metric area route.now }
+{
     if !is_announced_route(area, route) {
         return None;
     }
     announced_metric(route.cost)
 }
 
-/// The metric that a router with these ways announces into an area, which is no stub area, for an
-/// AS boundary router, if it does.
-pub(crate) fn boundary_router_metric<A: Allocator + Copy>(
-    area: AreaId,
-    ways: &RouterWays<A>,
-    asbr: RouterId,
-) -> Option<u32> {
-    let entry = preferred(ways.entries(), asbr)?;
+/// The metric of a way to an AS boundary router, if it is announced into an area.
+fn entry_metric<A: Allocator + Copy>(area: AreaId, entry: &RouterEntry<A>) -> Option<u32>
+    ensures { result ≡ entry_metric area entry.now }
+{
     if !is_announced_entry(area, entry) {
         return None;
     }
     announced_metric(entry.cost)
+}
+
+/// The metric that a router with these ways announces into an area for a network, if it does. Into
+/// a stub area the metric of the default route is configured (RFC 2328, 12.4.3.1).
+pub(crate) fn network_metric<A: Allocator + Copy>(
+    area: (AreaId, bool),
+    ways: &RouterWays<A>,
+    net: Prefix,
+) -> Option<u32>
+    ensures { result ≡ network_metric area.0 area.1 ways.now net }
+{
+    if net.len() == 0 && area.1 {
+        return None;
+    }
+    route_metric(area.0, ways.route_to(net)?)
+}
+
+/// The metric that a router with these ways announces into an area, which is no stub area, for an
+/// AS boundary router, if it does.
+pub(crate) fn boundary_router_metric<A: Allocator + Copy>(
+    area: (AreaId, bool),
+    ways: &RouterWays<A>,
+    asbr: RouterId,
+) -> Option<u32>
+    ensures { result ≡ boundary_router_metric area.0 area.1 ways.now asbr }
+{
+    entry_metric(area.0, preferred(ways.entries(), asbr)?)
 }

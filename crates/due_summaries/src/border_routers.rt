@@ -1,38 +1,51 @@
 //! The routers that are attached to several areas.
 
-ghost use Rattle.std.specs.Prelude.{◌≡◌, IfOk};
+ghost use Rattle.std.specs.Prelude.{◌≡◌, filter, IfOk, length};
+ghost use Rattle.area_routes.specs.Attached.{attached_areas};
 ghost use Rattle.lsdb.specs.Slots.{lists_of};
-ghost use Rattle.due_summaries.specs.BorderRouters.{border_routers};
+ghost use Rattle.due_summaries.specs.BorderRouters.{border_routers, is_border_router};
 
-use lsa_codec::{Lsa, ROUTER_LSA, RouterId};
-use lsdb::{Database, Lsas, Section};
+use area_routes::is_attached;
+use lsa_codec::RouterId;
+use lsdb::Database;
+use routing_table::routers;
 use std::alloc::{AllocError, Allocator};
-use std::collections::BTreeSet;
 
-/// The router of an LSA, if it is a router-LSA that is not at MaxAge.
-fn live_router<A: Allocator + Copy>(lsa: &Lsa<A>) -> Option<RouterId> {
-    let key = lsa.key();
-    if lsa.at_max_age() || key.kind != ROUTER_LSA {
-        return None;
-    }
-    Some(key.adv)
-}
-
-/// Adds the routers of the live router-LSAs of an area to those that have been found, and those
-/// that have been found before to those of several areas.
-fn add_routers<A: Allocator + Copy>(
-    found: &mut BTreeSet<RouterId, A>,
-    several: &mut BTreeSet<RouterId, A>,
-    lsas: Lsas<'_, A>,
-) -> Result<(), AllocError> {
-    for lsa in lsas {
-        if let Some(router) = live_router(lsa) {
-            if !found.insert(router)? {
-                several.insert(router)?;
-            }
+/// How many areas a router is attached to.
+fn attached_count<A: Allocator + Copy>(database: &Database<A>, router: RouterId) -> usize
+    ensures { result ≡ length (attached_areas (lists_of database.now) router) }
+{
+    let mut count = 0;
+    for i in 0..database.area_count() {
+        let (area, _is_stub) = database.area(i);
+        if is_attached(database, area, router) {
+            count += 1;
         }
     }
-    Ok(())
+    count
+}
+
+/// Whether a router is attached to several areas.
+fn is_border_router<A: Allocator + Copy>(database: &Database<A>, router: RouterId) -> bool
+    ensures { result ≡ is_border_router (lists_of database.now) router }
+{
+    attached_count(database, router) > 1
+}
+
+/// Those of some routers that are attached to several areas.
+fn borders_among<A: Allocator + Copy>(
+    alloc: A,
+    database: &Database<A>,
+    routers: &[RouterId],
+) -> Result<Vec<RouterId, A>, AllocError>
+    ensures { IfOk result (λ found. found.items
+        ≡ filter (is_border_router (lists_of database.now)) routers.now) }
+{
+    routers
+        .iter()
+        .copied()
+        .filter(|router| is_border_router(database, *router))
+        .collect(alloc)
 }
 
 /// The routers that are attached to several areas, as area border routers are (RFC 2328, 3.3), in
@@ -47,11 +60,6 @@ pub fn border_routers<A: Allocator + Copy>(
 ) -> Result<Vec<RouterId, A>, AllocError>
     ensures { IfOk result (λ routers. routers.items ≡ border_routers (lists_of database.now)) }
 {
-    let mut found = BTreeSet::new(alloc);
-    let mut several = BTreeSet::new(alloc);
-    for i in 0..database.area_count() {
-        let (area, _is_stub) = database.area(i);
-        add_routers(&mut found, &mut several, database.lsas(Section::Area(area)))?;
-    }
-    several.into_iter().collect(alloc)
+    let attached = routers(alloc, database)?;
+    borders_among(alloc, database, &attached)
 }

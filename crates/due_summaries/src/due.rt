@@ -1,19 +1,69 @@
 //! All summary-LSAs that are due in an area.
 
-ghost use Rattle.std.specs.Prelude.{◌≡◌, IfOk};
+ghost use Rattle.std.specs.Prelude.{◌≡◌, ◌++◌, IfOk, OnOk, option_to_list, length, Some};
+ghost use Rattle.lsdb.specs.Lists.{areas_of, id_and_kind};
 ghost use Rattle.lsdb.specs.Slots.{lists_of};
 ghost use Rattle.routing_table.specs.AreasTrees.{AreOfDatabase};
-ghost use Rattle.due_summaries.specs.DueSummaries.{due_into};
+ghost use Rattle.due_summaries.specs.BorderRouters.{border_routers};
+ghost use Rattle.due_summaries.specs.DueSummaries.{due_into, due_of};
+ghost use Rattle.due_summaries.specs.steps.Ways.{boundary_router_due, boundary_routers_due, network_due, networks_due};
 
 use crate::announced::{boundary_router_metric, network_metric};
 use crate::destination::Destination;
 use crate::due_summary::DueSummary;
 use crate::ways::RouterWays;
 use area_routes::is_attached;
-use lsa_codec::{AreaId, RouterId};
+use lsa_codec::{AreaId, Prefix, RouterId};
 use lsdb::Database;
 use routing_table::KeptTrees;
 use std::alloc::{AllocError, Allocator};
+
+/// The summary for a network that a router with these ways is due to originate into an area.
+fn network_due<A: Allocator + Copy>(
+    area: (AreaId, bool),
+    router: RouterId,
+    ways: &RouterWays<A>,
+    net: Prefix,
+) -> Option<DueSummary>
+    ensures { result ≡ network_due area.0 area.1 ways.now router net }
+{
+    let metric = network_metric(area, ways, net)?;
+    Some(DueSummary {
+        router,
+        destination: Destination::Network(net),
+        metric,
+    })
+}
+
+/// The same for an AS boundary router; the area is no stub area.
+fn boundary_router_due<A: Allocator + Copy>(
+    area: (AreaId, bool),
+    router: RouterId,
+    ways: &RouterWays<A>,
+    asbr: RouterId,
+) -> Option<DueSummary>
+    ensures { result ≡ boundary_router_due area.0 area.1 ways.now router asbr }
+{
+    let metric = boundary_router_metric(area, ways, asbr)?;
+    Some(DueSummary {
+        router,
+        destination: Destination::BoundaryRouter(asbr),
+        metric,
+    })
+}
+
+/// Adds a summary, if there is one.
+fn push_some<A: Allocator + Copy>(
+    all: &mut Vec<DueSummary, A>,
+    due: Option<DueSummary>,
+) -> Result<(), AllocError>
+    ensures { OnOk result (all.new.items ≡ all.old.items ++ option_to_list due) }
+{
+    if let Some(due) = due {
+        all.push(due)?;
+    }
+    Ok(())
+}
 
 /// Adds the summaries of networks that a router with these ways is due to originate into an area.
 fn push_networks<A: Allocator + Copy>(
@@ -22,15 +72,13 @@ fn push_networks<A: Allocator + Copy>(
     area: (AreaId, bool),
     router: RouterId,
     ways: &RouterWays<A>,
-) -> Result<(), AllocError> {
-    for net in ways.nets(alloc)? {
-        if let Some(metric) = network_metric(area.0, area.1, ways, net) {
-            due.push(DueSummary {
-                router,
-                destination: Destination::Network(net),
-                metric,
-            })?;
-        }
+) -> Result<(), AllocError>
+    ensures { OnOk result
+        (due.new.items ≡ due.old.items ++ networks_due area.0 area.1 ways.now router) }
+{
+    let nets = ways.nets(alloc)?;
+    for net in &nets {
+        push_some(due, network_due(area, router, ways, *net))?;
     }
     Ok(())
 }
@@ -42,18 +90,16 @@ fn push_boundary_routers<A: Allocator + Copy>(
     area: (AreaId, bool),
     router: RouterId,
     ways: &RouterWays<A>,
-) -> Result<(), AllocError> {
+) -> Result<(), AllocError>
+    ensures { OnOk result
+        (due.new.items ≡ due.old.items ++ boundary_routers_due area.0 area.1 ways.now router) }
+{
     if area.1 {
         return Ok(());
     }
-    for asbr in ways.boundary_routers(alloc)? {
-        if let Some(metric) = boundary_router_metric(area.0, ways, asbr) {
-            due.push(DueSummary {
-                router,
-                destination: Destination::BoundaryRouter(asbr),
-                metric,
-            })?;
-        }
+    let asbrs = ways.boundary_routers(alloc)?;
+    for asbr in &asbrs {
+        push_some(due, boundary_router_due(area, router, ways, *asbr))?;
     }
     Ok(())
 }
@@ -75,9 +121,9 @@ fn push_of_router<A: Allocator + Copy>(
     push_boundary_routers(alloc, due, area, router, &ways)
 }
 
-/// The summary-LSAs that are due in an area, by its ID and whether it is a stub area, among those
-/// of some border routers in rising order: by router, and then by destination. The graphs of areas
-/// and the trees are kept, also where memory runs out.
+/// The summary-LSAs that are due in an area, by its number and the border routers of the database:
+/// by router, and then by destination. The graphs of areas and the trees are kept, also where
+/// memory runs out.
 ///
 /// # Errors
 ///

@@ -1,12 +1,16 @@
 //! What a router has of routes inside the AS and of router entries.
 
-ghost use Rattle.std.specs.Prelude.{◌≡◌, IfOk};
+ghost use Rattle.std.specs.Prelude.{◌≡◌, ◌++◌, List, map, filter, IfOk, OnOk};
 ghost use Rattle.std.specs.Option.{option_copied};
+ghost use Rattle.lsa_codec.specs.Order.{prefix_cmp, router_cmp};
+ghost use Rattle.lsa_codec.specs.Prefix.{Net};
 ghost use Rattle.lsdb.specs.Slots.{lists_of};
-ghost use Rattle.best_ways.specs.Routes.{nets, route_to};
+ghost use Rattle.area_graph.specs.Rising.{rising};
+ghost use Rattle.best_ways.specs.Routes.{nets};
+ghost use Rattle.external_routes.specs.Choose.{is_asbr_kind};
 ghost use Rattle.routing_table.specs.AreasTrees.{AreOfDatabase};
-ghost use Rattle.summary_metrics.specs.Refreshed.{routes_inside, entries_inside};
 ghost use Rattle.due_summaries.specs.Destinations.{boundary_routers};
+ghost use Rattle.due_summaries.specs.steps.Ways.{nets_by, route_by, ways_from, ways_of};
 
 use area_routes::{AreaResult, EntryKind, InsideRoutes, RouterEntries, RouterEntry, inter, intra};
 use best_ways::Route;
@@ -16,14 +20,22 @@ use routing_table::KeptTrees;
 use spf::Meter;
 use std::alloc::{AllocError, Allocator};
 use std::collections::BTreeSet;
+use std::marker::Model;
 
 /// The intra-area and inter-area routes of a router's table, and its router entries (RFC 2328, 11).
-/// No prefix has a route of both kinds.
 #[derive(Drop)]
 pub(crate) struct RouterWays<A: Allocator> {
     intra: InsideRoutes<A>,
     inter: InsideRoutes<A>,
     entries: RouterEntries<A>,
+}
+
+impl<A: Allocator> Model for RouterWays<A> {
+    ghost use Rattle.due_summaries.specs.steps.Ways.{WaysValue};
+
+    ghost Value = { WaysValue };
+
+    ghost view = { λ w. record { intra = w.intra; inter = w.inter; entries = w.entries } };
 }
 
 /// The routes and router entries of a router, from what its areas give.
@@ -32,7 +44,9 @@ fn ways_from<A: Allocator + Copy>(
     database: &Database<A>,
     router: RouterId,
     results: &[AreaResult<A>],
-) -> Result<RouterWays<A>, AllocError> {
+) -> Result<RouterWays<A>, AllocError>
+    ensures { IfOk result (λ ways. ways ≡ ways_from (lists_of database.now) router results.now) }
+{
     let intra = intra(alloc, results)?;
     let inter = inter(alloc, database, router, results, &intra)?;
     Ok(RouterWays {
@@ -43,19 +57,35 @@ fn ways_from<A: Allocator + Copy>(
 }
 
 /// Whether an entry is that of an AS boundary router.
-fn is_of_asbr<A: Allocator + Copy>(entry: &RouterEntry<A>) -> bool {
+fn is_of_asbr<A: Allocator + Copy>(entry: &RouterEntry<A>) -> bool
+    ensures { result ≡ is_asbr_kind entry.now.kind }
+{
     entry.kind != EntryKind::Border
 }
 
-/// Adds the prefixes of some routes.
-fn add_nets<A: Allocator + Copy>(
-    nets: &mut BTreeSet<Prefix, A>,
-    routes: &InsideRoutes<A>,
-) -> Result<(), AllocError> {
-    for route in routes.as_routes().as_slice() {
-        nets.insert(route.net)?;
+/// Some prefixes in order, each once.
+fn in_order<A: Allocator + Copy>(alloc: A, nets: &[Prefix]) -> Result<Vec<Prefix, A>, AllocError>
+    ensures { IfOk result (λ sorted. sorted.items ≡ rising prefix_cmp nets.now) }
+{
+    let mut found = BTreeSet::new(alloc);
+    for net in nets {
+        found.insert(*net)?;
     }
-    Ok(())
+    found.into_iter().collect(alloc)
+}
+
+/// Some routers in order, each once.
+fn routers_in_order<A: Allocator + Copy>(
+    alloc: A,
+    routers: &[RouterId],
+) -> Result<Vec<RouterId, A>, AllocError>
+    ensures { IfOk result (λ sorted. sorted.items ≡ rising router_cmp routers.now) }
+{
+    let mut found = BTreeSet::new(alloc);
+    for router in routers {
+        found.insert(*router)?;
+    }
+    found.into_iter().collect(alloc)
 }
 
 impl<A: Allocator + Copy> RouterWays<A> {
@@ -67,6 +97,7 @@ impl<A: Allocator + Copy> RouterWays<A> {
         trees: &mut KeptTrees<A>,
     ) -> Result<RouterWays<A>, AllocError>
         requires { AreOfDatabase (lists_of database.now) trees.old }
+        ensures ways { IfOk result (λ ways. ways ≡ ways_of (lists_of database.now) router) }
         ensures trees { AreOfDatabase (lists_of database.now) trees.new }
     {
         let mut meter = Meter::new();
@@ -75,7 +106,9 @@ impl<A: Allocator + Copy> RouterWays<A> {
     }
 
     /// The route to a prefix, if there is one.
-    pub(crate) fn route_to(&self, net: Prefix) -> Option<&Route<A>> {
+    pub(crate) fn route_to(&self, net: Prefix) -> Option<&Route<A>>
+        ensures { option_copied result ≡ route_by self.now net }
+    {
         match self.intra.as_routes().route_to(net) {
             Some(route) => Some(route),
             None => self.inter.as_routes().route_to(net),
@@ -83,26 +116,49 @@ impl<A: Allocator + Copy> RouterWays<A> {
     }
 
     /// The router entries.
-    pub(crate) fn entries(&self) -> &[RouterEntry<A>] {
+    pub(crate) fn entries(&self) -> &[RouterEntry<A>]
+        ensures { result.now ≡ self.now.entries }
+    {
         self.entries.as_slice()
     }
 
+    /// The prefixes of all routes.
+    fn all_nets(&self, alloc: A) -> Result<Vec<Prefix, A>, AllocError>
+        ensures { IfOk result
+            (λ found. found.items ≡ nets self.now.intra ++ nets self.now.inter) }
+    {
+        let mut nets = self.intra.as_routes().nets(alloc)?;
+        let mut more = self.inter.as_routes().nets(alloc)?;
+        nets.append(&mut more)?;
+        Ok(nets)
+    }
+
     /// The prefixes of the routes, in order.
-    pub(crate) fn nets(&self, alloc: A) -> Result<Vec<Prefix, A>, AllocError> {
-        let mut nets = BTreeSet::new(alloc);
-        add_nets(&mut nets, &self.intra)?;
-        add_nets(&mut nets, &self.inter)?;
-        nets.into_iter().collect(alloc)
+    pub(crate) fn nets(&self, alloc: A) -> Result<Vec<Prefix, A>, AllocError>
+        ensures { IfOk result (λ found. found.items ≡ nets_by self.now) }
+    {
+        let nets = self.all_nets(alloc)?;
+        in_order(alloc, &nets)
+    }
+
+    /// The routers of the entries of AS boundary routers, one for each.
+    fn all_boundary_routers(&self, alloc: A) -> Result<Vec<RouterId, A>, AllocError>
+        ensures { IfOk result (λ found. found.items
+            ≡ map (λ e. e.router) (filter (λ e. is_asbr_kind e.kind) self.now.entries)) }
+    {
+        self.entries
+            .as_slice()
+            .iter()
+            .filter(|entry| is_of_asbr(entry))
+            .map(|entry| entry.router)
+            .collect(alloc)
     }
 
     /// The AS boundary routers that have an entry, in order.
-    pub(crate) fn boundary_routers(&self, alloc: A) -> Result<Vec<RouterId, A>, AllocError> {
-        let mut routers = BTreeSet::new(alloc);
-        for entry in self.entries.as_slice() {
-            if is_of_asbr(entry) {
-                routers.insert(entry.router)?;
-            }
-        }
-        routers.into_iter().collect(alloc)
+    pub(crate) fn boundary_routers(&self, alloc: A) -> Result<Vec<RouterId, A>, AllocError>
+        ensures { IfOk result (λ found. found.items ≡ boundary_routers self.now.entries) }
+    {
+        let routers = self.all_boundary_routers(alloc)?;
+        routers_in_order(alloc, &routers)
     }
 }

@@ -1,12 +1,11 @@
 -- The database whose border routers have originated what is due, relative to the loaded one (RFC 2328, 12.4.1 and 12.4.3).
-use Rattle.std.specs.Prelude.{ℕ, Bool, List, length, map, nat_lt, Option, None, Some, if◌then◌else◌}
+use Rattle.std.specs.Prelude.{ℕ, Bool, List, length, map, nat_lt, not, Option, None, Some, if◌then◌else◌}
 use Rattle.std.specs.List.{filter_map}
 use Rattle.lsa_codec.specs.Areas.{is_backbone}
 use Rattle.lsa_codec.specs.declared.address.AreaId.{AreaId}
 use Rattle.lsdb.specs.Lists.{AreaHead, Lists, SectionLsas, areas_of}
 use Rattle.area_routes.specs.Attached.{id_of}
 use Rattle.event_lsas.specs.Outcomes.{after, in_areas, lsa_after}
-use Rattle.summary_metrics.specs.Refreshed.{is_not_backbone}
 use Rattle.summary_settling.specs.BorderBits.{bit_b_settled}
 use Rattle.summary_settling.specs.Following.{followed}
 use Rattle.summary_settling.specs.Placing.{all_placed, missing}
@@ -34,6 +33,9 @@ module _ (loaded db : Lists) where
 -- the summaries of the chosen areas, all by the database before
 abbrev pub areas_settled : (AreaId → Bool) → Lists → Lists → Lists
 areas_settled chosen loaded db = map (settled_section loaded db chosen) db
+
+abbrev pub is_not_backbone : AreaId → Bool
+is_not_backbone area = not (is_backbone area)
 
 -- the summaries of the backbone, and then those of the other areas by the database with these
 abbrev pub summaries_settled : Lists → Lists → Lists

@@ -30,9 +30,13 @@ mod settling;
 mod slot_content;
 mod slots;
 
+// What holds of the definitions.
+mod laws;
+
 pub use announcement::Announcement;
 pub use changes::settling_changes;
 pub use fault::SettleFault;
+pub use laws::loaded_databases_stay;
 pub use loaded::LoadedSummaries;
 pub use settling::settled;
 pub use slot_content::SlotContent;
