@@ -1,0 +1,4 @@
+mod RisingLists
+mod Loops
+mod Borders
+mod DueOf

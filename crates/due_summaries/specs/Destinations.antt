@@ -3,7 +3,7 @@ use Rattle.std.specs.Prelude.{ℕ, Bool, false, ◌&&◌, List, map, ◌++◌, �
 use Rattle.lsa_codec.specs.LsTypes.{summary_lsa}
 use Rattle.lsa_codec.specs.declared.address.RouterId.{RouterId}
 use Rattle.lsa_codec.specs.Fields.{kind_of}
-use Rattle.lsa_codec.specs.Order.{router_cmp}
+use Rattle.lsa_codec.specs.Order.{prefix_cmp, router_cmp}
 use Rattle.lsa_codec.specs.Prefix.{Net}
 use Rattle.lsa_codec.specs.Views.{net_of_lsa}
 use Rattle.lsdb.specs.Lists.{Lists}
@@ -51,4 +51,4 @@ boundary_routers entries = rising router_cmp (map (λ e. e.router) (filter (λ e
 
 -- what a router has a route or an entry to: networks in order of prefix, then AS boundary routers
 abbrev pub destinations_inside : Lists → RouterId → List Destination
-destinations_inside db router = map Network (nets (routes_inside db router)) ++ map BoundaryRouter (boundary_routers (entries_inside db router))
+destinations_inside db router = map Network (rising prefix_cmp (nets (routes_inside db router))) ++ map BoundaryRouter (boundary_routers (entries_inside db router))

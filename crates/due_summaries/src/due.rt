@@ -1,10 +1,11 @@
 //! All summary-LSAs that are due in an area.
 
-ghost use Rattle.std.specs.Prelude.{◌≡◌, ◌++◌, IfOk, OnOk, option_to_list, length, Some};
-ghost use Rattle.lsdb.specs.Lists.{areas_of, id_and_kind};
+ghost use Rattle.std.specs.Prelude.{◌≡◌, ◌++◌, [], true, IfOk, OnOk};
+ghost use Rattle.std.specs.List.{cons_option};
 ghost use Rattle.lsdb.specs.Slots.{lists_of};
+ghost use Rattle.external_routes.specs.Summaries.{is_stub_area};
 ghost use Rattle.routing_table.specs.AreasTrees.{AreOfDatabase};
-ghost use Rattle.due_summaries.specs.BorderRouters.{border_routers};
+ghost use Rattle.due_summaries.specs.BorderRouters.{border_routers, is_border_router};
 ghost use Rattle.due_summaries.specs.DueSummaries.{due_into, due_of};
 ghost use Rattle.due_summaries.specs.steps.Ways.{boundary_router_due, boundary_routers_due, network_due, networks_due};
 
@@ -57,7 +58,7 @@ fn push_some<A: Allocator + Copy>(
     all: &mut Vec<DueSummary, A>,
     due: Option<DueSummary>,
 ) -> Result<(), AllocError>
-    ensures { OnOk result (all.new.items ≡ all.old.items ++ option_to_list due) }
+    ensures { OnOk result (all.new.items ≡ all.old.items ++ cons_option due []) }
 {
     if let Some(due) = due {
         all.push(due)?;
@@ -104,7 +105,7 @@ fn push_boundary_routers<A: Allocator + Copy>(
     Ok(())
 }
 
-/// Adds what a border router of an area is due to originate into it.
+/// Adds what a border router is due to originate into an area.
 fn push_of_router<A: Allocator + Copy>(
     alloc: A,
     due: &mut Vec<DueSummary, A>,
@@ -113,17 +114,24 @@ fn push_of_router<A: Allocator + Copy>(
     router: RouterId,
     trees: &mut KeptTrees<A>,
 ) -> Result<(), AllocError>
-    requires { AreOfDatabase (lists_of database.now) trees.old }
+    requires stub { area.1 ≡ is_stub_area (lists_of database.now) area.0 }
+    requires border { is_border_router (lists_of database.now) router ≡ true }
+    requires trees { AreOfDatabase (lists_of database.now) trees.old }
+    ensures due { OnOk result
+        (due.new.items ≡ due.old.items ++ due_of (lists_of database.now) area.0 router) }
     ensures trees { AreOfDatabase (lists_of database.now) trees.new }
 {
+    if !is_attached(database, area.0, router) {
+        return Ok(());
+    }
     let ways = RouterWays::of(alloc, database, router, trees)?;
     push_networks(alloc, due, area, router, &ways)?;
     push_boundary_routers(alloc, due, area, router, &ways)
 }
 
-/// The summary-LSAs that are due in an area, by its number and the border routers of the database:
-/// by router, and then by destination. The graphs of areas and the trees are kept, also where
-/// memory runs out.
+/// The summary-LSAs that are due in an area, by its ID and whether it is a stub area, and by the
+/// border routers of the database: by router, and then by destination. The graphs of areas and the
+/// trees are kept, also where memory runs out.
 ///
 /// # Errors
 ///
@@ -135,14 +143,16 @@ pub fn due_into<A: Allocator + Copy>(
     borders: &[RouterId],
     trees: &mut KeptTrees<A>,
 ) -> Result<Vec<DueSummary, A>, AllocError>
-    requires { AreOfDatabase (lists_of database.now) trees.old }
+    requires stub { area.1 ≡ is_stub_area (lists_of database.now) area.0 }
+    requires borders { borders.now ≡ border_routers (lists_of database.now) }
+    requires trees { AreOfDatabase (lists_of database.now) trees.old }
+    ensures due { IfOk result
+        (λ due. due.items ≡ due_into (lists_of database.now) area.0) }
     ensures trees { AreOfDatabase (lists_of database.now) trees.new }
 {
     let mut due = Vec::new(alloc);
     for router in borders {
-        if is_attached(database, area.0, *router) {
-            push_of_router(alloc, &mut due, database, area, *router, trees)?;
-        }
+        push_of_router(alloc, &mut due, database, area, *router, trees)?;
     }
     Ok(due)
 }

@@ -16,6 +16,7 @@ mod border_routers;
 // What they are due to originate.
 mod announced;
 mod due;
+mod lists;
 mod ways;
 
 pub use border_routers::border_routers;

@@ -1,17 +1,15 @@
 //! What a router has of routes inside the AS and of router entries.
 
-ghost use Rattle.std.specs.Prelude.{◌≡◌, ◌++◌, List, map, filter, IfOk, OnOk};
+ghost use Rattle.std.specs.Prelude.{◌≡◌, ◌++◌, map, filter, IfOk};
 ghost use Rattle.std.specs.Option.{option_copied};
-ghost use Rattle.lsa_codec.specs.Order.{prefix_cmp, router_cmp};
-ghost use Rattle.lsa_codec.specs.Prefix.{Net};
 ghost use Rattle.lsdb.specs.Slots.{lists_of};
-ghost use Rattle.area_graph.specs.Rising.{rising};
 ghost use Rattle.best_ways.specs.Routes.{nets};
 ghost use Rattle.external_routes.specs.Choose.{is_asbr_kind};
 ghost use Rattle.routing_table.specs.AreasTrees.{AreOfDatabase};
 ghost use Rattle.due_summaries.specs.Destinations.{boundary_routers};
 ghost use Rattle.due_summaries.specs.steps.Ways.{nets_by, route_by, ways_from, ways_of};
 
+use crate::lists::rising;
 use area_routes::{AreaResult, EntryKind, InsideRoutes, RouterEntries, RouterEntry, inter, intra};
 use best_ways::Route;
 use lsa_codec::{Prefix, RouterId};
@@ -19,7 +17,6 @@ use lsdb::Database;
 use routing_table::KeptTrees;
 use spf::Meter;
 use std::alloc::{AllocError, Allocator};
-use std::collections::BTreeSet;
 use std::marker::Model;
 
 /// The intra-area and inter-area routes of a router's table, and its router entries (RFC 2328, 11).
@@ -61,31 +58,6 @@ fn is_of_asbr<A: Allocator + Copy>(entry: &RouterEntry<A>) -> bool
     ensures { result ≡ is_asbr_kind entry.now.kind }
 {
     entry.kind != EntryKind::Border
-}
-
-/// Some prefixes in order, each once.
-fn in_order<A: Allocator + Copy>(alloc: A, nets: &[Prefix]) -> Result<Vec<Prefix, A>, AllocError>
-    ensures { IfOk result (λ sorted. sorted.items ≡ rising prefix_cmp nets.now) }
-{
-    let mut found = BTreeSet::new(alloc);
-    for net in nets {
-        found.insert(*net)?;
-    }
-    found.into_iter().collect(alloc)
-}
-
-/// Some routers in order, each once.
-fn routers_in_order<A: Allocator + Copy>(
-    alloc: A,
-    routers: &[RouterId],
-) -> Result<Vec<RouterId, A>, AllocError>
-    ensures { IfOk result (λ sorted. sorted.items ≡ rising router_cmp routers.now) }
-{
-    let mut found = BTreeSet::new(alloc);
-    for router in routers {
-        found.insert(*router)?;
-    }
-    found.into_iter().collect(alloc)
 }
 
 impl<A: Allocator + Copy> RouterWays<A> {
@@ -138,7 +110,7 @@ impl<A: Allocator + Copy> RouterWays<A> {
         ensures { IfOk result (λ found. found.items ≡ nets_by self.now) }
     {
         let nets = self.all_nets(alloc)?;
-        in_order(alloc, &nets)
+        rising(alloc, &nets)
     }
 
     /// The routers of the entries of AS boundary routers, one for each.
@@ -159,6 +131,6 @@ impl<A: Allocator + Copy> RouterWays<A> {
         ensures { IfOk result (λ found. found.items ≡ boundary_routers self.now.entries) }
     {
         let routers = self.all_boundary_routers(alloc)?;
-        routers_in_order(alloc, &routers)
+        rising(alloc, &routers)
     }
 }

@@ -78,18 +78,28 @@ impl<A: Allocator + Copy> LoadedSummaries<A> {
         Ok(())
     }
 
-    /// What the summaries of a database depend on in this one, the loaded one.
+    /// With nothing found yet. It takes no memory.
+    fn new(alloc: A) -> LoadedSummaries<A> {
+        LoadedSummaries {
+            held: BTreeSet::new(alloc),
+            left_out: BTreeSet::new(alloc),
+            borders: Vec::new(alloc),
+        }
+    }
+
+    /// What the summaries of a database depend on in this one, the loaded one. Nothing depends on a
+    /// database of one area, which is not looked at.
     ///
     /// # Errors
     ///
     /// Memory ran out.
     pub fn of(alloc: A, database: &Database<A>) -> Result<LoadedSummaries<A>, AllocError> {
+        let mut loaded = LoadedSummaries::new(alloc);
+        if database.area_count() < 2 {
+            return Ok(loaded);
+        }
         let mut trees = KeptTrees::new(alloc);
-        let mut loaded = LoadedSummaries {
-            held: BTreeSet::new(alloc),
-            left_out: BTreeSet::new(alloc),
-            borders: border_routers(alloc, database)?,
-        };
+        loaded.borders = border_routers(alloc, database)?;
         for i in 0..database.area_count() {
             let area = database.area(i);
             let due = due_into(alloc, database, area, &loaded.borders, &mut trees)?;
