@@ -1,28 +1,11 @@
--- How many areas a router is attached to, one area after another.
-use Rattle.std.proofs.Common.{◌≡◌, ◌∙◌, ℕ, ◌+◌, ◌≤◌, true, false, cond, List, [], ◌∷◌, ◌++◌, length, take, filter, Some, refl, sym, ap}
-use Rattle.std.specs.List.{slice_get}
-use Rattle.std.proofs.lemmas.List.{append-nil, length-append, take_all}
-use Rattle.lsa_codec.specs.declared.address.RouterId.{RouterId}
-use Rattle.lsdb.specs.Lists.{AreaHead, Lists, areas_of}
-use Rattle.area_routes.specs.Attached.{attached_areas}
-use Rattle.routing_table.proofs.TableLemmas.{among_more, attached_among, joins}
+-- Filtering a list, one item after another.
+use Rattle.std.proofs.Common.{◌≡◌, ◌∙◌, ◌<◌, Bool, true, false, cond, List, [], ◌∷◌, ◌++◌, filter, get_or, length, ℕ, refl, ap}
+use Rattle.std.proofs.lemmas.List.Elements.{All-get_or, filter-append, filter_passes}
+use Rattle.area_routes.proofs.AddsLemmas.{Adds}
 
-module _ (db : Lists) (router : RouterId) (i : ℕ) (head : AreaHead) (here : slice_get (areas_of db) i ≡ Some head) where
-  abbrev before : List AreaHead
-  before = attached_among db router (take i (areas_of db))
+pub filter_adds : {X : Type 0} (p : X → Bool) → Adds (filter p) (λ x. cond (p x) (x ∷ []) [])
+filter_adds p = record { none = refl; push = λ xs x. filter-append p xs (x ∷ []) }
 
-  -- an area that the router is attached to
-  pub more_areas : (n : ℕ) → n ≡ length before → joins db router head ≡ true → n + 1 ≡ length (attached_among db router (take (i + 1) (areas_of db)))
-  more_areas n is joined =
-      ap (λ k. k + 1) is ∙ sym (length-append before (head ∷ []))
-      ∙ ap (λ b. length (before ++ cond b (head ∷ []) [])) (sym joined) ∙ ap length (sym (among_more db router i head here))
-
-  -- an area that it is not attached to
-  pub same_areas : (n : ℕ) → n ≡ length before → joins db router head ≡ false → n ≡ length (attached_among db router (take (i + 1) (areas_of db)))
-  same_areas n is apart =
-      is ∙ ap length (sym (append-nil before) ∙ ap (λ b. before ++ cond b (head ∷ []) []) (sym apart) ∙ sym (among_more db router i head here))
-
--- all areas
-pub all_areas : (db : Lists) (router : RouterId) (i n : ℕ) → length (areas_of db) ≤ i
-    → n ≡ length (attached_among db router (take i (areas_of db))) → n ≡ length (attached_areas db router)
-all_areas db router i n past is = is ∙ ap (λ areas. length (attached_among db router areas)) (take_all i (areas_of db) past)
+-- what is filtered passes
+pub passes_at : {X : Type 0} (p : X → Bool) (xs : List X) (i : ℕ) (d : X) → i < length (filter p xs) → p (get_or (filter p xs) i d) ≡ true
+passes_at p xs i d lt = All-get_or (λ x. p x ≡ true) (filter p xs) i d lt (filter_passes p xs)

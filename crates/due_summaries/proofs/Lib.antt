@@ -1,4 +1,5 @@
 mod RisingLists
 mod Loops
+mod AttachedIds
 mod Borders
 mod DueOf

@@ -1,35 +1,59 @@
 //! The routers that are attached to several areas.
 
-ghost use Rattle.std.specs.Prelude.{◌≡◌, filter, IfOk, length};
-ghost use Rattle.area_routes.specs.Attached.{attached_areas};
+ghost use Rattle.std.specs.Prelude.{◌≡◌, ◌++◌, ◌∷◌, [], filter, if◌then◌else◌, IfOk, OnOk};
 ghost use Rattle.lsdb.specs.Slots.{lists_of};
-ghost use Rattle.due_summaries.specs.BorderRouters.{border_routers, is_border_router};
+ghost use Rattle.due_summaries.specs.BorderRouters.{attached_ids, border_routers, is_border_router};
 
 use area_routes::is_attached;
-use lsa_codec::RouterId;
+use lsa_codec::{AreaId, RouterId};
 use lsdb::Database;
 use routing_table::routers;
 use std::alloc::{AllocError, Allocator};
 
-/// How many areas a router is attached to.
-fn attached_count<A: Allocator + Copy>(database: &Database<A>, router: RouterId) -> usize
-    ensures { result ≡ length (attached_areas (lists_of database.now) router) }
+/// The areas that a router is attached to, in rising order of their IDs.
+fn attached_ids<A: Allocator + Copy>(
+    alloc: A,
+    database: &Database<A>,
+    router: RouterId,
+) -> Result<Vec<AreaId, A>, AllocError>
+    ensures { IfOk result (λ areas. areas.items ≡ attached_ids (lists_of database.now) router) }
 {
-    let mut count = 0;
+    let mut areas = Vec::new(alloc);
     for i in 0..database.area_count() {
         let (area, _is_stub) = database.area(i);
         if is_attached(database, area, router) {
-            count += 1;
+            areas.push(area)?;
         }
     }
-    count
+    Ok(areas)
 }
 
 /// Whether a router is attached to several areas.
-fn is_border_router<A: Allocator + Copy>(database: &Database<A>, router: RouterId) -> bool
-    ensures { result ≡ is_border_router (lists_of database.now) router }
+fn is_border_router<A: Allocator + Copy>(
+    alloc: A,
+    database: &Database<A>,
+    router: RouterId,
+) -> Result<bool, AllocError>
+    ensures { IfOk result (λ is. is ≡ is_border_router (lists_of database.now) router) }
 {
-    attached_count(database, router) > 1
+    let areas = attached_ids(alloc, database, router)?;
+    Ok(areas.len() > 1)
+}
+
+/// Adds a router, if it is attached to several areas.
+fn push_border<A: Allocator + Copy>(
+    alloc: A,
+    borders: &mut Vec<RouterId, A>,
+    database: &Database<A>,
+    router: RouterId,
+) -> Result<(), AllocError>
+    ensures { OnOk result (borders.new.items ≡ borders.old.items
+        ++ (if is_border_router (lists_of database.now) router then router ∷ [] else [])) }
+{
+    if is_border_router(alloc, database, router)? {
+        borders.push(router)?;
+    }
+    Ok(())
 }
 
 /// Those of some routers that are attached to several areas.
@@ -41,11 +65,11 @@ fn borders_among<A: Allocator + Copy>(
     ensures { IfOk result (λ found. found.items
         ≡ filter (is_border_router (lists_of database.now)) routers.now) }
 {
-    routers
-        .iter()
-        .copied()
-        .filter(|router| is_border_router(database, *router))
-        .collect(alloc)
+    let mut borders = Vec::new(alloc);
+    for router in routers {
+        push_border(alloc, &mut borders, database, *router)?;
+    }
+    Ok(borders)
 }
 
 /// The routers that are attached to several areas, as area border routers are (RFC 2328, 3.3), in

@@ -3,11 +3,10 @@ use Rattle.std.proofs.Common.{◌≡◌, ◌<◌, ℕ, Bool, true, false, not, c
 use Rattle.std.specs.Prelude.{◌&&◌, ◌||◌, All, AllPairs}
 use Rattle.std.specs.List.{cons_option, filter_map, find, list_any}
 use Rattle.std.specs.Option.{option_map, option_map_or}
-use Rattle.std.proofs.lemmas.Bool.{and_from, and_parts, cond-false, eq-eqb, eqb-true, false≢true, false_from_ne_true, ne_eqb}
+use Rattle.std.proofs.lemmas.Bool.{and_from, and_parts, cond-false, eq-eqb, false≢true, ne_eqb}
 use Rattle.std.proofs.lemmas.List.Elements.{All-cons, All-contains, All-head, All-nil, All-tail}
 use Rattle.lsa_codec.specs.declared.address.AreaId.{AreaId}
 use Rattle.lsa_codec.specs.declared.address.RouterId.{RouterId}
-use Rattle.lsa_codec.specs.declared.key.Key.{Key}
 use Rattle.lsa_codec.specs.Accepted.{IsAccepted}
 use Rattle.lsa_codec.specs.Fields.{advertising_router_of, kind_of, link_state_id_of}
 use Rattle.lsa_codec.specs.Key.{key_of, router_key}
@@ -15,7 +14,7 @@ use Rattle.lsa_codec.specs.Prefix.{Net}
 use Rattle.lsa_codec.specs.Views.{metric_of}
 use Rattle.lsdb.specs.declared.section.Section.TheVariants.{Area}
 use Rattle.lsdb.specs.Lists.{AreaHead, IsBefore, IsDatabase, Lists, SectionLsas, has_id, has_key, heads_of, is_section, lsas_of, lsas_or_none}
-use Rattle.lsdb.proofs.KeyLemmas.{same_key_from, same_key_true}
+use Rattle.lsdb.proofs.KeyLemmas.{same_key_true}
 use Rattle.lsdb.proofs.ListLemmas.{pairs_head, pairs_tail}
 use Rattle.area_graph.specs.Area.{is_live, is_router_lsa}
 use Rattle.area_graph.specs.Graphs.{AreOfArea}
@@ -25,7 +24,7 @@ use Rattle.area_routes.specs.Attached.{id_of}
 use Rattle.area_routes.specs.Inter.{is_summary, originator_of, same_router}
 use Rattle.external_routes.specs.Summaries.{is_calculated}
 use Rattle.routing_table.specs.Routers.{attached_routers}
-use Rattle.event_lsas.specs.Outcomes.{LsaChange, Outcome, after, becomes, in_areas, kept, lsa_after, replaced, section_after}
+use Rattle.event_lsas.specs.Outcomes.{LsaChange, after, in_areas, kept, lsa_after, replaced}
 use Rattle.due_summaries.specs.declared.destination.Destination.{Destination}
 use Rattle.due_summaries.specs.declared.destination.Destination.TheVariants.{Network, BoundaryRouter}
 use Rattle.due_summaries.specs.declared.due_summary.DueSummary.{DueSummary}
@@ -33,10 +32,10 @@ use Rattle.due_summaries.specs.BorderRouters.{is_border_router}
 use Rattle.due_summaries.specs.Destinations.{destination_of, destinations_inside, same_destination, summary_destination}
 use Rattle.due_summaries.specs.DueSummaries.{due_for, due_into, due_metric, due_of, metric_due}
 use Rattle.summary_settling.specs.BorderBits.{bit_b_due, bit_b_settled, has_bit_b, loaded_bit, same_bool, with_bit_b_turned}
-use Rattle.summary_settling.specs.Following.{followed, raised_metric, stays, with_due}
-use Rattle.summary_settling.specs.Loaded.{is_held, is_left_out, is_not_due}
+use Rattle.summary_settling.specs.Following.{followed, raised_metric, with_due, with_due_otherwise}
+use Rattle.summary_settling.specs.Loaded.{is_held, is_not_due}
 use Rattle.summary_settling.specs.Placing.{all_placed, is_missing, missing}
-use Rattle.summary_settling.specs.Settled.{areas_settled, bits_settled, has_several_areas, settled, settled_lsas, settled_section, summaries_settled}
+use Rattle.summary_settling.specs.Settled.{areas_settled, bits_settled, has_several_areas, settled, settled_area, settled_lsas, settled_section, summaries_settled}
 use Rattle.summary_settling.specs.Standing.{standing, stands_for}
 use Rattle.summary_settling.proofs.Members.{All-filter_map, All-flat_map, In-find, find-In, one_of_key}
 
@@ -60,58 +59,52 @@ module _ (db : Lists) (is : IsDatabase db) (area : AreaId) where
   sound = are_of_area area db is
 
   -- a router-LSA is found by the key of its router
-  found_itself : (lsa : List ℕ) → In lsas lsa → is_router_lsa lsa ≡ true → find (has_key (router_key (originator_of lsa))) lsas ≡ Some lsa
-  found_itself lsa there router = by (In-find keyed lsas lsa there own)
-    where
-      abbrev keyed : List ℕ → Bool
-      keyed = has_key (router_key (originator_of lsa))
+  module _ (lsa : List ℕ) (there : In lsas lsa) (router : is_router_lsa lsa ≡ true) where
+    abbrev keyed : List ℕ → Bool
+    keyed = has_key (router_key (originator_of lsa))
 
-      kind : kind_of lsa ≡ 1
-      kind = eqb-true (kind_of lsa) 1 router
+    origin_is : eqb (link_state_id_of lsa) (advertising_router_of lsa) ≡ true
+    origin_is =
+        subst (λ b. (not b || eqb (link_state_id_of lsa) (advertising_router_of lsa)) ≡ true) router
+        (All-contains IsAccepted lsas lsa sound.accepted (Contains-from_In lsas lsa there)).origin
 
-      origin : eqb (link_state_id_of lsa) (advertising_router_of lsa) ≡ true
-      origin =
-          subst (λ b. (not b || eqb (link_state_id_of lsa) (advertising_router_of lsa)) ≡ true) router
-          (All-contains IsAccepted lsas lsa sound.accepted (Contains-from_In lsas lsa there)).origin
+    own_key : keyed lsa ≡ true
+    own_key =
+        and_from (eqb (kind_of lsa) 1) (eqb (link_state_id_of lsa) (advertising_router_of lsa) && eqb (advertising_router_of lsa) (advertising_router_of lsa))
+        router
+        (and_from (eqb (link_state_id_of lsa) (advertising_router_of lsa)) (eqb (advertising_router_of lsa) (advertising_router_of lsa)) origin_is
+        (eq-eqb (advertising_router_of lsa) (advertising_router_of lsa) refl))
 
-      own : keyed lsa ≡ true
-      own =
-          and_from (eqb (kind_of lsa) 1) (eqb (link_state_id_of lsa) (advertising_router_of lsa) && eqb (advertising_router_of lsa) (advertising_router_of lsa))
-          router
-          (and_from (eqb (link_state_id_of lsa) (advertising_router_of lsa)) (eqb (advertising_router_of lsa) (advertising_router_of lsa)) origin
-          (eq-eqb (advertising_router_of lsa) (advertising_router_of lsa) refl))
-
-      by : ((found : List ℕ) × (find keyed lsas ≡ Some found)) → find keyed lsas ≡ Some lsa
-      by (found, first) =
-          let member = find-In keyed lsas found first in
-          let same : lsa ≡ found =
-          one_of_key lsas sound.distinct lsa found (Contains-from_In lsas lsa there) (Contains-from_In lsas found member.0)
-          (same_key_true (key_of lsa) (router_key (originator_of lsa)) own
-          ∙ sym (same_key_true (key_of found) (router_key (originator_of lsa)) member.1)) in
-          first ∙ ap Some (sym same)
+    found_itself : find keyed lsas ≡ Some lsa
+    found_itself = by (In-find keyed lsas lsa there own_key)
+      where
+        by : ((found : List ℕ) × (find keyed lsas ≡ Some found)) → find keyed lsas ≡ Some lsa
+        by (found, first) =
+            let member = find-In keyed lsas found first in
+            let same : lsa ≡ found =
+            one_of_key lsas sound.distinct lsa found (Contains-from_In lsas lsa there) (Contains-from_In lsas found member.0)
+            (same_key_true (key_of lsa) (router_key (originator_of lsa)) own_key
+            ∙ sym (same_key_true (key_of found) (router_key (originator_of lsa)) member.1)) in
+            first ∙ ap Some (sym same)
 
   -- bit B of a router-LSA is the one that it is due
+  own_bit : (lsa : List ℕ) → In lsas lsa → is_live lsa ≡ true → is_router_lsa lsa ≡ true → bit_b_due db db area lsa ≡ has_bit_b lsa
+  own_bit lsa there live router =
+      let border = is_border_router db (originator_of lsa) in
+      ap (λ b. cond b (loaded_bit (find (has_key (router_key (originator_of lsa))) lsas) border) border) (bool_same border)
+      ∙ ap (λ (o : Option (List ℕ)). loaded_bit o border) (found_itself lsa there router)
+      ∙ ap (λ b. cond b (has_bit_b lsa) border) live
+
   bit_kept : (lsa : List ℕ) → In lsas lsa → bit_b_settled db db area lsa ≡ kept
   bit_kept lsa there = by (is_live lsa) (is_router_lsa lsa) refl refl
     where
-      abbrev border : Bool
-      border = is_border_router db (originator_of lsa)
-
-      abbrev turned : LsaChange
-      turned = replaced lsa (Some (with_bit_b_turned lsa))
-
-      own_bit : is_live lsa ≡ true → is_router_lsa lsa ≡ true → bit_b_due db db area lsa ≡ has_bit_b lsa
-      own_bit live router =
-          ap (λ b. cond b (loaded_bit (find (has_key (router_key (originator_of lsa))) lsas) border) border) (bool_same border)
-          ∙ ap (λ (o : Option (List ℕ)). loaded_bit o border) (found_itself lsa there router)
-          ∙ ap (λ b. cond b (has_bit_b lsa) border) live
-
-      by : (b d : Bool) → is_live lsa ≡ b → is_router_lsa lsa ≡ d → cond (b && (d && not (same_bool (has_bit_b lsa) (bit_b_due db db area lsa)))) turned kept ≡ kept
+      by : (b d : Bool) → is_live lsa ≡ b → is_router_lsa lsa ≡ d
+          → cond (b && (d && not (same_bool (has_bit_b lsa) (bit_b_due db db area lsa)))) (replaced lsa (Some (with_bit_b_turned lsa))) kept ≡ kept
       by false d e f = refl
       by true false e f = refl
       by true true e f =
-          ap (λ b. cond (not (same_bool (has_bit_b lsa) b)) turned kept) (own_bit e f)
-          ∙ ap (λ b. cond (not b) turned kept) (bool_same (has_bit_b lsa))
+          ap (λ b. cond (not (same_bool (has_bit_b lsa) b)) (replaced lsa (Some (with_bit_b_turned lsa))) kept) (own_bit lsa there e f)
+          ∙ ap (λ b. cond (not b) (replaced lsa (Some (with_bit_b_turned lsa))) kept) (bool_same (has_bit_b lsa))
 
   -- a live summary stands for what it describes
   net_same : (net : Net) → (eqb net.addr.0 net.addr.0 && eqb net.len net.len) ≡ true
@@ -130,48 +123,48 @@ module _ (db : Lists) (is : IsDatabase db) (area : AreaId) where
       (ap (λ b. option_map_or (same_destination (summary_destination lsa)) (cond b (Some (summary_destination lsa)) None) false)
       (and_parts (is_summary lsa) _ calculated).0 ∙ destination_same (summary_destination lsa)))
 
+  abbrev due_for_lsa : List ℕ → ℕ
+  due_for_lsa lsa = metric_due db area (originator_of lsa) (summary_destination lsa)
+
   -- a summary that is not held has the metric that is due
   not_held : (lsa : List ℕ) → In lsas lsa → is_calculated db area lsa ≡ true → is_held db area (originator_of lsa) (summary_destination lsa) ≡ false
-      → eqb (metric_of lsa) (metric_due db area (originator_of lsa) (summary_destination lsa)) ≡ true
-  not_held lsa there calculated held = by (eqb (metric_of lsa) due) refl
+      → eqb (metric_of lsa) (due_for_lsa lsa) ≡ true
+  not_held lsa there calculated held = by (eqb (metric_of lsa) (due_for_lsa lsa)) refl
     where
-      abbrev due : ℕ
-      due = metric_due db area (originator_of lsa) (summary_destination lsa)
-
-      by : (b : Bool) → eqb (metric_of lsa) due ≡ b → b ≡ true
+      by : (b : Bool) → eqb (metric_of lsa) (due_for_lsa lsa) ≡ b → b ≡ true
       by true e = refl
       by false e =
           absurd (false≢true (sym held ∙ In-list_any (is_not_due db area (originator_of lsa) (summary_destination lsa)) lsas lsa there
-          (and_from (stands_for db area (originator_of lsa) (summary_destination lsa) lsa) (not (eqb (metric_of lsa) due))
+          (and_from (stands_for db area (originator_of lsa) (summary_destination lsa) lsa) (not (eqb (metric_of lsa) (due_for_lsa lsa)))
           (stands_itself lsa calculated) (ap not e))))
 
   summary_kept : (lsa : List ℕ) → In lsas lsa → followed db db area lsa ≡ kept
-  summary_kept lsa there = by (is_calculated db area lsa) (eqb (metric_of lsa) raised_metric) (is_held db area (originator_of lsa) (summary_destination lsa)) refl refl refl
+  summary_kept lsa there =
+      by (is_calculated db area lsa) (eqb (metric_of lsa) raised_metric) (is_held db area (originator_of lsa) (summary_destination lsa)) refl refl refl
     where
-      abbrev due : LsaChange
-      due = with_due (metric_due db area (originator_of lsa) (summary_destination lsa)) lsa
-
       by : (b d e : Bool) → is_calculated db area lsa ≡ b → eqb (metric_of lsa) raised_metric ≡ d
-          → is_held db area (originator_of lsa) (summary_destination lsa) ≡ e → cond (not b || (d || e)) kept due ≡ kept
+          → is_held db area (originator_of lsa) (summary_destination lsa) ≡ e → cond (not b || (d || e)) kept (with_due (due_for_lsa lsa) lsa) ≡ kept
       by false d e p q r = refl
       by true true e p q r = refl
       by true false true p q r = refl
-      by true false false p q r = ap (λ b. cond b kept _) (not_held lsa there p r)
+      by true false false p q r = ap (λ b. cond b kept (with_due_otherwise (due_for_lsa lsa) lsa)) (not_held lsa there p r)
 
   -- what is due either stands or is left out
-  due_is_due : All (λ d. is_some (due_metric db area d.router d.destination) ≡ true) (due_into db area)
-  due_is_due = All-flat_map Due (due_of db area) (λ router. All-filter_map Due (due_for db area router) (one router) (destinations_inside db router)) (attached_routers db)
-    where
-      abbrev Due : DueSummary → Type 0
-      Due d = is_some (due_metric db area d.router d.destination) ≡ true
+  abbrev Due : DueSummary → Type 0
+  Due d = is_some (due_metric db area d.router d.destination) ≡ true
 
-      one : (router : RouterId) (destination : Destination) → IfSome (due_for db area router destination) Due
-      one router destination = by (due_metric db area router destination) refl
-        where
-          by : (o : Option ℕ) → due_metric db area router destination ≡ o
-              → IfSome (option_map (λ (metric : ℕ). record { router = router; destination = destination; metric = metric }) o) Due
-          by None e = tt
-          by (Some metric) e = ap is_some e
+  one_due : (router : RouterId) (destination : Destination) → IfSome (due_for db area router destination) Due
+  one_due router destination = by (due_metric db area router destination) refl
+    where
+      by : (o : Option ℕ) → due_metric db area router destination ≡ o
+          → IfSome (option_map (λ (metric : ℕ). record { router = router; destination = destination; metric = metric }) o) Due
+      by None e = tt
+      by (Some metric) e = ap is_some e
+
+  due_is_due : All Due (due_into db area)
+  due_is_due =
+      All-flat_map Due (due_of db area) (λ router. All-filter_map Due (due_for db area router) (one_due router) (destinations_inside db router))
+      (attached_routers db)
 
   none_missing : missing db db area ≡ []
   none_missing = none (due_into db area) due_is_due
@@ -180,10 +173,9 @@ module _ (db : Lists) (is : IsDatabase db) (area : AreaId) where
       balanced true = refl
       balanced false = refl
 
-      none : (ds : List DueSummary) → All (λ d. is_some (due_metric db area d.router d.destination) ≡ true) ds → filter (is_missing db db area) ds ≡ []
+      none : (ds : List DueSummary) → All Due ds → filter (is_missing db db area) ds ≡ []
       none [] all = refl
       none (d ∷ ds) all =
-          let Due : DueSummary → Type 0 = λ d. is_some (due_metric db area d.router d.destination) ≡ true in
           let stood = is_some (standing db area d.router d.destination) in
           let here : is_missing db db area d ≡ false = ap (λ b. not stood && not (b && not stood)) (All-head Due d ds all) ∙ balanced stood in
           cond-false _ _ _ here ∙ none ds (All-tail Due d ds all)
@@ -198,9 +190,8 @@ module _ (db : Lists) (is : IsDatabase db) (area : AreaId) where
   bits_of_area : filter_map (λ lsa. lsa_after (bit_b_settled db db area lsa) lsa) lsas ≡ lsas
   bits_of_area = all_kept (bit_b_settled db db area) lsas bit_kept
 
-  summaries_of_area : (head : AreaHead) → id_of head ≡ area
-      → all_placed db head (filter_map (λ lsa. lsa_after (followed db db area lsa) lsa) lsas) (missing db db area) ≡ lsas
-  summaries_of_area head same =
+  summaries_of_area : (head : AreaHead) → all_placed db head (filter_map (λ lsa. lsa_after (followed db db area lsa) lsa) lsas) (missing db db area) ≡ lsas
+  summaries_of_area head =
       ap (λ (ds : List DueSummary). all_placed db head (filter_map (λ lsa. lsa_after (followed db db area lsa) lsa) lsas) ds) none_missing
       ∙ all_kept (followed db db area) lsas summary_kept
 
@@ -258,11 +249,8 @@ module _ (db : Lists) (is : IsDatabase db) where
   summaries_section chosen None lsas found = refl
   summaries_section chosen (Some head) lsas found = by (chosen (id_of head))
     where
-      abbrev made : List (List ℕ) → List (List ℕ)
-      made xs = all_placed db head (filter_map (λ lsa. lsa_after (followed db db (id_of head) lsa) lsa) xs) (missing db db (id_of head))
-
-      by : (b : Bool) → cond b (made lsas) lsas ≡ lsas
-      by true = subst (λ (xs : List (List ℕ)). made xs ≡ xs) found (summaries_of_area db is (id_of head) head refl)
+      by : (b : Bool) → cond b (settled_area db db head lsas) lsas ≡ lsas
+      by true = subst (λ (xs : List (List ℕ)). settled_area db db head xs ≡ xs) found (summaries_of_area db is (id_of head) head)
       by false = refl
 
   summaries_sections : (chosen : AreaId → Bool) (ss : Lists) → All (λ s. IsFound db s.area s.lsas) ss → map (settled_section db db chosen) ss ≡ ss

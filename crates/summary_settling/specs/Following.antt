@@ -11,11 +11,13 @@ use Rattle.due_summaries.specs.Destinations.{summary_destination}
 use Rattle.due_summaries.specs.DueSummaries.{metric_due}
 use Rattle.summary_settling.specs.Loaded.{is_held}
 
+-- a summary with another metric than this gets it, and is withdrawn where it is LSInfinity
+abbrev pub with_due_otherwise : ℕ → List ℕ → LsaChange
+with_due_otherwise metric lsa = if metric == ls_infinity then becomes None else becomes (Some (with_metric metric lsa))
+
 -- a summary gets the metric that is due, or is withdrawn where none is
 abbrev pub with_due : ℕ → List ℕ → LsaChange
-with_due metric lsa =
-    if metric_of lsa == metric then kept else
-    if metric == ls_infinity then becomes None else becomes (Some (with_metric metric lsa))
+with_due metric lsa = if metric_of lsa == metric then kept else with_due_otherwise metric lsa
 
 -- the metric that a drained border router gives to its summaries: LSInfinity less the greatest cost of a link
 abbrev pub raised_metric : ℕ

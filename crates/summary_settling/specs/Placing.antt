@@ -1,6 +1,6 @@
 -- Summary-LSAs that are due and do not stand, and their Link State IDs (RFC 2328, 12.4.3 and appendix E).
-use Rattle.std.specs.Prelude.{ℕ, ◌-◌, ◌+◌, ◌^◌, Bool, ◌&&◌, not, List, [], ◌∷◌, ◌++◌, filter, map, Option, None, Some, is_some, option_map, option_to_list, if◌then◌else◌}
-use Rattle.std.specs.List.{find, foldl, list_any}
+use Rattle.std.specs.Prelude.{ℕ, ◌-◌, ◌+◌, ◌^◌, Bool, ◌&&◌, not, List, [], ◌∷◌, ◌++◌, filter, map, Option, None, Some, is_some, option_map, option_to_list, if◌then◌else◌, fold}
+use Rattle.std.specs.List.{find, list_any}
 use Rattle.byteorder.specs.Endian.{big_bytes}
 use Rattle.lsa_codec.specs.declared.address.Addr.{Addr}
 use Rattle.lsa_codec.specs.declared.address.AreaId.{AreaId}
@@ -85,4 +85,4 @@ placed loaded head lsas due = with_last lsas (find (is_free lsas) (forms loaded 
 
 -- with all of these, one after another
 abbrev pub all_placed : Lists → AreaHead → List (List ℕ) → List DueSummary → List (List ℕ)
-all_placed loaded head lsas due = foldl (placed loaded head) lsas due
+all_placed loaded head lsas due = fold (placed loaded head) lsas due
