@@ -22,4 +22,4 @@ mod ways;
 pub use border_routers::border_routers;
 pub use destination::{Destination, destination_of};
 pub use due::due_into;
-pub use due_summary::{DueSummary, metric_due};
+pub use due_summary::DueSummary;

@@ -53,13 +53,13 @@ mask_for (Network net) = mask_of_len net.len
 mask_for (BoundaryRouter asbr) = 0
 
 -- bit E, except in a stub area (A.2)
-abbrev pub options_for : AreaHead → ℕ
-options_for head = if head.is_stub then 0 else 2
+abbrev pub options_for : Bool → ℕ
+options_for is_stub = if is_stub then 0 else 2
 
 -- a new summary-LSA of age 1 and with the first sequence number
-abbrev pub new_summary_lsa : AreaHead → DueSummary → ℕ → List ℕ
-new_summary_lsa head due id = with_checksum
-    (new_header (options_for head) (type_for due.destination) (record { 0 = id }) due.router 28
+abbrev pub new_summary_lsa : Bool → DueSummary → ℕ → List ℕ
+new_summary_lsa is_stub due id = with_checksum
+    (new_header (options_for is_stub) (type_for due.destination) (record { 0 = id }) due.router 28
     ++ big_bytes 4 (mask_for due.destination) ++ 0 ∷ big_bytes 3 due.metric)
 
 -- ---- LSAs that may be made
@@ -68,7 +68,7 @@ new_summary_lsa head due id = with_checksum
 abbrev pub forms : Lists → AreaHead → DueSummary → List (List ℕ)
 forms loaded head due =
     option_to_list (option_map (with_metric due.metric) (standing loaded (id_of head) due.router due.destination))
-    ++ map (new_summary_lsa head due) (link_state_ids due.destination)
+    ++ map (new_summary_lsa head.is_stub due) (link_state_ids due.destination)
 
 -- no live LSA has the key of another
 abbrev pub is_free : List (List ℕ) → List ℕ → Bool

@@ -1,5 +1,19 @@
 //! Bit B of router-LSAs.
 
+ghost use Rattle.std.specs.Prelude.{◌≡◌, Some, IfOk, if◌then◌else◌};
+ghost use Rattle.std.specs.List.{find};
+ghost use Rattle.lsa_codec.specs.Fields.{kind_of};
+ghost use Rattle.lsa_codec.specs.Key.{router_key};
+ghost use Rattle.lsa_codec.specs.LsTypes.{router_lsa};
+ghost use Rattle.lsdb.specs.declared.section.Section.TheVariants.{Area};
+ghost use Rattle.lsdb.specs.Lists.{has_key, lsas_of};
+ghost use Rattle.lsdb.specs.Slots.{lists_of};
+ghost use Rattle.event_lsas.specs.Outcomes.{replaced};
+ghost use Rattle.due_summaries.specs.BorderRouters.{is_border_router};
+ghost use Rattle.summary_settling.specs.BorderBits.{loaded_bit, same_bool, with_bit_b_turned};
+ghost use Rattle.summary_settling.specs.Loaded.{AreLoaded};
+ghost use Rattle.summary_settling.specs.steps.Slots.{becomes_or_kept};
+
 use crate::fault::SettleFault;
 use crate::loaded::LoadedSummaries;
 use crate::slots::put;
@@ -19,7 +33,12 @@ fn bit_due<A: Allocator + Copy>(
     area: AreaId,
     router: RouterId,
     is_border: bool,
-) -> bool {
+) -> bool
+    requires { AreLoaded (lists_of before.now) loaded.now }
+    ensures { result ≡ (if same_bool (is_border_router (lists_of before.now) router) is_border
+        then loaded_bit (find (has_key (router_key router))
+        (lsas_of (Area area) (lists_of before.now))) is_border else is_border) }
+{
     if loaded.is_border_router(router) != is_border {
         return is_border;
     }
@@ -33,7 +52,11 @@ fn bit_due<A: Allocator + Copy>(
 fn with_bit_turned<A: Allocator + Copy>(
     alloc: A,
     lsa: &Lsa<A>,
-) -> Result<Option<Lsa<A>>, AllocError> {
+) -> Result<Option<Lsa<A>>, AllocError>
+    requires { kind_of lsa.now ≡ router_lsa }
+    ensures { IfOk result (λ new. becomes_or_kept new
+        ≡ replaced lsa.now (Some (with_bit_b_turned lsa.now))) }
+{
     let mut bytes = Vec::from_slice(alloc, lsa.bytes())?;
     bytes[20] ^= BIT_B;
     set_checksum(&mut bytes);

@@ -1,5 +1,12 @@
 //! The slots that change where a database settles.
 
+ghost use Rattle.std.specs.Prelude.{◌≡◌, true, IfOk};
+ghost use Rattle.lsdb.specs.Lists.{heads_of};
+ghost use Rattle.lsdb.specs.Slots.{lists_of};
+ghost use Rattle.summary_settling.specs.Changes.{with_contents};
+ghost use Rattle.summary_settling.specs.Loaded.{AreLoaded};
+ghost use Rattle.summary_settling.specs.Settled.{has_several_areas, settled};
+
 use crate::fault::SettleFault;
 use crate::loaded::LoadedSummaries;
 use crate::settling::settled;
@@ -80,7 +87,13 @@ pub fn settling_changes<A: Allocator + Copy>(
     before: &Database<A>,
     loaded: &LoadedSummaries<A>,
     database: &Database<A>,
-) -> Result<Vec<SlotContent<A>, A>, SettleFault> {
+) -> Result<Vec<SlotContent<A>, A>, SettleFault>
+    requires loaded { has_several_areas (lists_of before.now) ≡ true
+        → AreLoaded (lists_of before.now) loaded.now }
+    requires areas { heads_of (lists_of before.now) ≡ heads_of (lists_of database.now) }
+    ensures { IfOk result (λ changes. lists_of (with_contents database.now changes.items)
+        ≡ settled (lists_of before.now) (lists_of database.now)) }
+{
     let mut changes = Vec::new(database.alloc());
     if database.area_count() < 2 {
         return Ok(changes);

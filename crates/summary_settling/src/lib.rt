@@ -14,6 +14,7 @@
 mod announcement;
 mod fault;
 mod loaded;
+mod metric_due;
 mod standing;
 
 // Bits B.

@@ -1,11 +1,16 @@
 //! New summary-LSAs of both types (RFC 2328, A.4.4).
 
+ghost use Rattle.std.specs.Prelude.{◌≡◌, IfOk};
+ghost use Rattle.summary_settling.specs.Placing.{last_address, mask_for, new_summary_lsa, type_for};
+
 use due_summaries::{Destination, DueSummary};
 use lsa_codec::{ASBR_SUMMARY_LSA, Addr, Lsa, LsaFault, Prefix, SUMMARY_LSA, set_checksum};
 use std::alloc::{AllocError, Allocator};
 
 /// The LS type of a summary for a destination.
-pub(crate) fn type_for(destination: Destination) -> u8 {
+pub(crate) fn type_for(destination: Destination) -> u8
+    ensures { result ≡ type_for destination }
+{
     match destination {
         Destination::Network(_) => SUMMARY_LSA,
         Destination::BoundaryRouter(_) => ASBR_SUMMARY_LSA,
@@ -13,7 +18,9 @@ pub(crate) fn type_for(destination: Destination) -> u8 {
 }
 
 /// The mask of a network, or 0.
-fn mask_for(destination: Destination) -> u32 {
+fn mask_for(destination: Destination) -> u32
+    ensures { result ≡ mask_for destination }
+{
     match destination {
         Destination::Network(net) => net.mask(),
         Destination::BoundaryRouter(_) => 0,
@@ -21,7 +28,9 @@ fn mask_for(destination: Destination) -> u32 {
 }
 
 /// The last address of a prefix: all its host bits are set.
-fn last_address(net: Prefix) -> Addr {
+fn last_address(net: Prefix) -> Addr
+    ensures { result.0 ≡ last_address net }
+{
     Addr(net.addr().0 | !net.mask())
 }
 
@@ -36,10 +45,13 @@ pub(crate) fn link_state_ids(destination: Destination) -> (Addr, Addr) {
 /// The bytes of a new summary-LSA, of age 1 and with the first sequence number.
 fn text<A: Allocator + Copy>(
     alloc: A,
-    options: u8,
+    is_stub: bool,
     due: DueSummary,
     id: Addr,
-) -> Result<Vec<u8, A>, AllocError> {
+) -> Result<Vec<u8, A>, AllocError>
+    ensures { IfOk result (λ v. v.items ≡ new_summary_lsa is_stub due id.0) }
+{
+    let options = if is_stub { 0 } else { 2 };
     let mut bytes = Vec::from_slice(alloc, &[0, 1, options, type_for(due.destination)])?;
     bytes.extend_from_slice(&id.0.to_be_bytes())?;
     bytes.extend_from_slice(&due.router.0.to_be_bytes())?;
@@ -60,9 +72,10 @@ pub(crate) fn new_summary<A: Allocator + Copy>(
     is_stub: bool,
     due: DueSummary,
     id: Addr,
-) -> Result<Lsa<A>, AllocError> {
-    let options = if is_stub { 0 } else { 2 };
-    let bytes = text(alloc, options, due, id)?;
+) -> Result<Lsa<A>, AllocError>
+    ensures { IfOk result (λ lsa. lsa ≡ new_summary_lsa is_stub due id.0) }
+{
+    let bytes = text(alloc, is_stub, due, id)?;
     match Lsa::decode(alloc, &bytes) {
         Ok((lsa, _)) => Ok(lsa),
         Err(LsaFault::OutOfMemory) => Err(AllocError),

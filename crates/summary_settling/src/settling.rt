@@ -1,7 +1,10 @@
 //! All that border routers originate after a network has changed.
 
-ghost use Rattle.std.specs.Prelude.{◌≡◌, IfOk};
+ghost use Rattle.std.specs.Prelude.{◌≡◌, true, IfOk};
+ghost use Rattle.lsdb.specs.Lists.{heads_of};
 ghost use Rattle.lsdb.specs.Slots.{lists_of};
+ghost use Rattle.summary_settling.specs.Loaded.{AreLoaded};
+ghost use Rattle.summary_settling.specs.Settled.{has_several_areas, settled};
 
 use crate::border_bits::settle_bits;
 use crate::fault::SettleFault;
@@ -107,7 +110,13 @@ pub fn settled<A: Allocator + Copy>(
     before: &Database<A>,
     loaded: &LoadedSummaries<A>,
     database: &Database<A>,
-) -> Result<Database<A>, SettleFault> {
+) -> Result<Database<A>, SettleFault>
+    requires loaded { has_several_areas (lists_of before.now) ≡ true
+        → AreLoaded (lists_of before.now) loaded.now }
+    requires areas { heads_of (lists_of before.now) ≡ heads_of (lists_of database.now) }
+    ensures { IfOk result
+        (λ new. lists_of new ≡ settled (lists_of before.now) (lists_of database.now)) }
+{
     let mut new = database.clone_of()?;
     if database.area_count() > 1 {
         settle(before, loaded, &mut new)?;

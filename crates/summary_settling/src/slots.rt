@@ -1,5 +1,11 @@
 //! LSAs of a database that give way to others, and LSAs that are added.
 
+ghost use Rattle.std.specs.Prelude.{◌≡◌, ◌&&◌, not, IsSome};
+ghost use Rattle.std.specs.List.{list_any};
+ghost use Rattle.lsdb.specs.Lists.{IsDatabase, has_key};
+ghost use Rattle.lsdb.specs.Slots.{item_at, lists_of, lsas_in, put, slot_at};
+ghost use Rattle.area_graph.specs.Area.{is_live};
+
 use crate::fault::SettleFault;
 use lsa_codec::{Key, Lsa};
 use lsdb::{Database, LONGEST_DUMP, MOST_LSAS_OF_AREA, SlotId};
@@ -10,7 +16,11 @@ pub(crate) fn put<A: Allocator + Copy>(
     database: &mut Database<A>,
     slot: SlotId,
     lsa: Option<Lsa<A>>,
-) {
+)
+    requires exists { IsSome (slot_at database.old slot) }
+    requires sound { IsDatabase (lists_of (put database.old slot lsa)) }
+    ensures { database.new ≡ put database.old slot lsa }
+{
     let mut content = lsa;
     database.swap(slot, &mut content);
 }
@@ -26,7 +36,11 @@ pub(crate) fn is_free<A: Allocator + Copy>(
     database: &Database<A>,
     number: usize,
     key: Key,
-) -> bool {
+) -> bool
+    requires { IsSome (item_at (lists_of database.now) number) }
+    ensures { result
+        ≡ not (list_any (λ lsa. is_live lsa && has_key key lsa) (lsas_in database.now number)) }
+{
     let Some(slot) = database.find_in(number, key) else {
         return true;
     };

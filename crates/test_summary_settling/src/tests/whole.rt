@@ -9,6 +9,11 @@ router 1.1.1.1 flags=1: point-to-point 2.2.2.2 data=10.0.12.1 cost=10
 router 2.2.2.2: point-to-point 1.1.1.1 data=10.0.12.2 cost=10, stub 10.2.0.0/16 cost=1
 summary 10.9.0.0/16 by=1.1.1.1 cost=5";
 
+/// The same area with other costs, and without the summary.
+const LOADED: &str = "area 0.0.0.0
+router 1.1.1.1 flags=1: point-to-point 2.2.2.2 data=10.0.12.1 cost=7
+router 2.2.2.2: point-to-point 1.1.1.1 data=10.0.12.2 cost=7, stub 10.2.0.0/16 cost=1";
+
 /// Router 1.1.1.1 borders two areas, and there is no backbone.
 const NO_BACKBONE: &str = "area 0.0.0.1
 router 1.1.1.1 flags=1: point-to-point 2.2.2.2 data=10.0.12.1 cost=10
@@ -24,7 +29,7 @@ summary 10.2.0.0/16 by=1.1.1.1 cost=11";
 fn one_area_stays(rt: HostRuntime) -> Result<(), Fail> {
     let alloc = rt.alloc();
     let one = database(alloc, ONE_AREA, false)?;
-    let other = database(alloc, NO_BACKBONE, false)?;
+    let other = database(alloc, LOADED, false)?;
     assert!(rt; settle(alloc, &other, &one)?.dump()? == one.dump()?);
     Ok(())
 }
