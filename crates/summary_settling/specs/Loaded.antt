@@ -36,7 +36,7 @@ same_announcement a b = (a.area.0 == b.area.0) && (same_router a.router b.router
 
 -- it is among some
 abbrev pub is_among : List Announcement → Announcement → Bool
-is_among as a = list_any (same_announcement a) as
+is_among announced a = list_any (same_announcement a) announced
 
 -- what is held, what is left out, and the routers that are attached to several areas
 pub record LoadedValue : Type 0 where

@@ -76,8 +76,8 @@ fn push_changes<A: Allocator + Copy>(
     Ok(())
 }
 
-/// The slots whose contents differ where a database settles, area by area, each with the LSA that it
-/// gets: the database with them is the settled one. A database of one area has none, and is not
+/// The slots whose contents differ where a database settles, area by area, each with the LSA that
+/// it gets: the database with them is the settled one. A database of one area has none, and is not
 /// looked at.
 ///
 /// # Errors

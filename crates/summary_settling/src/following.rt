@@ -27,8 +27,8 @@ use std::alloc::Allocator;
 /// cost of a link.
 const RAISED_METRIC: u32 = 16_711_680;
 
-/// The metric that is due for an LSA of an area, where it is a live summary that is neither held nor
-/// raised since.
+/// The metric that is due for an LSA of an area, where it is a live summary that is neither held
+/// nor raised since.
 fn due_for<A: Allocator + Copy>(
     loaded: &LoadedSummaries<A>,
     database: &Database<A>,

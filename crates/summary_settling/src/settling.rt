@@ -100,8 +100,8 @@ fn settle<A: Allocator + Copy>(
 
 /// The database whose border routers have originated what they are due (RFC 2328, 12.4.1 and
 /// 12.4.3), relative to the loaded database `before`, with what summaries depend on there. It has
-/// the LSAs of this one at their slots, but for bits B and summary-LSAs; new ones stand at new slots
-/// at the ends of their areas. A database of one area is copied as it is.
+/// the LSAs of this one at their slots, but for bits B and summary-LSAs; new ones stand at new
+/// slots at the ends of their areas. A database of one area is copied as it is.
 ///
 /// # Errors
 ///

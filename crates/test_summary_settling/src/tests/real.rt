@@ -173,8 +173,8 @@ summary 10.10.2.1/32 by=3.3.3.3 cost=15
 summary 10.10.3.1/32 by=2.2.2.2 cost=15
 summary 10.10.3.1/32 by=3.3.3.3 cost=5";
 
-/// 2.2.2.2 loses its only link of area 0.0.0.1: it is no border router any more. The real one left its
-/// old summaries where they were, which nobody uses without bit B.
+/// 2.2.2.2 loses its only link of area 0.0.0.1: it is no border router any more. The real one left
+/// its old summaries where they were, which nobody uses without bit B.
 #[test]
 fn border_routers_of_one_area_left_announce_nothing(rt: HostRuntime) -> Result<(), Fail> {
     let wanted = Wanted {
