@@ -1,11 +1,12 @@
 //! All summary-LSAs that are due in an area.
 
 ghost use Rattle.std.specs.Prelude.{◌≡◌, ◌++◌, [], true, IfOk, OnOk};
-ghost use Rattle.std.specs.List.{cons_option};
+ghost use Rattle.std.specs.List.{cons_option, filter_map};
 ghost use Rattle.lsdb.specs.Slots.{lists_of};
 ghost use Rattle.external_routes.specs.Summaries.{is_stub_area};
 ghost use Rattle.routing_table.specs.AreasTrees.{AreOfDatabase};
 ghost use Rattle.due_summaries.specs.BorderRouters.{border_routers, is_border_router};
+ghost use Rattle.due_summaries.specs.Destinations.{boundary_routers};
 ghost use Rattle.due_summaries.specs.DueSummaries.{due_into, due_of};
 ghost use Rattle.due_summaries.specs.steps.Ways.{boundary_router_due, boundary_routers_due, network_due, networks_due};
 
@@ -84,6 +85,24 @@ fn push_networks<A: Allocator + Copy>(
     Ok(())
 }
 
+/// Adds those of AS boundary routers; the area is no stub area.
+fn push_all_boundary_routers<A: Allocator + Copy>(
+    alloc: A,
+    due: &mut Vec<DueSummary, A>,
+    area: (AreaId, bool),
+    router: RouterId,
+    ways: &RouterWays<A>,
+) -> Result<(), AllocError>
+    ensures { OnOk result (due.new.items ≡ due.old.items ++ filter_map
+        (boundary_router_due area.0 area.1 ways.now router) (boundary_routers ways.now.entries)) }
+{
+    let asbrs = ways.boundary_routers(alloc)?;
+    for asbr in &asbrs {
+        push_some(due, boundary_router_due(area, router, ways, *asbr))?;
+    }
+    Ok(())
+}
+
 /// Adds those of AS boundary routers, of which none is due in a stub area.
 fn push_boundary_routers<A: Allocator + Copy>(
     alloc: A,
@@ -95,14 +114,11 @@ fn push_boundary_routers<A: Allocator + Copy>(
     ensures { OnOk result
         (due.new.items ≡ due.old.items ++ boundary_routers_due area.0 area.1 ways.now router) }
 {
-    if area.1 {
+    let (_id, is_stub) = area;
+    if is_stub {
         return Ok(());
     }
-    let asbrs = ways.boundary_routers(alloc)?;
-    for asbr in &asbrs {
-        push_some(due, boundary_router_due(area, router, ways, *asbr))?;
-    }
-    Ok(())
+    push_all_boundary_routers(alloc, due, area, router, ways)
 }
 
 /// Adds what a border router is due to originate into an area.

@@ -1,7 +1,7 @@
 use Rattle.std.proofs.Common.{◌≡◌, ◌++◌, take}
 use Rattle.std.specs.List.{filter_map}
 use Rattle.due_summaries.specs.steps.Ways.{boundary_router_due}
-use Rattle.due_summaries.proofs.due.push_boundary_routers.Given as goal
+use Rattle.due_summaries.proofs.due.push_all_boundary_routers.Given as goal
 
 -- the summaries so far were added
 abbrev pub invariant-loop-asbr : goal.invariant-loop-asbr
