@@ -1,7 +1,9 @@
 -- Events: the fates are safe, the swaps of the slots that change carry them out, and a refusal of the links is one of the event.
-use Rattle.std.proofs.Common.{◌≡◌, ℕ, suc, List, [], ◌∷◌, ◌++◌, map, Option, Some, None, Result, Ok, Err, refl, sym, ap, ◌∙◌}
+use Rattle.std.proofs.Common.{◌≡◌, ◌≢◌, ℕ, suc, List, [], ◌∷◌, ◌++◌, map, Option, Some, None, Result, Ok, Err, refl, sym, ap, ◌∙◌, subst}
+use Rattle.std.specs.Prelude.{All, IfOk, IfErr}
 use Rattle.std.specs.List.{cons_option}
 use Rattle.std.proofs.lemmas.List.{map-append}
+use Rattle.std.proofs.lemmas.List.Elements.{All-nil}
 use Rattle.lsa_codec.specs.Fields.{kind_of}
 use Rattle.lsdb.specs.declared.section.Section.{Section}
 use Rattle.lsdb.specs.Lists.{AreaHead, Lists, IsDatabase}
@@ -18,15 +20,20 @@ use Rattle.event_lsas.specs.LinkEvents.{AreChanges, IsRefusal, carried, link_eve
 use Rattle.event_lsas.specs.Outcomes.{LsaChange, kept, becomes, Outcome, SlotChangeData, section_name as name_of_section}
 use Rattle.event_lsas.specs.SlotChanges.{slot_change, slot_of, section_changes, changes_from}
 use Rattle.event_lsas.proofs.ReplacementLemmas.{outcome_safe}
-use Rattle.edit_history.specs.Rules.{Fates, by_fates, section_name}
-use Rattle.edit_history.specs.Effect.{rule_of}
+use Rattle.edit_history.specs.declared.fault.EditFault.{EditFault}
+use Rattle.edit_history.specs.declared.fault.EditFault.TheVariants.{OutOfMemory as NoMemory}
+use Rattle.edit_history.specs.Rules.{Fates, NewLsa, section_name}
+use Rattle.edit_history.specs.Effect.{HasPlace, room_for_all, rule_of, with_room}
 use Rattle.edit_history.specs.Events.{fate_of_change, link_event_of, link_fates, refusal_of, rule_by}
 use Rattle.edit_history.specs.Exchange.{SwapData}
-use Rattle.edit_history.specs.Applied.{Planned, IsRefused}
-use Rattle.edit_history.specs.steps.Plans.{swap_for, section_swaps, swaps_from}
+use Rattle.edit_history.specs.Applied.{IsRefused}
+use Rattle.edit_history.specs.steps.Plans.{IsPlan, swap_for, section_swaps, swaps_from}
+use Rattle.edit_history.specs.steps.Coming.{Comes}
 use Rattle.edit_history.specs.steps.Happening.{swap_by, fault_by}
-use Rattle.edit_history.proofs.FatesBySlot.{IsSafeFate, IsSafe, fates_carried_out}
-use Rattle.edit_history.proofs.RulesCarriedOut.{planned_here, event_refused_as, no_memory_for_event}
+use Rattle.edit_history.proofs.FatesBySlot.{IsSafeFate, IsSafe}
+use Rattle.edit_history.proofs.NewsCarried.{with_news}
+use Rattle.edit_history.proofs.ComingPlans.{coming_plan}
+use Rattle.edit_history.proofs.RulesCarriedOut.{event_refused_as, no_memory_for_event}
 
 -- ---- the swaps of the slots that change
 
@@ -85,14 +92,22 @@ event_ruled : (db : Lists) (event : Event) (happens : LinkEvent) (r : Result Lin
 unfolding rule_of
 event_ruled db event happens r is found = ap (λ (e : LinkEvent). rule_by db (resolved db e)) (sym is) ∙ ap (rule_by db) found
 
-pub event_planned : (d : Slots) (event : Event) (happens : LinkEvent) (changes : List SlotChangeData) (items : List SwapData) → IsDatabase (lists_of d)
-    → happens ≡ link_event_of (lists_of d) event → AreChanges d happens changes → items ≡ map swap_by changes → Planned d d (of_event event) items
-event_planned d event happens changes items sound is are made =
+pub no_places : (db : Lists) (news : List NewLsa) → news ≡ [] → All (HasPlace db) news
+no_places db news none = subst (All (HasPlace db)) (sym none) (All-nil (HasPlace db))
+
+-- the slots that an event changes, and no new LSAs
+pub event_planned : {V : Type 0} (d e : Slots) (event : Event) (happens : LinkEvent) (changes : List SlotChangeData) (news : List NewLsa)
+    (swaps_of : V → List SwapData) (r : Result V EditFault) → IsDatabase (lists_of d) → happens ≡ link_event_of (lists_of d) event
+    → AreChanges d happens changes → news ≡ [] → IfOk r (λ v. Comes d e (map swap_by changes) news (swaps_of v))
+    → IfErr r (λ fault. fault ≢ NoMemory → room_for_all (lists_of d) news ≡ Err fault) → IsPlan d e (of_event event) swaps_of r
+event_planned d e event happens changes news swaps_of r sound is are none comes refused =
     let fates : Fates = link_fates (lists_of d) are.edit in
-    planned_here d (of_event event) (by_fates fates) (swaps_from fates 0 d) items
-    (event_ruled (lists_of d) event happens (Ok are.edit) is are.links)
-    (fates_carried_out fates d (links_safe (lists_of d) are.edit) sound)
-    (made ∙ ap (map swap_by) are.slots ∙ all_swapped (outcome_of (lists_of d) are.edit) 0 d)
+    coming_plan d event fates news
+    (event_ruled (lists_of d) event happens (Ok are.edit) is are.links
+    ∙ ap (λ (ns : List NewLsa). with_room (lists_of d) (with_news fates ns)) (sym none))
+    e (map swap_by changes) swaps_of r sound (links_safe (lists_of d) are.edit)
+    (ap (map swap_by) are.slots ∙ all_swapped (outcome_of (lists_of d) are.edit) 0 d)
+    (no_places (lists_of d) news none) comes refused
 
 -- ---- refusals
 

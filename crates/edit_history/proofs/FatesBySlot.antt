@@ -13,8 +13,8 @@ use Rattle.lsdb.specs.Slots.{Slot, Slots, SectionSlots, item_at, slot_at, put, p
 use Rattle.lsdb.specs.steps.OneSlot.{IsPutSafe}
 use Rattle.lsdb.proofs.ListLemmas.{all_at_mid}
 use Rattle.lsdb.proofs.SlotLemmas.{put_safe, section_with, full-cons, between}
-use Rattle.edit_history.specs.Rules.{Fate, stays, removed, rewritten, Fates, by_fates, Change, outcome, change_of, section_name, lists_after}
-use Rattle.edit_history.specs.Rules.{section_after, changes_by}
+use Rattle.edit_history.specs.Rules.{Fate, stays, removed, rewritten, Fates, by_fates, Change, outcome, change_of, section_name, fated_section, fated}
+use Rattle.edit_history.specs.Rules.{fated_changes}
 use Rattle.edit_history.specs.Exchange.{SwapData, CanDo, done_slots, done_swaps, taken}
 use Rattle.edit_history.specs.steps.Plans.{slot_of, swap_for, section_swaps, swaps_from}
 use Rattle.edit_history.specs.Applied.{swap_change}
@@ -105,12 +105,12 @@ pub walk_slot : (fates : Fates) (low high : Slots) (area : Option AreaHead) (pre
     → Leads (low ++ section_slots area (pre ++ v ∷ post) ∷ high)
     (low ++ section_slots area (pre ++ v ∷ map (slot_after fates area) post) ∷ slots_after fates high)
     (section_swaps (fates area) section (section_name area) (suc i) post ++ swaps_from fates (suc section) high)
-    (changed_in fates area post ++ changes_by (by_fates fates) (lists_of high)))
+    (changed_in fates area post ++ fated_changes fates (lists_of high)))
     → Leads (low ++ section_slots area (pre ++ Some x ∷ post) ∷ high)
     (low ++ section_slots area (pre ++ outcome f x ∷ map (slot_after fates area) post) ∷ slots_after fates high)
     (cons_option (swap_for (slot_of section i) (section_name area) x f)
     (section_swaps (fates area) section (section_name area) (suc i) post) ++ swaps_from fates (suc section) high)
-    (cons_option (change_of (section_name area) x f) (changed_in fates area post) ++ changes_by (by_fates fates) (lists_of high))
+    (cons_option (change_of (section_name area) x f) (changed_in fates area post) ++ fated_changes fates (lists_of high))
 walk_slot fates low high area pre post x stays section i safe fits e g sound rest = rest (Some x) sound
 walk_slot fates low high area pre post x removed section i safe fits e g sound rest =
     let here = slot_mid low high area pre post (Some x) None section i e g in
@@ -163,7 +163,7 @@ pub walk : (fates : Fates) (low high : Slots) (area : Option AreaHead) (pre post
     → Leads (low ++ section_slots area (pre ++ post) ∷ high)
     (low ++ section_slots area (pre ++ map (slot_after fates area) post) ∷ slots_after fates high)
     (section_swaps (fates area) section (section_name area) i post ++ swaps_from fates (suc section) high)
-    (changed_in fates area post ++ changes_by (by_fates fates) (lists_of high))
+    (changed_in fates area post ++ fated_changes fates (lists_of high))
 walk fates low [] area pre [] section i safe e g sound = record { can = tt; leads = refl; reports = refl }
 walk fates low (s ∷ high) area pre [] section i safe e g sound =
     passed low high (slots_after fates high) (section_slots area (pre ++ [])) s
@@ -183,7 +183,7 @@ walk fates low high area pre (Some x ∷ post) section i safe e g sound =
 
 -- all fates, carried out at all slots
 pub walked : (fates : Fates) (d : Slots) → IsSafe fates → IsDatabase (lists_of d)
-    → Leads d (slots_after fates d) (swaps_from fates 0 d) (changes_by (by_fates fates) (lists_of d))
+    → Leads d (slots_after fates d) (swaps_from fates 0 d) (fated_changes fates (lists_of d))
 walked fates [] safe sound = record { can = tt; leads = refl; reports = refl }
 walked fates (s ∷ ss) safe sound = walk fates [] ss s.area [] s.slots 0 0 safe refl refl sound
 
@@ -195,11 +195,11 @@ full-after fates area (Some x ∷ ps) =
     full-cons (outcome (fates area x) x) (map (slot_after fates area) ps) ∙ ap (cons_option (outcome (fates area x) x)) (full-after fates area ps)
 
 -- the slots hold what the fates leave of the lists
-pub lists-after : (fates : Fates) (d : Slots) → lists_of (slots_after fates d) ≡ lists_after (by_fates fates) (lists_of d)
+pub lists-after : (fates : Fates) (d : Slots) → lists_of (slots_after fates d) ≡ fated fates (lists_of d)
 lists-after fates [] = refl
 lists-after fates (s ∷ ss) =
     ap (λ (xs : List (List ℕ)). section_with s.area xs ∷ lists_of (slots_after fates ss)) (full-after fates s.area s.slots)
-    ∙ ap (λ (ts : Lists). section_after (by_fates fates) (section_of s) ∷ ts) (lists-after fates ss)
+    ∙ ap (λ (ts : Lists). fated_section fates (section_of s) ∷ ts) (lists-after fates ss)
 
 -- the swaps of all slots do what the fates require
 pub fates_carried_out : (fates : Fates) (d : Slots) → IsSafe fates → IsDatabase (lists_of d) → CarriesOutRule d (by_fates fates) (swaps_from fates 0 d)

@@ -22,6 +22,13 @@ pub mod RouterSwaps
 pub mod NetworkSwaps
 pub mod FailureRules
 pub mod RoomForLsas
+pub mod NewLsas
+pub mod Ends
+pub mod NewsCarried
+pub mod NoMore
+pub mod RoomForAll
+pub mod OpenedSlots
+pub mod ComingPlans
 pub mod Additions
 pub mod AdditionRules
 pub mod OneLsa

@@ -1,5 +1,6 @@
 -- The effect of an edit on a database: the first refusal, or the rule that it follows.
-use Rattle.std.specs.Prelude.{ℕ, ◌+◌, ◌==◌, ◌&&◌, ◌||◌, nat_le, nat_lt, Bool, true, false, List, length, filter, Option, Some, None, Result, Ok, Err, if◌then◌else◌}
+use Rattle.std.specs.Prelude.{◌≡◌, ℕ, ◌+◌, ◌==◌, ◌&&◌, ◌||◌, not, nat_le, nat_lt, Bool, true, false, List, [], ◌∷◌, length, filter, Option, Some, None, IsSome, Result, Ok, Err}
+use Rattle.std.specs.Prelude.{if◌then◌else◌}
 use Rattle.std.specs.List.{list_any, find}
 use Rattle.lsa_codec.specs.LsTypes.{router_lsa, network_lsa}
 use Rattle.lsa_codec.specs.declared.address.Addr.{Addr}
@@ -16,7 +17,7 @@ use Rattle.lsa_codec.specs.Originating.{with_metric, new_summary, new_external}
 use Rattle.lsdb.specs.declared.section.Section.{Section}
 use Rattle.lsdb.specs.declared.section.Section.TheVariants.{Area, AsWide}
 use Rattle.lsdb.specs.Limits.{longest_dump, most_lsas_of_area, most_lsas_of_as}
-use Rattle.lsdb.specs.Lists.{AreaHead, SectionLsas, Lists, is_section, has_key, is_network, lsas_of, size}
+use Rattle.lsdb.specs.Lists.{AreaHead, SectionLsas, Lists, is_section, has_as_scope, has_key, is_network, lsas_of, size}
 use Rattle.lsdb.specs.PrefixSlots.{prefix_of}
 use Rattle.edit_script.specs.declared.edit.Edit.{Edit}
 use Rattle.edit_script.specs.declared.edit.Edit.TheVariants.{Cost, DropLink, FailLink, FailNet, FailRouter, AddStub, Summary, AddSummary, AddExternal, DropExternal, Refresh, Event as of_event}
@@ -27,7 +28,7 @@ use Rattle.edit_history.specs.declared.fault.EditFault.TheVariants.{NoArea, NoRo
 use Rattle.edit_history.specs.Fault.{fault_of}
 use Rattle.edit_history.specs.Events.{event_rule}
 use Rattle.edit_history.specs.Refreshing.{refresh_fates}
-use Rattle.edit_history.specs.Rules.{Fate, stays, removed, rewritten, Rule, by_fates, within, one_lsa, adding, lists_after, Change, changes_by}
+use Rattle.edit_history.specs.Rules.{Fate, stays, removed, rewritten, Rule, NewLsa, by_fates, within, one_lsa, adding, with_new, lists_after, Change, changes_by}
 
 -- ---- refusals
 
@@ -158,6 +159,29 @@ abbrev pub added : Lists → Section → List ℕ → Result Rule EditFault
 added db name new = do
   room ← room_for db name (key_of new) (length new)
   Ok (adding name new)
+
+-- whether there is room for new LSAs, one after another, or the first refusal
+abbrev pub room_for_all : Lists → List NewLsa → Result (Unit {0}) EditFault
+room_for_all db [] = has_room
+room_for_all db (new ∷ news) = do
+  room ← room_for db new.section (key_of new.lsa) (length new.lsa)
+  room_for_all (with_new new db) news
+
+-- a rule, or the first refusal of its new LSAs by the database before the edit
+abbrev pub with_room : Lists → Rule → Result Rule EditFault
+with_room db rule = do
+  room ← room_for_all db rule.added
+  Ok rule
+
+-- whether LSAs with a key may be in a section
+abbrev pub is_of_section : Section → Key → Bool
+is_of_section (Area id) key = not (has_as_scope key)
+is_of_section AsWide key = has_as_scope key
+
+-- a database has the section of a new LSA, and the LSA may be there
+pub record HasPlace (db : Lists) (new : NewLsa) : Type 0 where
+  pub there : IsSome (find (is_section new.section) db)
+  pub scope : is_of_section new.section (key_of new.lsa) ≡ true
 
 -- ---- the edits
 

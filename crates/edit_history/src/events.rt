@@ -1,16 +1,20 @@
 //! Events: links are cut, interfaces get another cost, a router is drained. Of each router-LSA the
 //! links change as its router would originate it again (RFC 2328, 12.4.1).
 
-ghost use Rattle.std.specs.Prelude.{◌≡◌, map, IfOk};
+ghost use Rattle.std.specs.Prelude.{◌≡◌, ◌≢◌, Err, map, All, IfOk, IfErr, OnErr};
 ghost use Rattle.lsdb.specs.Slots.{lists_of};
 ghost use Rattle.edit_script.specs.declared.edit.Edit.TheVariants.{Event as of_event};
 ghost use Rattle.edit_script.specs.declared.event.Event.TheVariants as events;
 ghost use Rattle.edit_history.specs.declared.fault.EditFault.TheVariants.{OutOfMemory};
+ghost use Rattle.edit_history.specs.Effect.{HasPlace, room_for_all};
 ghost use Rattle.edit_history.specs.Events.{is_neighbor, link_event_of, refusal_of};
 ghost use Rattle.edit_history.specs.steps.Plans.{IsPlan};
+ghost use Rattle.edit_history.specs.steps.Coming.{Comes};
 ghost use Rattle.edit_history.specs.steps.Happening.{fault_by, swap_by};
 
+use crate::added::AddedLsa;
 use crate::fault::EditFault;
+use crate::opening::with_added;
 use crate::swap::Swap;
 use edit_script::Event;
 use event_links::{EventFault, LinkEnd, LinkEvent, has_links_to};
@@ -139,13 +143,33 @@ fn swaps_by<A: Allocator + Copy>(
         .collect(alloc)
 }
 
-/// The router-LSAs of an event's routers change in their places; one without links is removed.
-#[tactic(auto, using(crate::proofs::EventFates::event_planned, crate::proofs::EventFates::event_refused, crate::proofs::RulesCarriedOut::no_memory_for_event))]
+/// The swaps of the slots that an event changes, and after them those of the LSAs that it adds, for
+/// each of which a slot is opened.
+fn plan_changes<A: Allocator + Copy>(
+    database: &mut Database<A>,
+    changes: Vec<SlotChange<A>, A>,
+    added: Vec<AddedLsa<A>, A>,
+) -> Result<Vec<Swap<A>, A>, EditFault>
+    requires { All (HasPlace (lists_of database.old)) added.items }
+    ensures comes { IfOk result (λ v.
+        Comes database.old database.new (map swap_by changes.items) added.items v.items) }
+    ensures refused { IfErr result (λ fault. fault ≢ OutOfMemory
+        → room_for_all (lists_of database.old) added.items ≡ Err fault) }
+    ensures kept { OnErr result (database.new ≡ database.old) }
+{
+    let swaps = swaps_by(database.alloc(), changes)?;
+    with_added(database, swaps, added)
+}
+
+/// The router-LSAs of an event's routers change in their places; one without links is removed. No
+/// LSA is added.
+#[tactic(auto, using(crate::proofs::EventFates::event_refused, crate::proofs::RulesCarriedOut::no_memory_for_event))]
 pub(crate) fn plan_event<A: Allocator + Copy>(
-    database: &Database<A>,
+    database: &mut Database<A>,
     event: Event,
 ) -> Result<Vec<Swap<A>, A>, EditFault>
-    ensures { IsPlan database.now database.now (of_event event) (λ v. v.items) result }
+    ensures plan { IsPlan database.old database.new (of_event event) (λ v. v.items) result }
+    ensures kept { OnErr result (database.new ≡ database.old) }
 {
     // Its invariant is needed after each swap too.
     database.assert_valid();
@@ -156,8 +180,6 @@ pub(crate) fn plan_event<A: Allocator + Copy>(
         Ok(changes) => changes,
         Err(fault) => return Err(fault_of(fault)),
     };
-    match swaps_by(database.alloc(), changes) {
-        Ok(swaps) => Ok(swaps),
-        Err(_) => Err(EditFault::OutOfMemory),
-    }
+    let added = Vec::new(database.alloc());
+    plan_changes(database, changes, added)
 }
