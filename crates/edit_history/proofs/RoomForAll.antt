@@ -180,10 +180,10 @@ added_push [] n db = refl
 added_push (m ∷ ns) n db = added_push ns n (with_new m db)
 
 -- the next new LSA
-pub record Next (db : Lists) (added : List NewLsa) (i j : ℕ) (n : NewLsa) : Type 0 where
-  pub rest : drop i added ≡ n ∷ drop j added
-  pub front : take j added ≡ take i added ++ n ∷ []
-  pub after : with_added (take j added) db ≡ with_new n (with_added (take i added) db)
+record Next (db : Lists) (added : List NewLsa) (i j : ℕ) (n : NewLsa) : Type 0 where
+  rest : drop i added ≡ n ∷ drop j added
+  front : take j added ≡ take i added ++ n ∷ []
+  after : with_added (take j added) db ≡ with_new n (with_added (take i added) db)
 
 take_next : (xs : List NewLsa) (i : ℕ) (n : NewLsa) → i < length xs → n ≡ get_or xs i n → take (suc i) xs ≡ take i xs ++ n ∷ []
 take_next [] i n lt h = absurd (omega arith)
@@ -195,7 +195,7 @@ drop_next [] i n lt h = absurd (omega arith)
 drop_next (x ∷ xs) zero n lt h = ap (λ (y : NewLsa). y ∷ xs) (sym h)
 drop_next (x ∷ xs) (suc i) n lt h = drop_next xs i n (omega arith) h
 
-pub next : (db : Lists) (added : List NewLsa) (i j : ℕ) (n : NewLsa) → i < length added → j ≡ suc i → n ≡ get_or added i n → Next db added i j n
+next : (db : Lists) (added : List NewLsa) (i j : ℕ) (n : NewLsa) → i < length added → j ≡ suc i → n ≡ get_or added i n → Next db added i j n
 next db added i j n lt e here =
     subst (λ (k : ℕ). Next db added i k n) (sym e) (record {
       rest = drop_next added i n lt here;
@@ -203,53 +203,69 @@ next db added i j n lt e here =
       after = ap (λ (ns : List NewLsa). with_added ns db) (take_next added i n lt here) ∙ added_push (take i added) n db;
     })
 
--- there is room for the next one
-pub room_next : (db : Lists) (added : List NewLsa) (i j : ℕ) (n : NewLsa) → Next db added i j n
-    → room_for (with_added (take i added) db) n.section (key_of n.lsa) (length n.lsa) ≡ has_room
-    → room_for_all (with_added (take i added) db) (drop i added) ≡ room_for_all db added
-    → room_for_all (with_added (take j added) db) (drop j added) ≡ room_for_all db added
-room_next db added i j n h room so_far =
-    let before : Lists = with_added (take i added) db in
-    ap (λ (ss : Lists). room_for_all ss (drop j added)) h.after
-    ∙ sym (on_ok (room_for before n.section (key_of n.lsa) (length n.lsa)) tt (λ there. room_for_all (with_new n before) (drop j added)) room)
-    ∙ sym (ap (room_for_all before) h.rest)
-    ∙ so_far
-
--- there is none
-pub refused_next : (db : Lists) (added : List NewLsa) (i j : ℕ) (n : NewLsa) (fault : EditFault) → Next db added i j n
-    → room_for (with_added (take i added) db) n.section (key_of n.lsa) (length n.lsa) ≡ Err fault
-    → room_for_all (with_added (take i added) db) (drop i added) ≡ room_for_all db added
-    → room_for_all db added ≡ Err fault
-refused_next db added i j n fault h refused so_far =
-    let before : Lists = with_added (take i added) db in
-    sym so_far
-    ∙ ap (room_for_all before) h.rest
-    ∙ on_err (room_for before n.section (key_of n.lsa) (length n.lsa)) fault (λ there. room_for_all (with_new n before) (drop j added)) refused
-
-pub size_next : (db : Lists) (added : List NewLsa) (i j : ℕ) (n : NewLsa) → Next db added i j n → AllPairs IsBefore (heads_of db) → IsThere n.section db
-    → size (with_added (take j added) db) ≡ size (with_added (take i added) db) + length n.lsa
-size_next db added i j n h order there =
-    let before : Lists = with_added (take i added) db in
-    omega (
-      arith,
-      ap size h.after,
-      size_new before n (subst (λ (hs : List (Option AreaHead)). AllPairs IsBefore hs) (sym (heads_added (take i added) db)) order)
-          (there_added (take i added) n.section db there),
-    )
-
 abbrev HasAccepted : NewLsa → Type 0
 HasAccepted n = IsAccepted n.lsa
 
-pub accepted_next : (db : Lists) (added : List NewLsa) (i j : ℕ) (n : NewLsa) → Next db added i j n → IsAccepted n.lsa
-    → All (λ (m : NewLsa). IsAccepted m.lsa) (take i added) → All (λ (m : NewLsa). IsAccepted m.lsa) (take j added)
-accepted_next db added i j n h here before =
-    subst (All HasAccepted) (sym h.front)
-    (All-append HasAccepted (take i added) (n ∷ []) before (All-cons HasAccepted n [] here (All-nil HasAccepted)))
+-- there is room for the first i; with them the dump has this number of bytes
+pub record RoomSoFar (db : Lists) (added : List NewLsa) (i bytes : ℕ) : Type 0 where
+  pub size_is : bytes ≡ size (with_added (take i added) db)
+  pub limit : bytes ≤ longest_dump
+  pub rest : room_for_all (with_added (take i added) db) (drop i added) ≡ room_for_all db added
+  pub accepted : All (λ (n : NewLsa). IsAccepted n.lsa) (take i added)
+
+pub room_start : (db : Lists) (added : List NewLsa) (bytes : ℕ) → bytes ≡ size db → bytes ≤ longest_dump → RoomSoFar db added 0 bytes
+room_start db added bytes is limit = record { size_is = is; limit = limit; rest = refl; accepted = All-nil HasAccepted }
+
+-- there is room for the next one
+pub room_turn : (db : Lists) (added : List NewLsa) (i j : ℕ) (n : NewLsa) (bytes more : ℕ) → RoomSoFar db added i bytes → i < length added → j ≡ suc i
+    → n ≡ get_or added i n → AllPairs IsBefore (heads_of db) → IsThere n.section db
+    → room_for (with_added (take i added) db) n.section (key_of n.lsa) (length n.lsa) ≡ has_room → IsAccepted n.lsa
+    → bytes + length n.lsa ≤ longest_dump → more ≡ bytes + length n.lsa → RoomSoFar db added j more
+room_turn db added i j n bytes more far lt e here order there room accepted small more_is =
+    let h = next db added i j n lt e here in
+    let before : Lists = with_added (take i added) db in
+    let heads : AllPairs IsBefore (heads_of before) =
+    subst (λ (hs : List (Option AreaHead)). AllPairs IsBefore hs) (sym (heads_added (take i added) db)) order in
+    record {
+      size_is = omega (
+        arith,
+        ap size h.after,
+        size_new before n heads (there_added (take i added) n.section db there),
+        far.size_is,
+        more_is,
+      );
+      limit = omega (arith, small, more_is);
+      rest =
+          ap (λ (ss : Lists). room_for_all ss (drop j added)) h.after
+          ∙ sym (on_ok (room_for before n.section (key_of n.lsa) (length n.lsa)) tt (λ space. room_for_all (with_new n before) (drop j added)) room)
+          ∙ sym (ap (room_for_all before) h.rest)
+          ∙ far.rest;
+      accepted =
+          subst (All HasAccepted) (sym h.front)
+          (All-append HasAccepted (take i added) (n ∷ []) far.accepted (All-cons HasAccepted n [] accepted (All-nil HasAccepted)));
+    }
+
+-- there is none
+pub room_refused : (db : Lists) (added : List NewLsa) (i : ℕ) (n : NewLsa) (bytes : ℕ) (fault : EditFault) → RoomSoFar db added i bytes
+    → i < length added → n ≡ get_or added i n
+    → room_for (with_added (take i added) db) n.section (key_of n.lsa) (length n.lsa) ≡ Err fault → room_for_all db added ≡ Err fault
+room_refused db added i n bytes fault far lt here refused =
+    let before : Lists = with_added (take i added) db in
+    sym far.rest
+    ∙ ap (room_for_all before) (drop_next added i n lt here)
+    ∙ on_err (room_for before n.section (key_of n.lsa) (length n.lsa)) fault (λ space. room_for_all (with_new n before) (drop (suc i) added)) refused
 
 -- all were tested
-pub room_all : (db : Lists) (added : List NewLsa) (i : ℕ) → length added ≤ i
-    → room_for_all (with_added (take i added) db) (drop i added) ≡ room_for_all db added → room_for_all db added ≡ has_room
-room_all db added i end so_far = sym so_far ∙ ap (room_for_all (with_added (take i added) db)) (drop_all i added end)
+pub room_done : (db : Lists) (added : List NewLsa) (i bytes : ℕ) → RoomSoFar db added i bytes → length added ≤ i → room_for_all db added ≡ has_room
+room_done db added i bytes far end =
+    sym far.rest ∙ ap (room_for_all (with_added (take i added) db)) (drop_all i added end)
+
+pub accepted_done : (db : Lists) (added : List NewLsa) (i bytes : ℕ) → RoomSoFar db added i bytes → length added ≤ i
+    → All (λ (n : NewLsa). IsAccepted n.lsa) added
+accepted_done db added i bytes far end = subst (All HasAccepted) (take_all i added end) far.accepted
+
+pub at_index : (P : NewLsa → Type 0) (added : List NewLsa) (i : ℕ) (n : NewLsa) → All P added → i < length added → n ≡ get_or added i n → P n
+at_index P added i n all lt here = subst P (sym here) (all i n lt)
 
 -- ---- what room for all means
 

@@ -24,6 +24,13 @@ impl<A: Allocator> Model for AddedLsa<A> {
 }
 
 impl<A: Allocator + Copy> AddedLsa<A> {
+    /// A new LSA for a section.
+    pub(crate) fn new(section: Section, lsa: Lsa<A>) -> AddedLsa<A>
+        ensures { result ≡ record { section = section; lsa = lsa } }
+    {
+        AddedLsa { section, lsa }
+    }
+
     /// The section that gets it.
     pub(crate) fn section(&self) -> Section
         ensures { result ≡ self.now.section }

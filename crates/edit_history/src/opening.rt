@@ -1,6 +1,6 @@
 //! Slots for the new LSAs of an edit: they are opened for all of them, or for none.
 
-ghost use Rattle.std.specs.Prelude.{◌≡◌, ◌≢◌, ◌→◌, Err, IfOk, IfErr, OnOk, OnErr, All, List, map};
+ghost use Rattle.std.specs.Prelude.{◌≡◌, ◌≢◌, Err, IfOk, IfErr, OnOk, OnErr, All, List, map};
 ghost use Rattle.lsdb.specs.Slots.{Slots, lists_of};
 ghost use Rattle.edit_history.specs.declared.fault.EditFault.TheVariants.{OutOfMemory};
 ghost use Rattle.edit_history.specs.Effect.{HasPlace, room_for_all};

@@ -96,8 +96,9 @@ pub(crate) fn check_room_for_all<A: Allocator + Copy>(
     database.assert_valid();
     let mut size = database.size();
     for i in 0..added.len() {
-        check_room_after(database, size, &added[..i], &added[i])?;
-        size += added[i].lsa().bytes().len();
+        let new = &added[i];
+        check_room_after(database, size, &added[..i], new)?;
+        size += new.lsa().bytes().len();
     }
     Ok(())
 }
