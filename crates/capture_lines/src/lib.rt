@@ -15,6 +15,6 @@ mod report;
 mod reporting;
 
 pub use ending::exit_line;
-pub use fault::{ExitFault, FileEnd, index_of, named, unlisted, unread};
+pub use fault::{ExitFault, FileEnd, index_of, named, unlisted, unlisted_file, unread};
 pub use report::Report;
 pub use reporting::reported;

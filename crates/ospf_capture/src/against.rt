@@ -1,7 +1,7 @@
 //! Lists of the LSAs of other routers, which the dump is compared with.
 
 use crate::files::open_file;
-use capture_lines::{ExitFault, unlisted, unread};
+use capture_lines::{ExitFault, unlisted_file, unread};
 use capture_report::LONGEST_FILE;
 use host_io::{Watched, read_whole};
 use lsdb_listing::{PrintedList, read_list};
@@ -12,7 +12,10 @@ fn list_of<'a>(rt: &HostRuntime, name: &'a str) -> Result<PrintedList, ExitFault
     let bytes = read_whole(rt.alloc(), &mut file, LONGEST_FILE).map_err(|fault| unread(
         name, fault,
     ))?;
-    read_list(rt.alloc(), &bytes).map_err(|fault| unlisted(name, fault))
+    match read_list(rt.alloc(), &bytes) {
+        Ok(list) => Ok(list),
+        Err(fault) => Err(unlisted_file(name, &bytes, fault)),
+    }
 }
 
 /// Opens each list, and reads it.
