@@ -52,6 +52,8 @@ class Contents:
     headers: list[Observation] = dataclasses.field(default_factory=list)
     kinds: list[tuple[int, str]] = dataclasses.field(default_factory=list)
     findings: list[str] = dataclasses.field(default_factory=list)
+    # Packets or headings of other routing domains.
+    others: int = 0
 
     def line(self) -> str:
         """What standard output has after the name of the file."""
@@ -383,9 +385,10 @@ class Capture:
         if length < 24 or (whole and length > len(payload)):
             raise FrameWarning("BadLength")
         whole, data = length <= len(payload), payload[:length]
-        if whole and number(data[14:16]) < 2 and (word_sum(data[:16]) + word_sum(data[24:])) % 65535:
+        if whole and data[15] < 2 and (word_sum(data[:16]) + word_sum(data[24:])) % 65535:
             raise FrameWarning("BadChecksum")
         lack = "BadLength" if whole else "Truncated"
+        self.contents.others += data[14] != 0
         if data[1] == 1:
             self.hello(data, lack)
         elif data[1] == 4:
@@ -438,6 +441,8 @@ def contents_of_capture(file: bytes) -> Contents:
     contents = Capture(frames).read()
     if end != len(file):
         contents.findings.append(f"Cut at {end}")
+    if contents.others:
+        contents.findings.append(f"OtherDomain {contents.others}")
     return contents
 
 

@@ -219,6 +219,8 @@ class PrintReading:
         self.found.findings += [f"{feature} {count}" for feature, count in self.left_out.items() if count]
         if self.rows:
             self.found.findings.append(f"List {self.rows} (use --against)")
+        if self.found.others:
+            self.found.findings.append(f"OtherDomain {self.found.others}")
         return self.found
 
 
@@ -239,10 +241,13 @@ def is_row(words: list[bytes]) -> bool:
 
 def read_text(file: bytes) -> Contents:
     """What a router prints as a text."""
-    found, reading, area = [word for word in BLANKS.split(file) if word], PrintReading("printed"), None
+    found, reading, area, first = [word for word in BLANKS.split(file) if word], PrintReading("printed"), None, None
     for at in range(len(found)):
         text = Text(found, at)
         reading.rows += is_row(found[at:at + 5])
+        if found[at:at + 2] in ([b"VRF", b"Name:"], [b"OSPF", b"Instance:"]) and at + 2 < len(found):
+            first = first or found[at + 2]
+            reading.found.others += found[at + 2] != first
         if text.begins(b"(Area") and at + 1 < len(found):
             try:
                 area = number(four_bytes(found[at + 1].partition(b")")[0]))
