@@ -53,6 +53,7 @@ fn network_counts<A: Allocator + Copy>(
 }
 
 /// Whether no area has a network that the router leaves.
+#[tactic(auto, using(crate::proofs::Refusals::nothing_counted))]
 fn leaves_nothing<A: Allocator + Copy>(
     database: &Database<A>,
     event: &Departure,
