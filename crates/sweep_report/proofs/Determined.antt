@@ -1,8 +1,7 @@
--- What comes of a failure is one outcome, and the failures have one list of lines. Lists of lines join.
-use Rattle.std.proofs.Common.{◌≡◌, ℕ, List, [], ◌∷◌, ◌++◌, Result, Ok, Err, refl, sym, ap, ◌∙◌, subst}
+-- What comes of a failure is one outcome, and the failures have one list of lines.
+use Rattle.std.proofs.Common.{◌≡◌, List, [], ◌∷◌, refl, sym, ap, ◌∙◌, subst}
 use Rattle.lsdb.specs.Lists.{Lists}
 use Rattle.edit_script.specs.declared.edit.Edit.{Edit}
-use Rattle.edit_history.specs.declared.fault.EditFault.{EditFault}
 use Rattle.sweep_report.specs.declared.counts.FailureCounts.{FailureCounts}
 use Rattle.sweep_report.specs.declared.outcome.FailureLine.{FailureLine}
 use Rattle.sweep_report.specs.declared.outcome.Outcome.{Outcome}
@@ -43,10 +42,3 @@ module _ (db : Lists) where
   same_lines (e ∷ es) (l ∷ ls) (m ∷ ms) are also =
       ap (λ (x : FailureLine). x ∷ ls) (same_line e l m are.0 also.0)
       ∙ ap (λ (xs : List FailureLine). m ∷ xs) (same_lines es ls ms are.1 also.1)
-
-  pub joined : (edits more : List Edit) (lines others : List FailureLine) → AreLines db edits lines → AreLines db more others
-      → AreLines db (edits ++ more) (lines ++ others)
-  joined [] more [] others are also = also
-  joined [] more (l ∷ ls) others are also = absurd are
-  joined (e ∷ es) more [] others are also = absurd are
-  joined (e ∷ es) more (l ∷ ls) others are also = (are.0, joined es more ls others are.1 also)

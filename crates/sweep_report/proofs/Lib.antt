@@ -1,4 +1,4 @@
 mod Restored
-mod Outcomes
+mod Joined
 mod LoopCounts
 mod Determined

@@ -1,5 +1,5 @@
 -- The number of loops of a database is one.
-use Rattle.std.proofs.Common.{◌≡◌, ◌≢◌, ℕ, zero, suc, ◌+◌, ◌<◌, Bool, true, false, eqb, eqb-true, eq-eqb, List, [], ◌∷◌, ◌++◌, map, length, length-append, refl, sym, ap, ◌∙◌, subst, arith, None, Some}
+use Rattle.std.proofs.Common.{◌≡◌, ◌≢◌, ℕ, suc, ◌+◌, ◌<◌, Bool, true, false, eqb, eqb-true, eq-eqb, List, [], ◌∷◌, map, length, length-append, refl, sym, ap, ◌∙◌, subst, arith, get_or, Some}
 use Rattle.std.specs.Cmp.{nat_cmp_is}
 use Rattle.std.specs.List.{All, AllPairs, Contains, slice_get}
 use Rattle.std.specs.declared.cmp.Ordering.TheVariants.{Less}
@@ -15,8 +15,8 @@ use Rattle.lsa_codec.proofs.OrderLemmas.{router_exact, router_total}
 use Rattle.lsdb.specs.Lists.{Lists}
 use Rattle.area_graph.proofs.MemberLemmas.{Contains-from_In, In, In-from_Contains, In-map, Some-same, map-In}
 use Rattle.area_graph.proofs.RisingLemmas.{rising-is}
-use Rattle.forwarding.specs.Graphs.{StepValue, next_in}
-use Rattle.forwarding.specs.Walks.{AreLoops, IsLess, IsLoopFrom, StartsBefore}
+use Rattle.forwarding.specs.Graphs.{StepValue, graph_of, next_in}
+use Rattle.forwarding.specs.Walks.{AreLoops, IsLoopFrom, StartsBefore}
 use Rattle.microloops.specs.Changeover.{routers_of}
 use Rattle.loop_report.specs.Atoms.{IsInAtom, nets_in_either}
 use Rattle.loop_report.specs.Loops.{AreLoopsNow, AreLoopsOf, LoopValue, at_net}
@@ -24,7 +24,7 @@ use Rattle.loop_report.specs.Parts.{AreParts, IsAtAtom}
 use Rattle.sweep_report.specs.Sweeps.{IsLoopCount}
 
 -- the least router of a loop
-first : List RouterId → RouterId
+abbrev first : List RouterId → RouterId
 first [] = record { 0 = 0 }
 first (v ∷ vs) = v
 
@@ -53,7 +53,7 @@ module _ (next : RouterId → List RouterId) (routers : List RouterId) where
   in_order (loop ∷ loops) each order =
       AllPairs-cons IsBelow (first loop) (map first loops)
       (All-map (IsBelow (first loop)) first loops (λ k d lt.
-      below loop _ (All-head IsOne loop loops each) (All-tail IsOne loop loops each k d lt) (order 0 (suc k) d (omega arith) (omega arith))))
+      below loop (get_or loops k d) (All-head IsOne loop loops each) (All-tail IsOne loop loops each k d lt) (order 0 (suc k) d (omega arith) (omega arith))))
       (in_order loops (All-tail IsOne loop loops each) (λ i j d lt within. order (suc i) (suc j) d (omega arith) (omega arith)))
 
   has_first : (loops others : List (List RouterId)) → AreLoops next routers loops → AreLoops next routers others
@@ -70,13 +70,13 @@ module _ (next : RouterId → List RouterId) (routers : List RouterId) where
       (λ v. (has_first loops others are also v, has_first others loops also are v)) in
       let other = rising-is router_total router_exact (map first others) (map first others) (in_order others also.each also.order)
       (λ v. (λ c. c, λ c. c)) in
-      sym (length-map first loops) ∙ ap length (one ∙ sym other) ∙ length-map first others
+      sym (length-map loops first) ∙ ap length (one ∙ sym other) ∙ length-map others first
 
 found_same : (net : Net) (graph : List StepValue) (part other : List LoopValue) → AreLoopsOf net graph part → AreLoopsOf net graph other
     → length part ≡ length other
 found_same net graph part other (loops, are, is) (others, also, was) =
-    ap length is ∙ length-map (at_net net) loops ∙ same_count (next_in graph) (routers_of graph) loops others are.loops also.loops
-    ∙ sym (length-map (at_net net) others) ∙ sym (ap length was)
+    ap length is ∙ length-map loops (at_net net) ∙ same_count (next_in graph) (routers_of graph) loops others are.loops also.loops
+    ∙ sym (length-map others (at_net net)) ∙ sym (ap length was)
 
 module _ (db after : Lists) where
   -- an atom has an address or not; the parts have one length in both cases
@@ -89,7 +89,7 @@ module _ (db after : Lists) where
       by false differ =
           let ne : length part ≢ length other = λ same. false≢true (sym differ ∙ eq-eqb (length part) (length other) same) in
           let empty : (address : Addr) → ¬ IsInAtom (nets_in_either db after) net address = λ address there.
-          ne (found_same net _ part other (is.found address there) (was.found address there)) in
+          ne (found_same net (graph_of after address) part other (is.found address there) (was.found address there)) in
           absurd (ne (ap length (is.none empty ∙ sym (was.none empty))))
 
   same_parts : (nets : List Net) (found others : List LoopValue) → AreParts (IsAtAtom AreLoopsNow db after) nets found

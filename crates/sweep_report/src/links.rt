@@ -57,7 +57,10 @@ fn used_among<A: Allocator + Copy>(
 ) -> Result<Vec<UsedLink, A>, AllocError>
     ensures { IfOk result (λ found. found.items ≡ filter_map used_link lines.now) }
 {
-    lines.iter().filter_map(|line| used_link(line)).collect(alloc)
+    lines
+        .iter()
+        .filter_map(|line| used_link(line))
+        .collect(alloc)
 }
 
 /// The point-to-point links that routers use, by router, area and number of the link.

@@ -35,15 +35,15 @@ fn counted<A: Allocator + Copy>(
     alloc: A,
     database: &Database<A>,
     copy: &mut Database<A>,
-    record: &mut Record<A>,
+    last: &mut Record<A>,
     meter: &mut Meter,
 ) -> Result<FailureCounts, AllocError>
-    requires { CanUndo copy.old record.old.swaps }
+    requires { CanUndo copy.old last.old.swaps }
     ensures counts { IfOk result (AreCounts (lists_of database.now) (lists_of copy.old)) }
-    ensures reverted { OnOk result (copy.new ≡ undone_slots copy.old record.old.swaps) }
+    ensures reverted { OnOk result (copy.new ≡ undone_slots copy.old last.old.swaps) }
 {
     let counts = FailureCounts::between(alloc, database, copy, meter)?;
-    revert(copy, record);
+    revert(copy, last);
     Ok(counts)
 }
 
