@@ -1,0 +1,4 @@
+mod Restored
+mod Joined
+mod LoopCounts
+mod Determined
