@@ -106,13 +106,15 @@ cut 1.1.1.1 2.2.2.2 10.0.12.5 refused UnclearEnd
         "fail-net 0.0.0.0 10.0.0.1 lost 2 gone 3 dearer 0 moved 0 loops 0
 ",
     ),
+    // A router that is left without links has no router-LSA any more. The stub link of 3.3.3.3 has
+    // the address of its interface, so it goes with the link.
     (
         "loops that stay",
         LOOPED,
         FailureKind::Links,
-        "cut 1.1.1.1 2.2.2.2 lost 7 gone 0 dearer 0 moved 0 loops 0
-cut 1.1.1.1 3.3.3.3 lost 5 gone 0 dearer 0 moved 0 loops 0
-cut 1.1.1.1 4.4.4.4 lost 3 gone 0 dearer 0 moved 0 loops 1
+        "cut 1.1.1.1 2.2.2.2 lost 6 gone 0 dearer 0 moved 0 loops 0
+cut 1.1.1.1 3.3.3.3 lost 0 gone 3 dearer 0 moved 0 loops 0
+cut 1.1.1.1 4.4.4.4 lost 0 gone 0 dearer 0 moved 0 loops 1
 ",
     ),
 ];
