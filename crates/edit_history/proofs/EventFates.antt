@@ -1,5 +1,5 @@
 -- Events: the fates are safe, the swaps of the slots that change carry them out, and a refusal of the links is one of the event.
-use Rattle.std.proofs.Common.{◌≡◌, ℕ, suc, List, [], ◌∷◌, ◌++◌, map, Option, Some, None, Result, Ok, Err, refl, sym, ap, ◌∙◌}
+use Rattle.std.proofs.Common.{◌≡◌, ℕ, suc, List, [], ◌∷◌, ◌++◌, map, Option, Some, None, Result, Ok, Err, refl, sym, ap, ◌∙◌, true≢false}
 use Rattle.std.specs.List.{cons_option}
 use Rattle.std.proofs.lemmas.List.{map-append}
 use Rattle.lsa_codec.specs.Fields.{kind_of}
@@ -20,11 +20,12 @@ use Rattle.event_lsas.specs.SlotChanges.{slot_change, slot_of, section_changes, 
 use Rattle.event_lsas.proofs.ReplacementLemmas.{outcome_safe}
 use Rattle.edit_history.specs.Rules.{Fates, by_fates, section_name}
 use Rattle.edit_history.specs.Effect.{rule_of}
-use Rattle.edit_history.specs.Events.{fate_of_change, link_event_of, link_fates, refusal_of, rule_by}
+use Rattle.edit_history.specs.declared.fault.EditFault.{EditFault}
+use Rattle.edit_history.specs.Events.{fate_of_change, link_event_of, link_fates, refusal_of, rule_after, rule_by}
 use Rattle.edit_history.specs.Exchange.{SwapData}
 use Rattle.edit_history.specs.Applied.{Planned, IsRefused}
 use Rattle.edit_history.specs.steps.Plans.{swap_for, section_swaps, swaps_from}
-use Rattle.edit_history.specs.steps.Happening.{swap_by, fault_by}
+use Rattle.edit_history.specs.steps.Happening.{swap_by, fault_by, IsLinkEvent}
 use Rattle.edit_history.proofs.FatesBySlot.{IsSafeFate, IsSafe, fates_carried_out}
 use Rattle.edit_history.proofs.RulesCarriedOut.{planned_here, event_refused_as, no_memory_for_event}
 
@@ -80,13 +81,13 @@ links_safe db edit head x accepted = by_outcome (outcome_of db edit head x) refl
 -- ---- the plan
 
 -- the rule of an event is that of its links
-event_ruled : (db : Lists) (event : Event) (happens : LinkEvent) (r : Result LinkEdit EventFault) → happens ≡ link_event_of db event
+event_ruled : (db : Lists) (event : Event) (happens : LinkEvent) (r : Result LinkEdit EventFault) → link_event_of db event ≡ Ok happens
     → resolved db happens ≡ r → rule_of db (of_event event) ≡ rule_by db r
 unfolding rule_of
-event_ruled db event happens r is found = ap (λ (e : LinkEvent). rule_by db (resolved db e)) (sym is) ∙ ap (rule_by db) found
+event_ruled db event happens r is found = ap (rule_after db) is ∙ ap (rule_by db) found
 
 pub event_planned : (d : Slots) (event : Event) (happens : LinkEvent) (changes : List SlotChangeData) (items : List SwapData) → IsDatabase (lists_of d)
-    → happens ≡ link_event_of (lists_of d) event → AreChanges d happens changes → items ≡ map swap_by changes → Planned d d (of_event event) items
+    → link_event_of (lists_of d) event ≡ Ok happens → AreChanges d happens changes → items ≡ map swap_by changes → Planned d d (of_event event) items
 event_planned d event happens changes items sound is are made =
     let fates : Fates = link_fates (lists_of d) are.edit in
     planned_here d (of_event event) (by_fates fates) (swaps_from fates 0 d) items
@@ -101,7 +102,18 @@ carried_err db (Ok edit) fault is = absurd cc
 carried_err db (Err other) fault is =
     let same : other ≡ fault = cc in ap (λ (f : EventFault). let r : Result LinkEdit EventFault = Err f in r) same
 
-pub event_refused : (d : Slots) (event : Event) (happens : LinkEvent) (fault : ChangeFault) → happens ≡ link_event_of (lists_of d) event
+-- an event that is none of links
+other_ruled : (db : Lists) (event : Event) (fault : EditFault) → link_event_of db event ≡ Err fault → rule_of db (of_event event) ≡ Err fault
+unfolding rule_of
+other_ruled db event fault is = ap (rule_after db) is
+
+pub other_refused : (d : Slots) (event : Event) (fault : EditFault) → IsLinkEvent (lists_of d) event (Err fault) → IsRefused d (of_event event) fault
+other_refused d event fault is = record {
+  known = λ other. (event_refused_as d event fault (other_ruled (lists_of d) event fault (is other))).known other;
+  memory = λ no _. absurd (true≢false no);
+}
+
+pub event_refused : (d : Slots) (event : Event) (happens : LinkEvent) (fault : ChangeFault) → link_event_of (lists_of d) event ≡ Ok happens
     → IsRefusal fault (link_event (lists_of d) happens) → IsRefused d (of_event event) (fault_by fault)
 event_refused d event happens (Refused fault) is refused =
     event_refused_as d event (refusal_of fault)

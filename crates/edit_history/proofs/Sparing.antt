@@ -24,6 +24,7 @@ use Rattle.lsdb.specs.Lists.{AreaHead, SectionLsas, Lists, IsDatabase, IsSection
 use Rattle.edit_script.specs.declared.edit.Edit.{Edit}
 use Rattle.edit_script.specs.declared.edit.Edit.TheVariants.{Cost, DropLink, FailLink, FailNet, FailRouter, AddStub, Summary, AddSummary, AddExternal}
 use Rattle.edit_script.specs.declared.edit.Edit.TheVariants.{DropExternal, Refresh, Event as of_event}
+use Rattle.event_links.specs.declared.event.LinkEvent.{LinkEvent}
 use Rattle.event_links.specs.declared.fault.EventFault.{EventFault}
 use Rattle.event_links.specs.declared.selection.LinkEdit.{LinkEdit}
 use Rattle.event_links.specs.Events.{resolved}
@@ -33,7 +34,7 @@ use Rattle.edit_history.specs.Rules.{Fate, stays, removed, rewritten, Rule, NewL
 use Rattle.edit_history.specs.Rules.{change_of, addition, with_added, section_name, section_after, section_changes, lists_after, changes_by}
 use Rattle.edit_history.specs.Effect.{◌>>=◌, or_refused, made, area_of, router_lsa_in, router_lsa_of, has_router, stub_bytes, is_dump_full, remaking}
 use Rattle.edit_history.specs.Effect.{is_originated_for, are_linked, options_in, is_type2, room_for, added, link_fate, net_fate, router_fate}
-use Rattle.edit_history.specs.Events.{link_event_of, link_fates, refusal_of, rule_by}
+use Rattle.edit_history.specs.Events.{link_event_of, link_fates, refusal_of, rule_after, rule_by}
 use Rattle.edit_history.specs.Effect.{rule_of, effect, is_graph_kind, touched, touched_by, edit_touches, graph_lsas}
 use Rattle.edit_history.proofs.Keys.{found_passes}
 use Rattle.edit_history.proofs.SparedFates.{is_graph_lsa, graph_of, IsSpared, Spares, router_lsa_spares, one_spares, links_spare, network_spares}
@@ -99,6 +100,10 @@ links_spared : (db : Lists) (r : Result LinkEdit EventFault) → IfRuled (rule_b
 links_spared db (Ok edit) = ruled (by_fates (link_fates db edit)) (events_spare db edit)
 links_spared db (Err fault) = refused (refusal_of fault)
 
+event_spared : (db : Lists) (r : Result LinkEvent EditFault) → IfRuled (rule_after db r)
+event_spared db (Ok happens) = links_spared db (resolved db happens)
+event_spared db (Err fault) = refused fault
+
 rule_spares : (db : Lists) (edit : Edit) → IsDatabase db → IfRuled (rule_of db edit)
 unfolding rule_of
 rule_spares db (Cost area router link metric) sound = remaking_spares db area router (with_cost link metric)
@@ -146,7 +151,7 @@ rule_spares db (DropExternal router prefix) sound =
     if_bound (or_refused NoExternal (find (is_originated_for 5 router prefix) (lsas_of AsWide db))) gone
     (λ lsa _. ruled _ (one_spares AsWide (key_of lsa) removed tt))
 rule_spares db Refresh sound = ruled _ (refresh_spares db)
-rule_spares db (of_event event) sound = links_spared db (resolved db (link_event_of db event))
+rule_spares db (of_event event) sound = event_spared db (link_event_of db event)
 
 -- ---- a section of the area
 

@@ -1,5 +1,5 @@
 -- Events as edits: the event of links that each is, what becomes of each LSA, and the refusals.
-use Rattle.std.specs.Prelude.{Bool, ◌||◌, Some, None, Result, Ok, Err, if◌then◌else◌}
+use Rattle.std.specs.Prelude.{ℕ, Bool, ◌||◌, Some, None, Result, Ok, Err, if◌then◌else◌}
 use Rattle.lsa_codec.specs.declared.address.Addr.{Addr}
 use Rattle.lsa_codec.specs.declared.address.RouterId.{RouterId}
 use Rattle.lsdb.specs.Lists.{Lists}
@@ -16,7 +16,7 @@ use Rattle.event_links.specs.Selections.{is_somewhere}
 use Rattle.event_lsas.specs.LinkEvents.{outcome_of}
 use Rattle.event_lsas.specs.Outcomes.{LsaChange, kept, becomes}
 use Rattle.edit_history.specs.declared.fault.EditFault.{EditFault}
-use Rattle.edit_history.specs.declared.fault.EditFault.TheVariants.{NoRouter, ZeroCost, SameRouter, OutOfMemory, NotNeighbors, NoInterface, UnclearEnd}
+use Rattle.edit_history.specs.declared.fault.EditFault.TheVariants.{NoRouter, ZeroCost, SameRouter, OutOfMemory, NotNeighbors, NoInterface, NotOnNetwork, UnclearEnd}
 use Rattle.edit_history.specs.Rules.{Fate, stays, removed, rewritten, Fates, Rule, by_fates}
 
 -- ---- the event of links
@@ -30,13 +30,19 @@ router_at address = record { 0 = address.0 }
 abbrev pub is_neighbor : Lists → RouterId → Addr → Bool → Bool
 is_neighbor db router far both = both || is_somewhere db (Towards router (router_at far))
 
-abbrev pub link_event_of : Lists → Event → LinkEvent
-link_event_of db (events.Cut router neighbor None) = links.CutLinks router neighbor
-link_event_of db (events.Cut router neighbor (Some address)) =
-    links.CutLink (record { router = router; neighbor = neighbor; address = address })
-link_event_of db (events.SetCost router far metric both) =
+abbrev pub cost_event : Lists → RouterId → Addr → ℕ → Bool → LinkEvent
+cost_event db router far metric both =
     if is_neighbor db router far both then links.SetCost router (router_at far) metric both else links.SetCostAt router far metric
-link_event_of db (events.Drain router) = links.Drain router
+
+-- an event that is none of links is refused: what routers that fail or leave networks change is not defined yet
+abbrev pub link_event_of : Lists → Event → Result LinkEvent EditFault
+link_event_of db (events.Cut router neighbor None) = Ok (links.CutLinks router neighbor)
+link_event_of db (events.Cut router neighbor (Some address)) =
+    Ok (links.CutLink (record { router = router; neighbor = neighbor; address = address }))
+link_event_of db (events.Leave router prefix) = Err NotOnNetwork
+link_event_of db (events.SetCost router far metric both) = Ok (cost_event db router far metric both)
+link_event_of db (events.Drain router) = Ok (links.Drain router)
+link_event_of db (events.Fail router) = Err NoRouter
 
 -- ---- what becomes of each LSA
 
@@ -63,6 +69,10 @@ abbrev pub rule_by : Lists → Result LinkEdit EventFault → Result Rule EditFa
 rule_by db (Ok edit) = Ok (by_fates (link_fates db edit))
 rule_by db (Err why) = Err (refusal_of why)
 
+abbrev pub rule_after : Lists → Result LinkEvent EditFault → Result Rule EditFault
+rule_after db (Ok happens) = rule_by db (resolved db happens)
+rule_after db (Err why) = Err why
+
 -- the first refusal of an event, or its rule
 abbrev pub event_rule : Lists → Event → Result Rule EditFault
-event_rule db event = rule_by db (resolved db (link_event_of db event))
+event_rule db event = rule_after db (link_event_of db event)

@@ -4,11 +4,9 @@
 ghost use Rattle.std.specs.Prelude.{◌≡◌, map, IfOk};
 ghost use Rattle.lsdb.specs.Slots.{lists_of};
 ghost use Rattle.edit_script.specs.declared.edit.Edit.TheVariants.{Event as of_event};
-ghost use Rattle.edit_script.specs.declared.event.Event.TheVariants as events;
-ghost use Rattle.edit_history.specs.declared.fault.EditFault.TheVariants.{OutOfMemory};
-ghost use Rattle.edit_history.specs.Events.{is_neighbor, link_event_of, refusal_of};
+ghost use Rattle.edit_history.specs.Events.{cost_event, is_neighbor, refusal_of};
 ghost use Rattle.edit_history.specs.steps.Plans.{IsPlan};
-ghost use Rattle.edit_history.specs.steps.Happening.{fault_by, swap_by};
+ghost use Rattle.edit_history.specs.steps.Happening.{IsLinkEvent, fault_by, swap_by};
 
 use crate::fault::EditFault;
 use crate::swap::Swap;
@@ -42,8 +40,8 @@ fn cost_event<A: Allocator + Copy>(
     metric: u16,
     both: bool,
 ) -> Result<LinkEvent, AllocError>
-    ensures { IfOk result (λ event. event
-        ≡ link_event_of (lists_of database.now) (events.SetCost router far metric both)) }
+    ensures { IfOk result
+        (λ event. event ≡ cost_event (lists_of database.now) router far metric both) }
 {
     let leads = is_neighbor(database, router, far, both)?;
     if !leads {
@@ -61,12 +59,12 @@ fn cost_event<A: Allocator + Copy>(
     })
 }
 
-/// The event of links that an event is.
+/// The event of links that an event is. Routers that fail or leave networks are refused for now.
 fn link_event<A: Allocator + Copy>(
     database: &Database<A>,
     event: Event,
-) -> Result<LinkEvent, AllocError>
-    ensures { IfOk result (λ found. found ≡ link_event_of (lists_of database.now) event) }
+) -> Result<LinkEvent, EditFault>
+    ensures { IsLinkEvent (lists_of database.now) event result }
 {
     match event {
         Event::Cut {
@@ -88,8 +86,10 @@ fn link_event<A: Allocator + Copy>(
             far,
             metric,
             both,
-        } => cost_event(database, router, far, metric, both),
+        } => Ok(cost_event(database, router, far, metric, both)?),
         Event::Drain { router } => Ok(LinkEvent::Drain { router }),
+        Event::Leave { .. } => Err(EditFault::NotOnNetwork),
+        Event::Fail { .. } => Err(EditFault::NoRouter),
     }
 }
 
@@ -140,7 +140,7 @@ fn swaps_by<A: Allocator + Copy>(
 }
 
 /// The router-LSAs of an event's routers change in their places; one without links is removed.
-#[tactic(auto, using(crate::proofs::EventFates::event_planned, crate::proofs::EventFates::event_refused, crate::proofs::RulesCarriedOut::no_memory_for_event))]
+#[tactic(auto, using(crate::proofs::EventFates::event_planned, crate::proofs::EventFates::event_refused, crate::proofs::EventFates::other_refused, crate::proofs::RulesCarriedOut::no_memory_for_event))]
 pub(crate) fn plan_event<A: Allocator + Copy>(
     database: &Database<A>,
     event: Event,
@@ -149,8 +149,9 @@ pub(crate) fn plan_event<A: Allocator + Copy>(
 {
     // Its invariant is needed after each swap too.
     database.assert_valid();
-    let Ok(happens) = link_event(database, event) else {
-        return Err(EditFault::OutOfMemory);
+    let happens = match link_event(database, event) {
+        Ok(happens) => happens,
+        Err(fault) => return Err(fault),
     };
     let changes = match link_changes(database, happens) {
         Ok(changes) => changes,
