@@ -24,6 +24,7 @@ use Rattle.refusal_hints.specs.Advice.{AdviceValue, advice}
 use Rattle.refusal_hints.specs.Described.{area_with}
 use Rattle.refusal_hints.specs.LimitHints.{limit_advice}
 use Rattle.refusal_hints.specs.Nearest.{has_nearest}
+use Rattle.refusal_hints.specs.NetworkHints.{networks_hint}
 use Rattle.refusal_hints.specs.RouterHints.{anywhere_hint}
 
 -- ---- what a router has
@@ -78,6 +79,11 @@ abbrev pub one_router_advice : Lists → RouterId → EditFault → AdviceValue
 one_router_advice db router fault.NoRouter = advice 1 (anywhere_hint db router)
 one_router_advice db router why = limit_advice why
 
+-- `cut ROUTER PREFIX`
+abbrev pub leave_advice : Lists → RouterId → EditFault → AdviceValue
+leave_advice db router fault.NotOnNetwork = advice 2 (networks_hint db router)
+leave_advice db router why = one_router_advice db router why
+
 -- of two routers the first that no area has
 abbrev pub either_advice : Lists → RouterId → RouterId → AdviceValue
 either_advice db router neighbor =
@@ -106,5 +112,7 @@ cost_advice db router far why = two_routers_advice db router far why
 abbrev pub event_advice : Lists → Event → EditFault → AdviceValue
 event_advice db (event.Cut router neighbor None) why = two_routers_advice db router (record { 0 = neighbor.0 }) why
 event_advice db (event.Cut router neighbor (Some address)) why = cut_advice db router neighbor address why
+event_advice db (event.Leave router prefix) why = leave_advice db router why
 event_advice db (event.SetCost router far metric both) why = cost_advice db router far why
 event_advice db (event.Drain router) why = one_router_advice db router why
+event_advice db (event.Fail router) why = one_router_advice db router why

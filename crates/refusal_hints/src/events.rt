@@ -3,12 +3,13 @@
 ghost use Rattle.std.specs.Prelude.{◌≡◌, IfOk, OnOk, ◌++◌};
 ghost use Rattle.lsa_codec.specs.Spelling.{address_text};
 ghost use Rattle.lsdb.specs.Slots.{lists_of};
-ghost use Rattle.refusal_hints.specs.EventHints.{address_hint, addresses_of, cost_advice, cut_advice, either_advice, event_advice, far_hint, has_those, neighbors_hint, one_router_advice, sought, sought_among, sought_in, sought_of, two_routers_advice};
+ghost use Rattle.refusal_hints.specs.EventHints.{address_hint, addresses_of, cost_advice, cut_advice, either_advice, event_advice, far_hint, has_those, leave_advice, neighbors_hint, one_router_advice, sought, sought_among, sought_in, sought_of, two_routers_advice};
 
 use crate::advice::Advice;
 use crate::described::area_with;
 use crate::limit::limit_advice;
 use crate::nearest::push_nearest;
+use crate::networks::networks_hint;
 use crate::routers::anywhere_hint;
 use edit_history::EditFault;
 use edit_script::Event;
@@ -196,6 +197,21 @@ fn one_router_advice<A: Allocator + Copy>(
     }
 }
 
+/// Of a router that leaves a network.
+fn leave_advice<A: Allocator + Copy>(
+    alloc: A,
+    database: &Database<A>,
+    router: RouterId,
+    why: EditFault,
+) -> Result<Advice<A>, AllocError>
+    ensures { IfOk result (λ it. it ≡ leave_advice (lists_of database.now) router why) }
+{
+    match why {
+        EditFault::NotOnNetwork => Ok(Advice::at(2, networks_hint(alloc, database, router)?)),
+        _ => one_router_advice(alloc, database, router, why),
+    }
+}
+
 /// Of two routers the first that no area has.
 fn either_advice<A: Allocator + Copy>(
     alloc: A,
@@ -293,7 +309,10 @@ pub(crate) fn event_advice<A: Allocator + Copy>(
             neighbor,
             address: Some(address),
         } => cut_advice(alloc, database, router, neighbor, address, why),
+        Event::Leave { router, .. } => leave_advice(alloc, database, router, why),
         Event::SetCost { router, far, .. } => cost_advice(alloc, database, router, far, why),
-        Event::Drain { router } => one_router_advice(alloc, database, router, why),
+        Event::Drain { router } | Event::Fail { router } => {
+            one_router_advice(alloc, database, router, why)
+        }
     }
 }

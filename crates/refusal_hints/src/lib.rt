@@ -14,6 +14,7 @@ mod described;
 mod nearest;
 
 // What would have been right in place of a word.
+mod networks;
 mod routers;
 
 // Which word names a router.
