@@ -63,7 +63,7 @@ fn event_command_text(word: EventWord) -> &'static str
     ensures { result.now ≡ command_text (Event word) }
 {
     match word {
-        EventWord::Cut => "cut ROUTER NEIGHBOR [ADDRESS] | PREFIX",
+        EventWord::Cut => "cut ROUTER (NEIGHBOR [ADDRESS] | PREFIX)",
         EventWord::SetCost => "set-cost ROUTER NEIGHBOR METRIC [both]",
         EventWord::Drain => "drain ROUTER",
         EventWord::Fail => "fail ROUTER",

@@ -129,7 +129,7 @@ const LINES: &[(&str, &str)] = &[
     ),
     (
         "cut r1 10.4.0.0/16 r2",
-        "script S4 ExtraWord r2 (cut ROUTER NEIGHBOR [ADDRESS] | PREFIX)",
+        "script S4 ExtraWord r2 (cut ROUTER (NEIGHBOR [ADDRESS] | PREFIX))",
     ),
     (
         "cut r1 10.4.0.1/16",
