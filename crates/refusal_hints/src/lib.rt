@@ -12,6 +12,7 @@ mod situation;
 // What a database has, and what of it is most like a word.
 mod described;
 mod nearest;
+mod router_links;
 
 // What would have been right in place of a word.
 mod networks;

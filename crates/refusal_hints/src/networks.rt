@@ -2,91 +2,63 @@
 
 ghost use Rattle.std.specs.Prelude.{◌≡◌, ◌==◌, IfOk};
 ghost use Rattle.std.specs.List.{filter_map, list_any};
-ghost use Rattle.lsa_codec.specs.Links.{links_of};
-ghost use Rattle.lsa_codec.specs.Making.{leads_to_net};
 ghost use Rattle.lsdb.specs.Slots.{lists_of};
-ghost use Rattle.interfaces.specs.Networks.{joins};
-ghost use Rattle.refusal_hints.specs.NetworkHints.{is_on, net_if_on, nets_among, networks_hint};
+ghost use Rattle.refusal_hints.specs.NetworkHints.{net_if_on, nets_among, nets_in, networks_hint};
 
-use interfaces::router_lsa_of;
+use crate::router_links::Sought;
 use link_report::{area_ids, rising};
-use lsa_codec::{Addr, AreaId, Link, LinkKind, Lsa, Prefix, RouterId, RouterView};
+use lsa_codec::{Addr, AreaId, Lsa, Prefix, RouterId};
 use lsdb::{Database, Lsas, Section};
 use network_names::Names;
 use std::alloc::{AllocError, Allocator};
 use study_text::{push_address, push_joined_or};
 
-/// Whether a link leads to the transit network whose Designated Router has an address.
-fn leads_to_net(link: Link, network: Addr) -> bool
-    ensures { result ≡ leads_to_net network link }
+/// Whether a network is among those of some addresses of Designated Routers.
+fn is_among(networks: &[u32], network: Addr) -> bool
+    ensures { result ≡ list_any (λ other. other == network.0) networks.now }
 {
-    matches!(link.kind, LinkKind::Transit) && link.id.0 == network.0
+    networks.iter().any(|other| *other == network.0)
 }
 
-/// Whether a router-LSA has a link to a transit network.
-fn has_link_to_net(lsa: &RouterView<'_>, network: Addr) -> bool
-    ensures { result ≡ list_any (leads_to_net network) (links_of lsa.now) }
-{
-    lsa.links().any(|link| leads_to_net(link, network))
-}
-
-/// Whether a router's LSA in an area has a link to a transit network.
-fn joins<A: Allocator + Copy>(
-    database: &Database<A>,
-    area: AreaId,
-    network: Addr,
-    router: RouterId,
-) -> bool
-    ensures { result ≡ joins (lists_of database.now) area network router }
-{
-    match router_lsa_of(database, area, router) {
-        Some(lsa) => has_link_to_net(&lsa, network),
-        None => false,
-    }
-}
-
-/// Whether a router is on a network: it originated the network-LSA, or has a link to the network.
-fn is_on<A: Allocator + Copy>(
-    database: &Database<A>,
-    area: AreaId,
-    router: RouterId,
-    lsa: &Lsa<A>,
-) -> bool
-    ensures { result ≡ is_on (lists_of database.now) area router lsa.now }
-{
-    let key = lsa.key();
-    key.adv.0 == router.0 || joins(database, area, key.id, router)
-}
-
-/// The prefix of an LSA, if it is a live network-LSA of a network that a router is on.
-fn net_if_on<A: Allocator + Copy>(
-    database: &Database<A>,
-    area: AreaId,
-    router: RouterId,
-    lsa: &Lsa<A>,
-) -> Option<Prefix>
-    ensures { result ≡ net_if_on (lists_of database.now) area router lsa.now }
+/// The prefix of an LSA, if it is a live network-LSA of a network that a router is on: it is the
+/// originator, or has a link to the network.
+fn net_if_on<A: Allocator + Copy>(router: RouterId, linked: &[u32], lsa: &Lsa<A>) -> Option<Prefix>
+    ensures { result ≡ net_if_on router linked.now lsa.now }
 {
     let network = lsa.network()?;
-    if lsa.at_max_age() || !is_on(database, area, router, lsa) {
+    let key = lsa.key();
+    if lsa.at_max_age() || !(key.adv.0 == router.0 || is_among(linked, key.id)) {
         return None;
     }
     Some(network.net())
 }
 
-/// The prefixes of the networks that a router is on, among the LSAs of an area.
+/// The prefixes of the networks that a router is on, of some LSAs.
 fn nets_of<A: Allocator + Copy>(
     alloc: A,
-    database: &Database<A>,
-    area: AreaId,
     router: RouterId,
+    linked: &[u32],
     lsas: Lsas<'_, A>,
 ) -> Result<Vec<Prefix, A>, AllocError>
-    ensures { IfOk result (λ nets. nets.items
-        ≡ filter_map (net_if_on (lists_of database.now) area router) lsas.entry) }
+    ensures { IfOk result
+        (λ nets. nets.items ≡ filter_map (net_if_on router linked.now) lsas.entry) }
 {
-    lsas.filter_map(|lsa| net_if_on(database, area, router, lsa))
+    lsas.filter_map(|lsa| net_if_on(router, linked, lsa))
         .collect(alloc)
+}
+
+/// The prefixes of the networks of an area that a router is on, in the order of the area.
+fn nets_in<A: Allocator + Copy>(
+    alloc: A,
+    database: &Database<A>,
+    router: RouterId,
+    area: AreaId,
+) -> Result<Vec<Prefix, A>, AllocError>
+    ensures { IfOk result
+        (λ nets. nets.items ≡ nets_in (lists_of database.now) router area) }
+{
+    let linked = Sought::Networks.in_area(alloc, database, router, area)?;
+    nets_of(alloc, router, &linked, database.lsas(Section::Area(area)))
 }
 
 /// The prefixes of the networks of some areas that a router is on, in rising order, each once.
@@ -101,8 +73,7 @@ fn nets_among<A: Allocator + Copy>(
 {
     let mut nets = Vec::new(alloc);
     for area in areas {
-        let lsas = database.lsas(Section::Area(*area));
-        let mut more = nets_of(alloc, database, *area, router, lsas)?;
+        let mut more = nets_in(alloc, database, router, *area)?;
         nets.append(&mut more)?;
     }
     rising(alloc, &nets)

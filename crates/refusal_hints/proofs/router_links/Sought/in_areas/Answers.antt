@@ -7,8 +7,8 @@ use Rattle.lsa_codec.specs.declared.address.AreaId.{AreaId}
 use Rattle.lsdb.specs.Slots.{lists_of}
 use Rattle.area_graph.specs.Rising.{rising}
 use Rattle.area_routes.proofs.AddsLemmas.{adds_at, flat_map_adds}
-use Rattle.refusal_hints.specs.EventHints.{sought_in}
-use Rattle.refusal_hints.proofs.events.Sought.in_areas.Goals as goal
+use Rattle.refusal_hints.specs.RouterLinks.{sought_in}
+use Rattle.refusal_hints.proofs.router_links.Sought.in_areas.Goals as goal
 
 abbrev no_area : AreaId
 no_area = record { 0 = 0 }
