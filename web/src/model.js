@@ -2,7 +2,7 @@
 
 const EDITS = new Set([
   'cost', 'drop-link', 'fail-link', 'fail-net', 'fail-router', 'add-stub', 'summary', 'add-summary', 'add-external',
-  'drop-external', 'refresh', 'cut', 'set-cost', 'drain',
+  'drop-external', 'refresh', 'cut', 'set-cost', 'drain', 'fail',
 ]);
 const QUESTIONS = new Set([
   'table', 'tables', 'compare', 'info', 'routers', 'links', 'networks', 'routes', 'path', 'explain', 'changes', 'differences', 'lost',
