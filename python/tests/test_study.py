@@ -117,6 +117,22 @@ def test_events(two_areas):
     assert study.cut("r1", "r3", "10.0.13.2").undo(1).save() == two_areas.dump
 
 
+def test_events_that_are_refused(two_areas):
+    study = two_areas.study()
+    with pytest.raises(LineRefused, match="1.1.1.1 is on no transit network") as refused:
+        study.cut("r1", "10.1.0.0/24")
+    assert (refused.value.code, refused.value.name, refused.value.at) == ("E3", "NotOnNetwork", "10.1.0.0/24")
+    with pytest.raises(LineRefused, match="3.3.3.3 is on 10.1.0.0/24") as refused:
+        study.cut("r3", "10.2.0.0/24")
+    assert (refused.value.code, refused.value.name, refused.value.at) == ("E3", "NotOnNetwork", "10.2.0.0/24")
+    with pytest.raises(LineRefused, match="without host bits 10.1.0.0/24") as refused:
+        study.cut("r3", "10.1.0.3/24")
+    assert (refused.value.code, refused.value.name) == ("S7", "BadPrefix")
+    with pytest.raises(LineRefused) as refused:
+        study.fail("9.9.9.9")
+    assert (refused.value.code, refused.value.name) == ("E2", "NoRouter")
+
+
 def test_another_baseline(square):
     left = square.study().fail_link("0.0.0.0", "1.1.1.1", "2.2.2.2").save()
     after = type(square)(left)
