@@ -115,12 +115,13 @@ function caretPlace({ field }) {
 
 // ---- what is found, or done
 
-// Edits of the elements of the network, as they are called in their cards, and what takes them back.
+// Edits of the elements of the network, as they are called in their cards, and what takes them back. Those that a card offers without
+// a key are those of another element.
 function actionsNow() {
   const { nodes, edges } = state.graph, actions = [];
   for (const id of [...edges.keys(), ...nodes.keys()]) {
     const title = edges.has(id) ? edgeTitle(edges.get(id), nodes) : nodes.get(id).label;
-    for (const { label, lines } of actionsOf(id)) if (lines) actions.push({ word: `${label.replace(/( from)? the LAN/, (said, from) => from ?? ' LAN')} ${title}`, lines });
+    for (const { label, key, lines } of actionsOf(id)) if (lines && key) actions.push({ word: `${label.replace(' the LAN', ' LAN')} ${title}`, lines });
     const culprit = conditionOf(id) && !edges.get(id)?.isDown ? lineOf(id) : 0;
     if (culprit) actions.push({ word: `Remove line ${culprit}: ${title} is ${conditionOf(id)}`, act: () => editor.remove(culprit) });
   }
