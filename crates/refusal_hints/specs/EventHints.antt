@@ -49,6 +49,7 @@ far_hint db router far =
 
 abbrev pub one_router_advice : Lists → RouterId → EditFault → AdviceValue
 one_router_advice db router fault.NoRouter = advice 1 (anywhere_hint db router)
+one_router_advice db router fault.KeyTaken = advice 1 (codes "the next Designated Router has a network-LSA with that address")
 one_router_advice db router why = limit_advice why
 
 -- `cut ROUTER PREFIX`

@@ -116,6 +116,11 @@ fn one_router_advice<A: Allocator + Copy>(
 {
     match why {
         EditFault::NoRouter => Ok(Advice::at(1, anywhere_hint(alloc, database, router)?)),
+        EditFault::KeyTaken => Advice::of(
+            alloc,
+            1,
+            "the next Designated Router has a network-LSA with that address",
+        ),
         _ => limit_advice(alloc, why),
     }
 }
