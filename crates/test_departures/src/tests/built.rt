@@ -34,7 +34,11 @@ fn database(alloc: Global, text: &str) -> Result<Database, Fail> {
 }
 
 /// The LSA that is in a slot with these changes.
-fn lsa_after<'a>(database: &'a Database, changes: &'a [SlotChange], slot: SlotId) -> Option<&'a Lsa> {
+fn lsa_after<'a>(
+    database: &'a Database,
+    changes: &'a [SlotChange],
+    slot: SlotId,
+) -> Option<&'a Lsa> {
     for change in changes {
         if change.slot() == slot {
             return change.lsa();
