@@ -17,10 +17,10 @@ module _ (db : Lists) (event : Departure) (area : AreaId) (lsa : List ℕ) where
 
   -- an LSA of the router that fails
   pub failed : is_left db event area lsa ≡ false → is_of_failed event lsa ≡ true → area_lsa_after db event area lsa ≡ becomes None
-  failed no is = cond-false _ _ _ no ∙ cond-true _ _ _ is
+  failed stays is = cond-false _ _ _ stays ∙ cond-true _ _ _ is
 
   -- each other one
   pub other : (networks : List (List ℕ)) → networks ≡ networks_left db event area → is_left db event area lsa ≡ false → is_of_failed event lsa ≡ false
       → area_lsa_after db event area lsa ≡ router_lsa_after db event area networks lsa
-  other networks are no none =
-      cond-false _ _ _ no ∙ cond-false _ _ _ none ∙ ap (λ (ns : List (List ℕ)). router_lsa_after db event area ns lsa) (sym are)
+  other networks are stays lives =
+      cond-false _ _ _ stays ∙ cond-false _ _ _ lives ∙ ap (λ (ns : List (List ℕ)). router_lsa_after db event area ns lsa) (sym are)

@@ -60,7 +60,6 @@ fn all_zero(counts: &[usize]) -> bool
 }
 
 /// Whether no area has a network that the router leaves.
-#[tactic(auto, using(crate::proofs::Refusals::nothing_counted))]
 fn leaves_nothing<A: Allocator + Copy>(
     database: &Database<A>,
     event: &Departure,

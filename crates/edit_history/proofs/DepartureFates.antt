@@ -58,7 +58,7 @@ module _ (d : Slots) (event : Departure) (changes : List SlotChangeData) (items 
 
   -- there is no place for an LSA
   pub key_taken : swaps_fit d items ≡ false → IsRefusalOf d (Departs event) KeyTaken
-  key_taken no other = ap (rule_unless (lists_of d) event) none_refused ∙ cond-false _ _ _ (sym same_fit ∙ no)
+  key_taken crowded other = ap (rule_unless (lists_of d) event) none_refused ∙ cond-false _ _ _ (sym same_fit ∙ crowded)
 
 pub departure_refused : (d : Slots) (event : Departure) (fault : DepartureFault) → IsRefusal fault (departed (lists_of d) event)
     → IsRefusalOf d (Departs event) (departure_refusal fault)

@@ -55,7 +55,7 @@ happening_planned d event (OfLinks e) items sound is (changes, are, made) =
     (made ∙ ap (map swap_by) are.slots ∙ all_swapped (outcome_of (lists_of d) are.edit) 0 d)
 happening_planned d event (Departs e) items sound is (changes, are, made, fit) =
     planned_here d (of_event event) _ _ items (event_ruled (lists_of d) event (Departs e) is ∙ departure_ruled d e changes items are made fit)
-    (departure_carried_out d e changes items sound are made fit) (departure_made d e changes items are made)
+    (departure_carried_out d e changes items are made sound fit) (departure_made d e changes items are made)
 
 -- ---- refusals
 

@@ -46,17 +46,17 @@ module _ (d : Slots) where
   pub one_passed : (ss : List SwapData) (i next : ℕ) (s : SwapData) (later : List SwapData) (b : Bool) → i < length ss → next ≡ suc i → s ≡ get_or ss i s
       → later ≡ drop (suc i) ss → b ≡ keeps_apart s later → b ≡ true → apart_from ss i ≡ are_apart (map (planned_change d) ss)
       → apart_from ss next ≡ are_apart (map (planned_change d) ss)
-  one_passed ss i next s later b below follows here follow is yes so_far =
+  one_passed ss i next s later b below follows here follow is holds so_far =
       ap (apart_from ss) follows
-      ∙ sym (ap (λ (t : Bool). t && apart_from ss (suc i)) yes)
+      ∙ sym (ap (λ (t : Bool). t && apart_from ss (suc i)) holds)
       ∙ sym (unrolled ss i s later b below here follow is) ∙ so_far
 
   -- one does not
   pub one_shares : (ss : List SwapData) (i : ℕ) (s : SwapData) (later : List SwapData) (b : Bool) → i < length ss → s ≡ get_or ss i s
       → later ≡ drop (suc i) ss → b ≡ keeps_apart s later → b ≡ false → apart_from ss i ≡ are_apart (map (planned_change d) ss)
       → false ≡ are_apart (map (planned_change d) ss)
-  one_shares ss i s later b below here follow is no so_far =
-      sym (ap (λ (t : Bool). t && apart_from ss (suc i)) no) ∙ sym (unrolled ss i s later b below here follow is) ∙ so_far
+  one_shares ss i s later b below here follow is fails so_far =
+      sym (ap (λ (t : Bool). t && apart_from ss (suc i)) fails) ∙ sym (unrolled ss i s later b below here follow is) ∙ so_far
 
   -- all do
   pub all_passed : (ss : List SwapData) (i : ℕ) → length ss ≤ i → apart_from ss i ≡ are_apart (map (planned_change d) ss)

@@ -23,7 +23,7 @@ use Rattle.edit_history.specs.Rules.{Fate, stays, removed, rewritten, Fates, by_
 use Rattle.edit_history.specs.Exchange.{SwapData}
 use Rattle.edit_history.specs.Fitting.{is_like, has_free_key, has_place, fits, is_rekeyed, share_key, are_apart, all_fit}
 use Rattle.edit_history.specs.steps.Plans.{slot_of, swaps_from}
-use Rattle.edit_history.proofs.FatesBySlot.{with_section, changed_in, slot_mid, slot_after, accepted_at, IsPassed, Turn, Starts, walked_by, carried_out}
+use Rattle.edit_history.proofs.FatesBySlot.{with_section, changed_in, slot_after, accepted_in, put_in, IsPassed, Turn, Starts, walked_by, carried_out}
 use Rattle.edit_history.proofs.Keys.{only_section}
 use Rattle.edit_history.proofs.Rekeyed.{IsNewTo, rekeyed, full_passed}
 use Rattle.edit_history.proofs.RuleOutcomes.{change}
@@ -38,10 +38,10 @@ any_without p (z ∷ front) back x none =
     or_from (p z) (list_any p (front ++ back)) parts.0 (any_without p front back x parts.1)
 
 any_with : {X : Type 0} (p : X → Bool) (front back : List X) (y : X) → p y ≡ false → list_any p (front ++ back) ≡ false → list_any p (front ++ y ∷ back) ≡ false
-any_with p [] back y no none = or_from (p y) (list_any p back) no none
-any_with p (z ∷ front) back y no none =
+any_with p [] back y lacks none = or_from (p y) (list_any p back) lacks none
+any_with p (z ∷ front) back y lacks none =
     let parts = or_parts (p z) (list_any p (front ++ back)) none in
-    or_from (p z) (list_any p (front ++ y ∷ back)) parts.0 (any_with p front back y no parts.1)
+    or_from (p z) (list_any p (front ++ y ∷ back)) parts.0 (any_with p front back y lacks parts.1)
 
 any_at : {X : Type 0} (p : X → Bool) (front back : List X) (x : X) → list_any p (front ++ x ∷ back) ≡ false
     → (list_any p front ≡ false) × ((p x ≡ false) × (list_any p back ≡ false))
@@ -155,7 +155,7 @@ module _ (fates : Fates) (db : Lists) where
     removal_passed x sound places apart free =
         passed_with None (put_in low high area pre post x None tt sound) places apart
         (free_kept (full pre ++ x ∷ full post) (full pre ++ full post) never
-        (λ c no. free_by (full pre ++ x ∷ full post) (full pre ++ full post) c.old c.new
+        (λ c lacks. free_by (full pre ++ x ∷ full post) (full pre ++ full post) c.old c.new
         (λ n is none. any_without (has_key (key_of n)) (full pre) (full post) x none))
         (changed_in fates area post) (never_any (changed_in fates area post)) free)
 
@@ -168,7 +168,7 @@ module _ (fates : Fates) (db : Lists) where
       same_passed key =
           passed_with (Some new) (put_in low high area pre post x (Some new) (record { accepted = accepted; key = key; size = size }) sound) places apart
           (free_kept (full pre ++ x ∷ full post) (full pre ++ new ∷ full post) never
-          (λ c no. free_by (full pre ++ x ∷ full post) (full pre ++ new ∷ full post) c.old c.new
+          (λ c lacks. free_by (full pre ++ x ∷ full post) (full pre ++ new ∷ full post) c.old c.new
           (λ n is none. any_with (has_key (key_of n)) (full pre) (full post) new
           (ap (λ (k : Key). same_key k (key_of n)) key ∙ (any_at (has_key (key_of n)) (full pre) (full post) x none).1.0)
           (any_without (has_key (key_of n)) (full pre) (full post) x none)))
@@ -183,8 +183,8 @@ module _ (fates : Fates) (db : Lists) where
           (rekeyed low high area pre post x new
           (record { accepted = accepted; kind = kind; size = size; before = parts.0; after = parts.1.1 }) sound) places apart
           (free_kept (full pre ++ x ∷ full post) (full pre ++ new ∷ full post) (λ (later : Change). share_key (Some new) later.new)
-          (λ c no. free_by (full pre ++ x ∷ full post) (full pre ++ new ∷ full post) c.old c.new
-          (λ n is none. any_with (has_key (key_of n)) (full pre) (full post) new (ap (share_key (Some new)) (sym is) ∙ no)
+          (λ c lacks. free_by (full pre ++ x ∷ full post) (full pre ++ new ∷ full post) c.old c.new
+          (λ n is none. any_with (has_key (key_of n)) (full pre) (full post) new (ap (share_key (Some new)) (sym is) ∙ lacks)
           (any_without (has_key (key_of n)) (full pre) (full post) x none)))
           (changed_in fates area post) alone free)
 

@@ -10,7 +10,7 @@ ghost use Rattle.edit_history.specs.steps.Happening.{AreSwapsOf, IsRefusalOf, fa
 
 use crate::fault::EditFault;
 use crate::fitting::swaps_fit;
-use crate::happening::{Happening, happening};
+use crate::happening::{Happening, what_happens};
 use crate::swap::Swap;
 use departures::{DepartureFault, departure_changes};
 use edit_script::Event;
@@ -145,7 +145,7 @@ pub(crate) fn plan_event<A: Allocator + Copy>(
 {
     // Its invariant is needed after each swap too.
     database.assert_valid();
-    let Ok(happens) = happening(database, event) else {
+    let Ok(happens) = what_happens(database, &event) else {
         return Err(EditFault::OutOfMemory);
     };
     match swaps_of(database, happens) {

@@ -1,7 +1,8 @@
 //! Whether a database has a place for the LSAs that swaps bring.
 
-ghost use Rattle.std.specs.Prelude.{◌≡◌, ◌&&◌, not, map};
+ghost use Rattle.std.specs.Prelude.{◌≡◌, ◌==◌, ◌&&◌, ◌+◌, ◌<◌, not, drop, length, map};
 ghost use Rattle.std.specs.List.{list_all, list_any};
+ghost use Rattle.lsa_codec.specs.Fields.{kind_of};
 ghost use Rattle.lsdb.specs.Lists.{has_key, lsas_of};
 ghost use Rattle.lsdb.specs.Slots.{lists_of};
 ghost use Rattle.edit_history.specs.Fitting.{are_apart, fits, has_free_key, is_like, is_rekeyed, share_key};
@@ -20,13 +21,20 @@ fn is_taken<A: Allocator + Copy>(database: &Database<A>, section: Section, key: 
     database.find(section, key).is_some()
 }
 
+/// Whether an LSA has the LS type of another.
+fn has_type_of<A: Allocator + Copy>(old: &Lsa<A>, new: &Lsa<A>) -> bool
+    ensures { result ≡ (kind_of new.now == kind_of old.now) }
+{
+    new.key().kind == old.key().kind
+}
+
 /// Whether an LSA is no longer than another, and has its LS type.
 #[tactic(auto, using(event_lsas::proofs::ReplacementLemmas::accepted_true))]
 fn is_like<A: Allocator + Copy>(old: &Lsa<A>, new: &Lsa<A>) -> bool
     ensures { result ≡ is_like old.now new.now }
 {
     let (bytes, old_bytes) = (new.bytes(), old.bytes());
-    bytes.len() <= old_bytes.len() && new.key().kind == old.key().kind
+    bytes.len() <= old_bytes.len() && has_type_of(old, new)
 }
 
 /// Whether an LSA has the key of another, or one that no LSA of a section has.
@@ -110,12 +118,21 @@ fn is_apart<A: Allocator + Copy>(
     !(is_rekeyed(database, swap) && any_shares(swap, later))
 }
 
+/// The swaps after one.
+fn after<A: Allocator>(swaps: &[Swap<A>], index: usize) -> &[Swap<A>]
+    requires { index < length swaps.now }
+    ensures { result.now ≡ drop (index + 1) swaps.now }
+{
+    &swaps[index + 1..]
+}
+
 /// Whether no swap brings a key that a swap before it gave an LSA.
 fn are_apart<A: Allocator + Copy>(database: &Database<A>, swaps: &[Swap<A>]) -> bool
     ensures { result ≡ are_apart (map (planned_change database.now) swaps.now) }
 {
     for i in 0..swaps.len() {
-        if !is_apart(database, &swaps[i], &swaps[i + 1..]) {
+        let later = after(swaps, i);
+        if !is_apart(database, &swaps[i], later) {
             return false;
         }
     }

@@ -2,11 +2,13 @@
 
 ghost use Rattle.std.specs.Prelude.{◌≡◌, IfOk};
 ghost use Rattle.lsdb.specs.Slots.{lists_of};
+ghost use Rattle.network_departures.specs.declared.departure.Departure.TheVariants.{LeavesNetwork};
+ghost use Rattle.edit_history.specs.declared.happening.Happening.TheVariants.{Departs};
 ghost use Rattle.edit_history.specs.Events.{cost_event, happening_of, is_neighbor};
 
 use edit_script::Event;
 use event_links::{LinkEnd, LinkEvent, has_links_to};
-use lsa_codec::{Addr, RouterId};
+use lsa_codec::{Addr, Prefix, RouterId};
 use lsdb::Database;
 use network_departures::Departure;
 use std::alloc::{AllocError, Allocator};
@@ -62,39 +64,46 @@ fn cost_event<A: Allocator + Copy>(
     })
 }
 
-/// What an event is.
-pub(crate) fn happening<A: Allocator + Copy>(
-    database: &Database<A>,
-    event: Event,
-) -> Result<Happening, AllocError>
-    ensures { IfOk result (λ happens. happens ≡ happening_of (lists_of database.now) event) }
+/// A router leaves the transit networks with a prefix.
+fn leaving(router: RouterId, net: Prefix) -> Happening
+    ensures { result ≡ Departs (LeavesNetwork router net) }
 {
-    let happens = match event {
+    Happening::Departs(Departure::LeavesNetwork { router, net })
+}
+
+/// What an event is.
+pub(crate) fn what_happens<A: Allocator + Copy>(
+    database: &Database<A>,
+    event: &Event,
+) -> Result<Happening, AllocError>
+    ensures { IfOk result (λ happens. happens ≡ happening_of (lists_of database.now) event.now) }
+{
+    match *event {
         Event::Cut {
             router,
             neighbor,
             address: None,
-        } => Happening::OfLinks(LinkEvent::CutLinks { router, neighbor }),
+        } => Ok(Happening::OfLinks(LinkEvent::CutLinks { router, neighbor })),
         Event::Cut {
             router,
             neighbor,
             address: Some(address),
-        } => Happening::OfLinks(LinkEvent::CutLink(LinkEnd {
+        } => Ok(Happening::OfLinks(LinkEvent::CutLink(LinkEnd {
             router,
             neighbor,
             address,
-        })),
-        Event::Leave { router, prefix } => {
-            Happening::Departs(Departure::LeavesNetwork { router, net: prefix })
-        }
+        }))),
+        Event::Leave { router, prefix } => Ok(leaving(router, prefix)),
         Event::SetCost {
             router,
             far,
             metric,
             both,
-        } => Happening::OfLinks(cost_event(database, router, far, metric, both)?),
-        Event::Drain { router } => Happening::OfLinks(LinkEvent::Drain { router }),
-        Event::Fail { router } => Happening::Departs(Departure::Fails { router }),
-    };
-    Ok(happens)
+        } => {
+            let event = cost_event(database, router, far, metric, both)?;
+            Ok(Happening::OfLinks(event))
+        }
+        Event::Drain { router } => Ok(Happening::OfLinks(LinkEvent::Drain { router })),
+        Event::Fail { router } => Ok(Happening::Departs(Departure::Fails { router })),
+    }
 }

@@ -1,5 +1,5 @@
 -- The swaps of the slots that an event changes, and its refusals.
-use Rattle.std.specs.Prelude.{◌≡◌, ◌≢◌, true, List, map, Err}
+use Rattle.std.specs.Prelude.{◌≡◌, ◌≢◌, Bool, true, List, map, Err}
 use Rattle.lsdb.specs.Slots.{Slots, lists_of}
 use Rattle.event_lsas.specs.LinkEvents.{AreChanges}
 use Rattle.event_lsas.specs.Outcomes.{SlotChangeData}
