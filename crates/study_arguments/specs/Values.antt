@@ -1,5 +1,6 @@
 -- What one word of a line means: a number, an address, a prefix, a link, a word of the language; or what is wrong with it.
-use Rattle.std.specs.Prelude.{ℕ, Option, Some, None, Result, Ok, Err, ok_or, bytes_eq, codes, if◌then◌else◌}
+use Rattle.std.specs.Prelude.{ℕ, ◌==◌, Bool, Option, Some, None, Result, Ok, Err, ok_or, bytes_eq, codes, if◌then◌else◌}
+use Rattle.std.specs.List.{list_any}
 use Rattle.std.specs.Option.{option_or}
 use Rattle.lsa_codec.specs.Prefix.{Net}
 use Rattle.lsa_codec.specs.declared.address.Addr.{Addr}
@@ -71,6 +72,10 @@ abbrev pub metric_type : Means MetricType
 metric_type names word = of_script (plan.metric_type word)
 
 -- ---- prefixes and links
+
+-- a word that is meant as a prefix: it has a `/` (47)
+abbrev pub is_like_prefix : Word → Bool
+is_like_prefix word = list_any (λ byte. byte == 47) word
 
 abbrev pub prefix : Means Net
 prefix names word = of_script (plan.prefix word)

@@ -29,6 +29,6 @@ pub use arguments::{
 };
 pub use fault::{Fault, FaultKind, ParseError};
 pub use language::Ends;
-pub use link::LinkName;
+pub use link::{LinkName, is_like_prefix};
 pub use lists::{neighbors, one_or_more};
 pub use position::{Position, end, first_word, next};

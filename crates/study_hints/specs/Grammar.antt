@@ -44,9 +44,10 @@ command_text (See see.Microloops) = codes "microloops [COUNT]"
 command_text (See see.Audit) = codes "audit [KIND]"
 command_text (See see.Log) = codes "log"
 command_text (See see.Help) = codes "help [WORD]"
-command_text (Event event.Cut) = codes "cut ROUTER NEIGHBOR [ADDRESS]"
+command_text (Event event.Cut) = codes "cut ROUTER (NEIGHBOR [ADDRESS] | PREFIX)"
 command_text (Event event.SetCost) = codes "set-cost ROUTER NEIGHBOR METRIC [both]"
 command_text (Event event.Drain) = codes "drain ROUTER"
+command_text (Event event.Fail) = codes "fail ROUTER"
 command_text (Event event.Back) = codes "back COUNT"
 command_text Expect = codes "expect [not] CONDITION"
 
@@ -84,9 +85,10 @@ roles_of (See see.Microloops) = role.Count ∷ []
 roles_of (See see.Audit) = role.Kind ∷ []
 roles_of (See see.Log) = []
 roles_of (See see.Help) = role.Word ∷ []
-roles_of (Event event.Cut) = role.Router ∷ role.Neighbor ∷ role.Address ∷ []
+roles_of (Event event.Cut) = role.Router ∷ role.FarEnd ∷ role.Address ∷ []
 roles_of (Event event.SetCost) = role.Router ∷ role.Neighbor ∷ role.Cost ∷ role.Both ∷ []
 roles_of (Event event.Drain) = role.Router ∷ []
+roles_of (Event event.Fail) = role.Router ∷ []
 roles_of (Event event.Back) = role.Count ∷ []
 roles_of Expect = []
 

@@ -54,9 +54,10 @@ command_meaning (See see.Microloops) = codes "what may loop while routers change
 command_meaning (See see.Audit) = codes "what the answers may not be trusted for; with a kind each place"
 command_meaning (See see.Log) = codes "the edits that are done, as lines"
 command_meaning (See see.Help) = codes "the words, or what one means"
-command_meaning (Event event.Cut) = codes "the links of two routers go at both ends, with their stubs; one, by an address"
+command_meaning (Event event.Cut) = codes "links of two routers go with their stubs, one by an address; a router leaves a network"
 command_meaning (Event event.SetCost) = codes "sets the cost of the interfaces to a neighbor, or of that with an address"
 command_meaning (Event event.Drain) = codes "the links of a router to routers and networks cost 65535"
+command_meaning (Event event.Fail) = codes "a router goes, with the links to it; others become Designated Router"
 command_meaning (Event event.Back) = codes "takes the last edits and events back"
 command_meaning Expect = codes "answers ok where the condition holds, else failed and what was found"
 

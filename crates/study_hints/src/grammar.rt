@@ -63,9 +63,10 @@ fn event_command_text(word: EventWord) -> &'static str
     ensures { result.now ≡ command_text (Event word) }
 {
     match word {
-        EventWord::Cut => "cut ROUTER NEIGHBOR [ADDRESS]",
+        EventWord::Cut => "cut ROUTER (NEIGHBOR [ADDRESS] | PREFIX)",
         EventWord::SetCost => "set-cost ROUTER NEIGHBOR METRIC [both]",
         EventWord::Drain => "drain ROUTER",
+        EventWord::Fail => "fail ROUTER",
         EventWord::Back => "back COUNT",
     }
 }
@@ -146,9 +147,10 @@ fn event_roles_of(word: EventWord) -> &'static [Role]
     ensures { result.now ≡ roles_of (Event word) }
 {
     match word {
-        EventWord::Cut => &[Role::Router, Role::Neighbor, Role::Address],
+        EventWord::Cut => &[Role::Router, Role::FarEnd, Role::Address],
         EventWord::SetCost => &[Role::Router, Role::Neighbor, Role::Cost, Role::Both],
         EventWord::Drain => &[Role::Router],
+        EventWord::Fail => &[Role::Router],
         EventWord::Back => &[Role::Count],
     }
 }

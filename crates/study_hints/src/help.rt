@@ -34,6 +34,7 @@ pub fn commands() -> &'static [StudyWord]
         StudyWord::Event(EventWord::Cut),
         StudyWord::Event(EventWord::SetCost),
         StudyWord::Event(EventWord::Drain),
+        StudyWord::Event(EventWord::Fail),
         StudyWord::Event(EventWord::Back),
         StudyWord::See(SeeWord::Routers),
         StudyWord::See(SeeWord::Links),
@@ -111,12 +112,13 @@ fn event_command_meaning(word: EventWord) -> &'static str
 {
     match word {
         EventWord::Cut => {
-            "the links of two routers go at both ends, with their stubs; one, by an address"
+            "links of two routers go with their stubs, one by an address; a router leaves a network"
         }
         EventWord::SetCost => {
             "sets the cost of the interfaces to a neighbor, or of that with an address"
         }
         EventWord::Drain => "the links of a router to routers and networks cost 65535",
+        EventWord::Fail => "a router goes, with the links to it; others become Designated Router",
         EventWord::Back => "takes the last edits and events back",
     }
 }

@@ -2,13 +2,13 @@
 
 ghost use Rattle.std.specs.Prelude.{◌≡◌};
 ghost use Rattle.network_names.specs.Names.{stands_for};
-ghost use Rattle.study_hints.specs.Roles.{fits};
+ghost use Rattle.study_hints.specs.Roles.{fits, is_far_end};
 
 use edit_script::MetricType;
 use lsa_codec::{Addr, AreaId, Metric, Prefix, RouterId};
 use network_names::Names;
 use std::alloc::Allocator;
-use study_arguments::{Argument, Dotted, Ends, LinkName};
+use study_arguments::{Argument, Dotted, Ends, LinkName, is_like_prefix};
 use study_words::{AuditKind, StudyWord};
 
 /// What a word of a line is to be.
@@ -20,6 +20,8 @@ pub(crate) enum Role {
     Router,
     /// A router at the far end of a link.
     Neighbor,
+    /// What a router is cut from: one at the far end of a link, or the prefix of a network.
+    FarEnd,
     /// A link, by its number or by what names it.
     Link,
     /// An address.
@@ -48,6 +50,16 @@ pub(crate) enum Role {
     Both,
 }
 
+/// Whether a word names what a router may be cut from.
+fn is_far_end<A: Allocator + Copy>(names: &Names<'_, A>, word: &[u8]) -> bool
+    ensures { result ≡ is_far_end (stands_for names.now) word.now }
+{
+    if is_like_prefix(word) {
+        return Prefix::read(names, word).is_ok();
+    }
+    RouterId::read(names, word).is_ok()
+}
+
 impl Role {
     /// Whether a word may stand in this role.
     pub(crate) fn fits<A: Allocator + Copy>(self, names: &Names<'_, A>, word: &[u8]) -> bool
@@ -56,6 +68,7 @@ impl Role {
         match self {
             Role::Area => AreaId::read(names, word).is_ok(),
             Role::Router | Role::Neighbor => RouterId::read(names, word).is_ok(),
+            Role::FarEnd => is_far_end(names, word),
             Role::Link => LinkName::read(names, word).is_ok(),
             Role::Address => Addr::read(names, word).is_ok(),
             Role::Prefix => Prefix::read(names, word).is_ok(),
