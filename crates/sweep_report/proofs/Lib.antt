@@ -1,0 +1,4 @@
+mod Restored
+mod Outcomes
+mod LoopCounts
+mod Determined

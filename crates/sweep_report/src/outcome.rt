@@ -1,0 +1,75 @@
+//! What comes of one failure.
+
+ghost use Rattle.std.specs.Prelude.{◌≡◌, IfOk, OnOk};
+ghost use Rattle.lsdb.specs.Slots.{lists_of};
+ghost use Rattle.edit_history.specs.Exchange.{CanUndo, undone_slots};
+ghost use Rattle.sweep_report.specs.Sweeps.{AreCounts, IsOutcome};
+
+use crate::counts::FailureCounts;
+use edit_history::{EditFault, Record, apply, revert};
+use edit_script::Edit;
+use lsdb::Database;
+use spf::Meter;
+use std::alloc::{AllocError, Allocator};
+
+/// What comes of a failure.
+#[derive(Clone, Copy)]
+pub enum Outcome {
+    /// What is lost after it, and the loops.
+    Counted(FailureCounts),
+    /// The edit is refused, as it is where it is not known which ends belong to one link.
+    Refused(EditFault),
+}
+
+/// A failure, and what comes of it.
+#[derive(Clone, Copy)]
+pub struct FailureLine {
+    /// The failure.
+    pub edit: Edit,
+    /// What comes of it.
+    pub outcome: Outcome,
+}
+
+/// The counts of a copy of a database on which an edit was carried out, which is taken back then.
+fn counted<A: Allocator + Copy>(
+    alloc: A,
+    database: &Database<A>,
+    copy: &mut Database<A>,
+    record: &mut Record<A>,
+    meter: &mut Meter,
+) -> Result<FailureCounts, AllocError>
+    requires { CanUndo copy.old record.old.swaps }
+    ensures counts { IfOk result (AreCounts (lists_of database.now) (lists_of copy.old)) }
+    ensures reverted { OnOk result (copy.new ≡ undone_slots copy.old record.old.swaps) }
+{
+    let counts = FailureCounts::between(alloc, database, copy, meter)?;
+    revert(copy, record);
+    Ok(counts)
+}
+
+/// What comes of a failure by itself. The copy of the database has the same LSAs as the database,
+/// and has them again then.
+///
+/// # Errors
+///
+/// Memory ran out. Then the copy is of no use any more.
+pub(crate) fn outcome_of<A: Allocator + Copy>(
+    alloc: A,
+    database: &Database<A>,
+    copy: &mut Database<A>,
+    edit: Edit,
+    meter: &mut Meter,
+) -> Result<Outcome, AllocError>
+    requires { lists_of copy.old ≡ lists_of database.now }
+    ensures outcome { IfOk result (IsOutcome (lists_of database.now) edit) }
+    ensures again { OnOk result (lists_of copy.new ≡ lists_of database.now) }
+{
+    match apply(copy, &edit) {
+        Ok(mut record) => {
+            let counts = counted(alloc, database, copy, &mut record, meter)?;
+            Ok(Outcome::Counted(counts))
+        }
+        Err(EditFault::OutOfMemory) => Err(AllocError),
+        Err(fault) => Ok(Outcome::Refused(fault)),
+    }
+}

@@ -1,0 +1,62 @@
+//! What each of many failures does by itself.
+
+ghost use Rattle.std.specs.Prelude.{◌≡◌, IfOk};
+ghost use Rattle.lsdb.specs.Slots.{lists_of};
+ghost use Rattle.sweep_report.specs.Failures.{failures};
+ghost use Rattle.sweep_report.specs.Sweeps.{AreLines};
+
+use crate::kind::{FailureKind, failures};
+use crate::outcome::{FailureLine, outcome_of};
+use edit_script::Edit;
+use lsa_codec::AreaId;
+use lsdb::Database;
+use spf::Meter;
+use std::alloc::{AllocError, Allocator};
+
+/// What each of some failures does to a database by itself, in their order. The meter counts the
+/// trees of four tables for each router and each failure that is not refused.
+///
+/// It takes the memory of one copy of the database, and of the tables of one failure at a time.
+///
+/// # Errors
+///
+/// Memory ran out.
+pub fn lines_of<A: Allocator + Copy>(
+    alloc: A,
+    database: &Database<A>,
+    edits: &[Edit],
+    meter: &mut Meter,
+) -> Result<Vec<FailureLine, A>, AllocError>
+    ensures { IfOk result
+        (λ lines. AreLines (lists_of database.now) edits.now lines.items) }
+{
+    let mut copy = database.clone_of()?;
+    let mut lines = Vec::new(alloc);
+    for edit in edits {
+        let outcome = outcome_of(alloc, database, &mut copy, *edit, meter)?;
+        lines.push(FailureLine {
+            edit: *edit,
+            outcome,
+        })?;
+    }
+    Ok(lines)
+}
+
+/// What each failure of a kind does to a database by itself: all failures, or those within an area.
+///
+/// # Errors
+///
+/// Memory ran out.
+pub fn sweep<A: Allocator + Copy>(
+    alloc: A,
+    database: &Database<A>,
+    kind: FailureKind,
+    within: Option<AreaId>,
+    meter: &mut Meter,
+) -> Result<Vec<FailureLine, A>, AllocError>
+    ensures { IfOk result (λ lines. AreLines (lists_of database.now)
+        (failures kind within (lists_of database.now)) lines.items) }
+{
+    let edits = failures(alloc, database, kind, within)?;
+    lines_of(alloc, database, &edits, meter)
+}

@@ -1,0 +1,3 @@
+//! What single failures do to small networks.
+
+mod lines;
