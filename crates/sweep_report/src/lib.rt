@@ -25,7 +25,7 @@ mod sweeping;
 mod laws;
 
 pub use counts::FailureCounts;
-pub use kind::{FailureKind, failures};
+pub use kind::failures;
 pub use laws::{lines_are_determined, lines_join};
 pub use outcome::{FailureLine, Outcome};
 pub use sweeping::{lines_of, sweep};
