@@ -1,3 +1,4 @@
 pub mod Lsas
 pub mod Differences
 pub mod Findings
+pub mod Sweeps
