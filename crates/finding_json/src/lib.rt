@@ -1,4 +1,5 @@
-//! The JSON of how databases differ, of what audits find, and of what failures take away (RFC 8259).
+//! The JSON of how databases differ, of what audits find, and of what failures take away (RFC
+//! 8259).
 //!
 //! [`push_differences`] adds the reply to `differences`, [`push_findings`] that to `audit`, and
 //! [`push_places`] that to `audit` with a kind, and [`push_sweep`] that to `sweep`. [`NamedLsa`] is

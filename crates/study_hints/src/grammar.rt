@@ -51,7 +51,7 @@ fn see_command_text(word: SeeWord) -> &'static str
         SeeWord::Gone => "gone",
         SeeWord::Loops => "loops",
         SeeWord::Microloops => "microloops [COUNT]",
-        SeeWord::Sweep => "sweep links | networks | routers | all [within AREA]",
+        SeeWord::Sweep => "sweep (links | networks | routers | all) [within AREA]",
         SeeWord::Audit => "audit [KIND]",
         SeeWord::Log => "log",
         SeeWord::Help => "help [WORD]",

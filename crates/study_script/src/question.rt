@@ -46,7 +46,8 @@ pub enum Question {
     /// `microloops [COUNT]`: what may loop while routers change over the last edits; 1 where COUNT,
     /// which is 0 to 4294967295, is left out.
     Microloops(Option<u32>),
-    /// `sweep links | networks | routers | all [within AREA]`: what each single failure takes away.
+    /// `sweep (links | networks | routers | all) [within AREA]`: what each single failure takes
+    /// away.
     Sweep {
         /// What fails.
         kind: FailureKind,

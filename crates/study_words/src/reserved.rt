@@ -11,8 +11,8 @@ use crate::route_kind::RouteKind;
 use crate::study_word::StudyWord;
 use crate::word::Word;
 
-/// Whether a word stands in questions, events or expectations, beside the words of conditions, kinds
-/// and comparisons.
+/// Whether a word stands in questions, events or expectations, beside the words of conditions,
+/// kinds and comparisons.
 #[tactic(auto, unfolding(crate::specs::Reserved::is_particle))]
 fn is_particle(word: &[u8]) -> bool
     ensures { result ≡ is_particle word.now }

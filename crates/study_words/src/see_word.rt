@@ -31,7 +31,8 @@ pub enum SeeWord {
     Loops,
     /// `microloops [COUNT]`: what may loop while routers change over the last edits.
     Microloops,
-    /// `sweep links | networks | routers | all [within AREA]`: what each single failure takes away.
+    /// `sweep (links | networks | routers | all) [within AREA]`: what each single failure takes
+    /// away.
     Sweep,
     /// `audit [KIND]`: what the answers may not be trusted for; with a kind each place.
     Audit,

@@ -162,7 +162,7 @@ const LINES: &[(&str, &str)] = &[
     ),
     (
         "sweep all within",
-        "script S3 MissingWord sweep (sweep links | networks | routers | all [within AREA])",
+        "script S3 MissingWord sweep (sweep (links | networks | routers | all) [within AREA])",
     ),
     ("audit nasa", "script S9 BadWord nasa (did you mean nssa)"),
     ("audit 1", "script S9 BadWord 1 (see help)"),
