@@ -1,19 +1,14 @@
--- How deep differences, findings and failures nest.
+-- How deep differences and findings nest.
 use Rattle.std.proofs.Common.{◌≤◌, List, [], ◌∷◌, arith}
-use Rattle.json.specs.Tree.{depth, members_depth}
+use Rattle.json.specs.Tree.{depth}
 use Rattle.lsa_differences.specs.declared.line.DifferenceLine.{DifferenceLine}
 use Rattle.lsa_differences.specs.declared.line.DifferenceLine.TheVariants as line
 use Rattle.audit_places.specs.Places.{PlaceValue}
 use Rattle.audit_report.specs.Findings.{FindingValue}
-use Rattle.sweep_report.specs.declared.outcome.FailureLine.{FailureLine}
-use Rattle.sweep_report.specs.declared.outcome.Outcome.{Outcome}
-use Rattle.sweep_report.specs.declared.outcome.Outcome.TheVariants.{Counted, Refused}
-use Rattle.study_json.specs.Fields.{members_by}
 use Rattle.study_json.specs.Leaves.{area_json}
 use Rattle.study_documents.proofs.NestingLemmas.{option_shallow}
 use Rattle.finding_json.specs.Differences.{difference_json}
 use Rattle.finding_json.specs.Findings.{first_json, found_json}
-use Rattle.finding_json.specs.Sweeps.{failure_json, outcome_fields}
 use Rattle.finding_json.proofs.NestingLemmas.{lsa_shallow}
 
 pub difference_shallow : (d : DifferenceLine) → depth (difference_json d) ≤ 2
@@ -26,10 +21,3 @@ first_shallow (place ∷ places) = omega arith
 
 pub found_shallow : (f : FindingValue) → depth (found_json f) ≤ 1
 found_shallow f = omega (arith, first_shallow f.places)
-
-outcome_shallow : (outcome : Outcome) → members_depth (members_by (outcome_fields outcome)) ≤ 1
-outcome_shallow (Counted counts) = omega arith
-outcome_shallow (Refused fault) = omega arith
-
-pub failure_shallow : (line : FailureLine) → depth (failure_json line) ≤ 2
-failure_shallow line = omega (arith, outcome_shallow line.outcome)

@@ -1,4 +1,3 @@
 pub mod Lsas
 pub mod Differences
 pub mod Findings
-pub mod Sweeps

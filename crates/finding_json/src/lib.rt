@@ -1,9 +1,8 @@
-//! The JSON of how databases differ, of what audits find, and of what failures take away (RFC
-//! 8259).
+//! The JSON of how databases differ, and of what audits find (RFC 8259).
 //!
 //! [`push_differences`] adds the reply to `differences`, [`push_findings`] that to `audit`, and
-//! [`push_places`] that to `audit` with a kind, and [`push_sweep`] that to `sweep`. [`NamedLsa`] is
-//! what names an LSA. Routers stand by their Router IDs, in texts too.
+//! [`push_places`] that to `audit` with a kind. [`NamedLsa`] is what names an LSA. Routers stand by
+//! their Router IDs, in texts too.
 #![tactic(auto)]
 
 // Differences.
@@ -14,14 +13,10 @@ mod lsa;
 mod finding;
 mod place;
 
-// Failures.
-mod failure;
-
 // What holds of the definitions.
 mod laws;
 
 pub use difference::push_differences;
-pub use failure::push_sweep;
 pub use finding::push_findings;
 pub use laws::findings_nest_little;
 pub use lsa::NamedLsa;

@@ -57,10 +57,11 @@ fn within_advice<A: Allocator + Copy>(
 ) -> Result<Advice<A>, AllocError>
     ensures { IfOk result (λ it. it ≡ within_advice situation.now within) }
 {
-    match within {
-        None => Advice::none(alloc),
-        Some(area) => Ok(Advice::at(3, area_hint(alloc, situation.database, area)?)),
-    }
+    let Some(area) = within else {
+        return Advice::none(alloc);
+    };
+    let text = area_hint(alloc, situation.database, area)?;
+    Ok(Advice::at(3, text))
 }
 
 /// Which word of a question is at fault, and what would have been right.

@@ -70,11 +70,10 @@ impl Argument for Limit {
     ghost means = { limit };
 
     fn read<A: Allocator + Copy>(_names: &Names<'_, A>, word: &[u8]) -> Result<Self, FaultKind> {
-        if word == b"within".as_slice() {
-            Ok(Limit::Within)
-        } else {
-            Err(FaultKind::BadWord)
+        if word != b"within".as_slice() {
+            return Err(FaultKind::BadWord);
         }
+        Ok(Limit::Within)
     }
 }
 

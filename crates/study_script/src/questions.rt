@@ -31,15 +31,15 @@ fn sweep_line<'a, A: Allocator + Copy>(
 ) -> Result<Question, Fault<'a>>
     ensures { Is result (sweep_of (stands_for names.now) (words_at line.entry)) }
 {
-    if has_second(line) {
-        let (kind, _, area): (_, Limit, _) = three(names, line)?;
-        return Ok(Question::Sweep {
-            kind,
-            within: Some(area),
-        });
+    if !has_second(line) {
+        let kind = one(names, line)?;
+        return Ok(Question::Sweep { kind, within: None });
     }
-    let kind = one(names, line)?;
-    Ok(Question::Sweep { kind, within: None })
+    let (kind, _, area): (_, Limit, _) = three(names, line)?;
+    Ok(Question::Sweep {
+        kind,
+        within: Some(area),
+    })
 }
 
 /// What a command word of a question and the words after it mean.

@@ -49,7 +49,9 @@ word_found (route kind) = refl
 word_found (audit audit_kind.Nssa) = refl
 word_found (audit kind) = refl
 word_found (failure failure_kind.Links) = refl
-word_found (failure kind) = refl
+word_found (failure failure_kind.Networks) = refl
+word_found (failure failure_kind.Routers) = refl
+word_found (failure failure_kind.All) = refl
 word_found (compare comparison.Equal) = refl
 word_found (compare comparison) = refl
 

@@ -138,10 +138,7 @@ const QUESTIONS: &[(&str, &str)] = &[
     ("loops", "0 See(Loops)"),
     ("microloops", "0 See(Microloops(None))"),
     ("microloops 2", "0 See(Microloops(Some(2)))"),
-    (
-        "sweep links",
-        "0 See(Sweep { kind: Links, within: None })",
-    ),
+    ("sweep links", "0 See(Sweep { kind: Links, within: None })"),
     (
         "@1 sweep all within 0.0.0.1",
         "1 See(Sweep { kind: All, within: Some(AreaId(1)) })",

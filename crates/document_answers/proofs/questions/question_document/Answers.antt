@@ -106,13 +106,6 @@ returns-in-Microloops-clause-document g c =
     (λ (session : Session) d. IsMicroloopsDocument (state session) count (before_last count session) d) c.in-Microloops.is
     (ap (λ (all : Sessions). all c.args.branch) c.in_ok-prepare.ensures.kept) (λ d is. is) c.microloops_document.ensures.document
 
-pub returns-in-Sweep-clause-document : goal.returns-in-Sweep-clause-document
-unfolding IsQuestionDocument
-returns-in-Sweep-clause-document g c =
-    by_database (called c.args.names.now) (lists_of c.args.baseline.now) (λ given. documented given) c.sweep_document.result
-    (λ db d. IsSweepDocument db c.in-Sweep.kind c.in-Sweep.within d) c.in-Sweep.is c.database-now.ensures.state
-    (c.planner-planner.ensures ∙ ap (λ (all : Sessions). all c.args.branch) c.in_ok-prepare.ensures.kept) (λ d is. is) c.sweep_document.ensures
-
 pub returns-in-Audit-clause-document : goal.returns-in-Audit-clause-document
 unfolding IsQuestionDocument
 returns-in-Audit-clause-document g c =
@@ -128,3 +121,10 @@ returns-in-Log-clause-document g c =
     (sessions_of c.args.branches.now c.args.branch) c.args.question.now question.Log c.planner-planner.result.now.session _
     (λ (session : Session) d. IsLogDocument session.done d) c.in-Log.is
     (c.planner-planner.ensures ∙ ap (λ (all : Sessions). all c.args.branch) c.in_ok-prepare.ensures.kept) (λ d is. is) c.log_document.ensures
+
+pub returns-in-Sweep-clause-document : goal.returns-in-Sweep-clause-document
+unfolding IsQuestionDocument
+returns-in-Sweep-clause-document g c =
+    by_database (called c.args.names.now) (lists_of c.args.baseline.now) (λ given. documented given) c.sweep_document.result
+    (λ db d. IsSweepDocument db c.in-Sweep.kind c.in-Sweep.within d) c.in-Sweep.is c.database-now.ensures.state
+    (c.planner-planner.ensures ∙ ap (λ (all : Sessions). all c.args.branch) c.in_ok-prepare.ensures.kept) (λ d is. is) c.sweep_document.ensures

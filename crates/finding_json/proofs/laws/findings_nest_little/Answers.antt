@@ -1,10 +1,8 @@
 use Rattle.std.proofs.Common.{arith}
 use Rattle.finding_json.specs.Differences.{difference_json}
 use Rattle.finding_json.specs.Findings.{found_json, place_json}
-use Rattle.finding_json.specs.Sweeps.{failure_json}
-use Rattle.study_json.specs.Leaves.{area_json}
-use Rattle.study_documents.proofs.NestingLemmas.{array_shallow, option_shallow}
-use Rattle.finding_json.proofs.Nesting.{difference_shallow, failure_shallow, found_shallow}
+use Rattle.study_documents.proofs.NestingLemmas.{array_shallow}
+use Rattle.finding_json.proofs.Nesting.{difference_shallow, found_shallow}
 use Rattle.finding_json.proofs.laws.findings_nest_little.Goals as goal
 
 pub returns-clause-differences : goal.returns-clause-differences
@@ -15,7 +13,3 @@ returns-clause-findings c findings = omega (arith, array_shallow found_json 1 fo
 
 pub returns-clause-places : goal.returns-clause-places
 returns-clause-places c kind places = omega (arith, array_shallow place_json 0 (λ p. omega arith) places)
-
-pub returns-clause-failures : goal.returns-clause-failures
-returns-clause-failures c kind within lines =
-    omega (arith, option_shallow area_json 0 (λ a. omega arith) within, array_shallow failure_json 2 failure_shallow lines)
