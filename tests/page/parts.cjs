@@ -29,12 +29,13 @@ function checkGrammar(help) {
   check('all words', grammar.next([]).length, help.filter(({ meaning }) => meaning).length);
   check('edits', [after('cost'), after('cost 0.0.0.0'), after('cost 0.0.0.0 r1'), after('cost 0.0.0.0 r1 r2'), after('cost 0.0.0.0 r1 r2 1')], ['AREA', 'ROUTER', 'LINK', 'METRIC', '']);
   check('events', [after('cut'), after('cut r1'), after('cut r1 r2'), after('cut r1 10.1.0.0/24'), after('set-cost r1'), after('set-cost r1 r2'), after('set-cost r1 r2 5'), after('drain'), after('fail')], ['ROUTER', 'NEIGHBOR PREFIX', 'ADDRESS', '', 'NEIGHBOR', 'METRIC', 'both', 'ROUTER', 'ROUTER']);
+  check('sweeps', [after('sweep'), after('sweep links'), after('sweep all within'), after('sweep all within 0.0.0.1'), after('sweep nets')], ['links networks routers all', 'within', 'AREA', '', '']);
   check('what may be left out', [after('links'), after('routes r1'), after('expect microloops')], ['ROUTER', 'ADDRESS', 'COUNT none']);
   check('conditions', [after('expect lost'), after('expect not lost only'), after('expect lost only 10.0.0.0/8'), after('expect path r1 10.1.5.1')], ['none <= only', 'PREFIX..', 'PREFIX..', 'via avoids delivered']);
   check('parts of a condition', [after('expect route r1 10.0.0.0/8'), after('expect route r1 10.0.0.0/8 inter'), after('expect route r1 10.0.0.0/8 via r2,r3'), after('expect route r1 10.0.0.0/8 cost')], ['KIND via cost', 'via cost', 'cost', 'OP']);
   check('not', [after('expect').split(' ').at(-1), after('expect not').includes('not '), after('nonsense')], ['not', false, '']);
-  const whole = ['refresh', 'undo 1', 'cut r1 r2', 'cut r1 r2 10.0.0.1', 'cut r1 10.1.0.0/24', 'fail r1', 'set-cost r1 r2 5 both', 'expect lost none', 'expect lost only 10.0.0.0/8 10.1.0.0/16', 'expect path r1 10.1.5.1 avoids r2', 'links', 'links r1'];
-  const parts = ['undo', 'cut r1', 'cut r1 10.1.0.0/24 10.1.0.1', 'fail', 'fail r1 r2', 'set-cost r1 r2', 'expect', 'expect lost', 'expect lost only', 'expect path r1 10.1.5.1 via', 'cost 0.0.0.0 r1 r2', 'refresh 1', 'nonsense'];
+  const whole = ['refresh', 'undo 1', 'cut r1 r2', 'cut r1 r2 10.0.0.1', 'cut r1 10.1.0.0/24', 'fail r1', 'sweep links', 'sweep all within 0.0.0.1', 'set-cost r1 r2 5 both', 'expect lost none', 'expect lost only 10.0.0.0/8 10.1.0.0/16', 'expect path r1 10.1.5.1 avoids r2', 'links', 'links r1'];
+  const parts = ['undo', 'cut r1', 'cut r1 10.1.0.0/24 10.1.0.1', 'fail', 'fail r1 r2', 'sweep', 'sweep all within', 'sweep within 0.0.0.1', 'set-cost r1 r2', 'expect', 'expect lost', 'expect lost only', 'expect path r1 10.1.5.1 via', 'cost 0.0.0.0 r1 r2', 'refresh 1', 'nonsense'];
   check('whole lines', [...whole, ...parts].map((line) => grammar.isWhole(line.split(' '))), [...whole.map(() => true), ...parts.map(() => false)]);
 }
 

@@ -1,6 +1,6 @@
 // What may stand next in a line, by the words of `help` that the module answers: `cost AREA ROUTER LINK METRIC`, where words
-// in capitals stand for others, `[..]` may be left out, and `|` separates what may stand at the end, from the first other word on
-// or in parentheses.
+// in capitals stand for others, `[..]` may be left out, and `|` separates what may stand in parentheses, or without them at the
+// end, from the first other word on.
 
 const isLiteral = (token) => !/^[A-Z]/.test(token);
 const isRepeated = (token) => /[A-Z]\.\.$/.test(token);
@@ -11,8 +11,8 @@ const FORMS = { PREFIX: (word) => word.includes('/'), NEIGHBOR: (word) => !word.
 // The sequences of words that a text of `help` stands for.
 function sequencesOf(text) {
   const partsOf = (part) => part.match(/\[[^\]]*\]|\S+/g) ?? [];
-  const [, before, inside] = /^(.*)\((.*)\)$/.exec(text) ?? [];
-  if (inside) return inside.split(' | ').flatMap((end) => withOptions([...partsOf(before), ...partsOf(end)]));
+  const [, before, inside, after] = /^(.*)\((.*)\)(.*)$/.exec(text) ?? [];
+  if (inside) return inside.split(' | ').flatMap((one) => withOptions([before, one, after].flatMap(partsOf)));
   const [first, ...others] = text.split(' | ').map(partsOf);
   const front = first.slice(0, Math.max(0, first.findIndex(isLiteral)));
   return [first, ...others.map((other) => [...front, ...other])].flatMap(withOptions);

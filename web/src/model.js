@@ -6,7 +6,7 @@ const EDITS = new Set([
 ]);
 const QUESTIONS = new Set([
   'table', 'tables', 'compare', 'info', 'routers', 'links', 'networks', 'routes', 'path', 'explain', 'changes', 'differences', 'lost',
-  'gone', 'loops', 'microloops', 'audit', 'log', 'help', 'undo', 'redo', 'back', 'expect',
+  'gone', 'loops', 'microloops', 'sweep', 'audit', 'log', 'help', 'undo', 'redo', 'back', 'expect',
 ]);
 const KINDS = ['lost', 'gone', 'dearer', 'type', 'moved', 'gained', 'cheaper', 'router-gone', 'router-new'];
 
@@ -252,6 +252,7 @@ const REPLIES = {
   gone: ({ pairs }) => counted(pairs.length, 'route'),
   loops: ({ loops, blackholes }) => `${counted(loops.length, 'loop')}, ${counted(blackholes.length, 'blackhole')}`,
   microloops: ({ loops }) => loops.length ? `${loops.length} may loop while routers change over` : 'none may loop',
+  sweep: ({ failures }) => `${counted(failures.filter(({ counts }) => counts?.lost).length, 'failure')} of ${failures.length} with lost routes`,
   audit: ({ wrong, findings, places }) => places ? counted(places.length, 'place') : wrong ? `${wrong} wrong` : findings.length ? `clean, ${counted(findings.length, 'note')}` : 'clean',
   table: ({ routes }) => counted(routes.length, 'route'),
   tables: ({ tables }) => counted(tables.length, 'table'),

@@ -132,6 +132,8 @@ argument_hint known role.Tag word = range_hint role.Tag
 argument_hint known role.Count word = range_hint role.Count
 argument_hint known role.Number word = range_hint role.Number
 argument_hint known role.Both word = codes "both"
+argument_hint known role.Failures word = codes "one of links networks routers all"
+argument_hint known role.Within word = codes "within"
 
 -- of words in their roles, from left to right, the hint for the first that does not fit
 unfoldable pub first_hint : Lookup → List Word → List Role → List Word → List ℕ

@@ -51,6 +51,7 @@ command_meaning (See see.Lost) = codes "routes that are gone though their prefix
 command_meaning (See see.Gone) = codes "routes that are gone because nobody announces their prefix"
 command_meaning (See see.Loops) = codes "forwarding loops, and blackholes that the baseline does not have"
 command_meaning (See see.Microloops) = codes "what may loop while routers change over the last edits"
+command_meaning (See see.Sweep) = codes "what each single failure takes away: its lost, gone and changed routes, and loops"
 command_meaning (See see.Audit) = codes "what the answers may not be trusted for; with a kind each place"
 command_meaning (See see.Log) = codes "the edits that are done, as lines"
 command_meaning (See see.Help) = codes "the words, or what one means"

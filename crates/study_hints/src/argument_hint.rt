@@ -245,6 +245,8 @@ fn push_argument_hint<A: Allocator + Copy>(
         Role::Word => push_near(text, word, commands(), "see help"),
         Role::Kind => push_kind_hint(text, word),
         Role::Both => text.extend_from_slice(b"both"),
+        Role::Failures => text.extend_from_slice(b"one of links networks routers all"),
+        Role::Within => text.extend_from_slice(b"within"),
         _ => push_range(text, role),
     }
 }

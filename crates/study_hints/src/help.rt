@@ -48,6 +48,7 @@ pub fn commands() -> &'static [StudyWord]
         StudyWord::See(SeeWord::Gone),
         StudyWord::See(SeeWord::Loops),
         StudyWord::See(SeeWord::Microloops),
+        StudyWord::See(SeeWord::Sweep),
         StudyWord::See(SeeWord::Audit),
         StudyWord::See(SeeWord::Log),
         StudyWord::See(SeeWord::Help),
@@ -99,6 +100,9 @@ fn see_command_meaning(word: SeeWord) -> &'static str
         SeeWord::Gone => "routes that are gone because nobody announces their prefix",
         SeeWord::Loops => "forwarding loops, and blackholes that the baseline does not have",
         SeeWord::Microloops => "what may loop while routers change over the last edits",
+        SeeWord::Sweep => {
+            "what each single failure takes away: its lost, gone and changed routes, and loops"
+        }
         SeeWord::Audit => "what the answers may not be trusted for; with a kind each place",
         SeeWord::Log => "the edits that are done, as lines",
         SeeWord::Help => "the words, or what one means",

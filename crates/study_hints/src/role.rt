@@ -8,8 +8,8 @@ use edit_script::MetricType;
 use lsa_codec::{Addr, AreaId, Metric, Prefix, RouterId};
 use network_names::Names;
 use std::alloc::Allocator;
-use study_arguments::{Argument, Dotted, Ends, LinkName, is_like_prefix};
-use study_words::{AuditKind, StudyWord};
+use study_arguments::{Argument, Dotted, Ends, Limit, LinkName, is_like_prefix};
+use study_words::{AuditKind, FailureKind, StudyWord};
 
 /// What a word of a line is to be.
 #[derive(Clone, Copy, Debug, PartialEq, Eq)]
@@ -48,6 +48,10 @@ pub(crate) enum Role {
     Kind,
     /// The word `both`.
     Both,
+    /// A kind of failures.
+    Failures,
+    /// The word `within`.
+    Within,
 }
 
 /// Whether a word names what a router may be cut from.
@@ -80,6 +84,8 @@ impl Role {
             Role::Word => StudyWord::read(names, word).is_ok(),
             Role::Kind => AuditKind::read(names, word).is_ok(),
             Role::Both => Ends::read(names, word).is_ok(),
+            Role::Failures => FailureKind::read(names, word).is_ok(),
+            Role::Within => Limit::read(names, word).is_ok(),
         }
     }
 }

@@ -1,4 +1,4 @@
-//! Kinds of failures, and the failures of each.
+//! The failures of each kind.
 
 ghost use Rattle.std.specs.Prelude.{◌≡◌, IfOk};
 ghost use Rattle.lsdb.specs.Slots.{lists_of};
@@ -11,19 +11,7 @@ use edit_script::Edit;
 use lsa_codec::AreaId;
 use lsdb::Database;
 use std::alloc::{AllocError, Allocator};
-
-/// What fails.
-#[derive(Clone, Copy, Debug, PartialEq, Eq)]
-pub enum FailureKind {
-    /// Each link between two routers.
-    Links,
-    /// Each transit network.
-    Networks,
-    /// Each router.
-    Routers,
-    /// All of these, one after another.
-    All,
-}
+use study_words::FailureKind;
 
 /// The failures of links, then those of networks, then those of routers.
 fn all_failures<A: Allocator + Copy>(
@@ -48,7 +36,7 @@ fn all_failures<A: Allocator + Copy>(
 ///   step 2 (b)), as `links` shows it at the router of the lower Router ID. `cut ROUTER NEIGHBOR`
 ///   cuts it where it is the only one between the two routers, else `cut ROUTER NEIGHBOR ADDRESS`.
 /// - Of networks: each transit network that `networks` shows, `fail-net AREA ADDRESS`.
-/// - Of routers: each router with a live router-LSA, `fail-router ROUTER`.
+/// - Of routers: each router with a live router-LSA, `fail ROUTER`.
 ///
 /// # Errors
 ///

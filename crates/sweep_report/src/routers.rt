@@ -5,7 +5,7 @@ ghost use Rattle.lsdb.specs.Slots.{lists_of};
 ghost use Rattle.sweep_report.specs.Failures.{is_in, router_failure, router_failures, router_failures_of};
 
 use area_routes::is_attached;
-use edit_script::Edit;
+use edit_script::{Edit, Event};
 use lsa_codec::{AreaId, RouterId};
 use lsdb::Database;
 use routing_table::routers;
@@ -15,7 +15,7 @@ use std::alloc::{AllocError, Allocator};
 fn router_failure(router: RouterId) -> Edit
     ensures { result ≡ router_failure router }
 {
-    Edit::FailRouter { router }
+    Edit::Event(Event::Fail { router })
 }
 
 /// Whether a router is attached to the area that is named; each is where none is.

@@ -138,6 +138,11 @@ const QUESTIONS: &[(&str, &str)] = &[
     ("loops", "0 See(Loops)"),
     ("microloops", "0 See(Microloops(None))"),
     ("microloops 2", "0 See(Microloops(Some(2)))"),
+    ("sweep links", "0 See(Sweep { kind: Links, within: None })"),
+    (
+        "@1 sweep all within 0.0.0.1",
+        "1 See(Sweep { kind: All, within: Some(AreaId(1)) })",
+    ),
     ("audit", "0 See(Audit(None))"),
     ("audit area-kind", "0 See(Audit(Some(AreaKind)))"),
     ("log", "0 See(Log)"),

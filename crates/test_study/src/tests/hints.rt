@@ -147,6 +147,23 @@ const LINES: &[(&str, &str)] = &[
     ("fail", "script S3 MissingWord fail (fail ROUTER)"),
     ("help rout", "script S9 BadWord rout (did you mean routers)"),
     ("help 1", "script S9 BadWord 1 (see help)"),
+    (
+        "sweep nets",
+        "script S9 BadWord nets (one of links networks routers all)",
+    ),
+    (
+        "sweep nets in r1",
+        "script S9 BadWord nets (one of links networks routers all)",
+    ),
+    ("sweep all in r1", "script S9 BadWord in (within)"),
+    (
+        "sweep all within r1",
+        "script S6 BadAddress r1 (an address is four numbers, 0 to 255)",
+    ),
+    (
+        "sweep all within",
+        "script S3 MissingWord sweep (sweep (links | networks | routers | all) [within AREA])",
+    ),
     ("audit nasa", "script S9 BadWord nasa (did you mean nssa)"),
     ("audit 1", "script S9 BadWord 1 (see help)"),
     (
