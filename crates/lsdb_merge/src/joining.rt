@@ -12,14 +12,17 @@ ghost use Rattle.lsdb_merge.specs.declared.fault.JoinFault.TheVariants.{OutOfMem
 use crate::fault::JoinFault;
 use crate::scopes::scopes;
 use crate::section::{any_misplaced, text_of};
-use lsa_instances::{AreaReport, FlushedLsas, Observation, Scope, keys_rise, newest};
+use forgotten_instances::remembered;
+use lsa_instances::{
+    AreaReport, FlushedLsas, Observation, Scope, keys_rise, newest, newest_in_any_order,
+};
 use lsdb::{Database, LONGEST_DUMP, MOST_AREAS, text_laws};
 use std::alloc::Allocator;
 
-/// The database whose sections have the newest instance of each LSA among the observations; flushed
-/// LSAs are left out, or kept at MaxAge, as `flushed` says. Its areas are those that are reported
-/// and those that have LSAs. An area is a stub area where a report says so, and else ordinary; the
-/// backbone is always ordinary.
+/// The database whose sections have the newest instance of each LSA among the observations that are
+/// not forgotten; flushed LSAs are left out, or kept at MaxAge, as `flushed` says. Its areas are
+/// those that are reported and those that have LSAs. An area is a stub area where a report says so,
+/// and else ordinary; the backbone is always ordinary.
 ///
 /// # Errors
 ///
@@ -38,7 +41,9 @@ pub fn join<A: Allocator + Copy>(
         × (fault_of joining.newest (joined joining) ≡ Some fault))) }
 {
     keys_rise::<A>();
-    let newest = newest(alloc, flushed, observations)?;
+    newest_in_any_order::<A>();
+    let known = remembered(alloc, observations)?;
+    let newest = newest(alloc, flushed, known)?;
     let scopes = scopes(alloc, areas, &newest)?;
     database_of(alloc, areas, &newest, &scopes)
 }
