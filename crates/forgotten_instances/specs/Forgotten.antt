@@ -14,8 +14,8 @@ module _ {A : Type 0} where
       is_eq (place_cmp (place_of y) (place_of x)) && is_lt (instance_id_cmp (instance_id_of y.lsa) (instance_id_of x.lsa))
 
   -- a copy shows that an observation is forgotten: it is of an older instance, and began after the observation was seen. Its
-  -- originator knew of no newer instance then, as after a restart, or that one had passed MaxAge everywhere: else it had taken
-  -- a greater sequence number (12.1.6, 13.4)
+  -- originator knew of no newer instance then, as after a restart, or that one had passed MaxAge: else it would have taken a
+  -- greater sequence number (12.1.6, 13.4)
   abbrev pub forgets : Observation A → Observation A → Bool
   forgets y x = is_older y x && began_after x.seen y
 
