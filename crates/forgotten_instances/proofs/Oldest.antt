@@ -1,6 +1,6 @@
 -- Of each LSA an observation of the oldest instance is left.
-use Rattle.std.proofs.Common.{◌≡◌, ℕ, suc, ◌⊎◌, refl, sym, ◌∙◌, ap, subst, inl, inr, List}
-use Rattle.std.proofs.Common.{[], ◌∷◌, length, Bool, true, false, not, ◌&&◌, Option, Some, None, if◌then◌else◌, arith}
+use Rattle.std.proofs.Common.{◌≡◌, suc, ◌⊎◌, refl, sym, ◌∙◌, ap, subst, inl, inr, List}
+use Rattle.std.proofs.Common.{[], ◌∷◌, true, false, not, None, if◌then◌else◌, arith}
 use Rattle.std.specs.Prelude.{All, Contains}
 use Rattle.std.specs.List.{Any, list_any}
 use Rattle.std.specs.Ordering.{is_eq, is_lt}
@@ -49,55 +49,55 @@ module _ {A : Type 0} where
       (ap is_lt (older_parts x x h).1))
 
   -- an observation of the oldest instance of the LSA of x
-  older_one : Observation A → Observation A → Observation A
+  abbrev older_one : Observation A → Observation A → Observation A
   older_one x y = if is_older y x then y else x
 
-  oldest : Observation A → List (Observation A) → Observation A
-  oldest x [] = x
-  oldest x (y ∷ ys) = oldest (older_one x y) ys
+  abbrev oldest : List (Observation A) → Observation A → Observation A
+  oldest [] x = x
+  oldest (y ∷ ys) x = oldest ys (older_one x y)
 
   by_cases : (P : Observation A → Type 0) (x y : Observation A) → (is_older y x ≡ true → P y) → (is_older y x ≡ false → P x) → P (older_one x y)
   by_cases P x y f g = elim (cases_Bool (is_older y x)) as (λ _. P (older_one x y)) [ inl t ↦ rw t (f t) | inr t ↦ rw t (g t) ]
 
-  same_place : (xs : List (Observation A)) (x : Observation A) → place_of (oldest x xs) ≡ place_of x
+  same_place : (xs : List (Observation A)) (x : Observation A) → place_of (oldest xs x) ≡ place_of x
   same_place [] x = refl
   same_place (y ∷ ys) x = same_place ys (older_one x y) ∙ by_cases (λ z. place_of z ≡ place_of x) x y (λ t. (older_parts y x t).0) (λ t. refl)
 
-  stays : (xs : List (Observation A)) (x z : Observation A) → is_older z x ≡ false → is_older z (oldest x xs) ≡ false
+  stays : (xs : List (Observation A)) (x z : Observation A) → is_older z x ≡ false → is_older z (oldest xs x) ≡ false
   stays [] x z n = n
   stays (y ∷ ys) x z n = stays ys (older_one x y) z (by_cases (λ w. is_older z w ≡ false) x y (λ t. not_older_too z y x t n) (λ t. n))
 
-  none_older : (xs : List (Observation A)) (x z : Observation A) → Contains xs z → is_older z (oldest x xs) ≡ false
+  none_older : (xs : List (Observation A)) (x z : Observation A) → Contains xs z → is_older z (oldest xs x) ≡ false
   none_older [] x z c = absurd (omega (arith, c.1))
   none_older (y ∷ ys) x z c =
-      elim (contains_cons y ys c.0 z c.1 c.2) as (λ _. is_older z (oldest (older_one x y) ys) ≡ false) [
-        | inl same ↦ ap (λ w. is_older w (oldest (older_one x y) ys)) (sym same)
+      elim (contains_cons y ys c.0 z c.1 c.2) as (λ _. is_older z (oldest ys (older_one x y)) ≡ false) [
+        | inl same ↦ ap (λ w. is_older w (oldest ys (older_one x y))) (sym same)
             ∙ stays ys (older_one x y) y (by_cases (λ w. is_older y w ≡ false) x y (λ t. not_itself y) (λ t. t))
         | inr d ↦ none_older ys (older_one x y) z d
       ]
 
-  is_one : (xs : List (Observation A)) (x : Observation A) → (oldest x xs ≡ x) ⊎ Contains xs (oldest x xs)
+  is_one : (xs : List (Observation A)) (x : Observation A) → (oldest xs x ≡ x) ⊎ Contains xs (oldest xs x)
   is_one [] x = inl refl
   is_one (y ∷ ys) x =
-      elim (is_one ys (older_one x y)) as (λ _. (oldest (older_one x y) ys ≡ x) ⊎ Contains (y ∷ ys) (oldest (older_one x y) ys)) [
+      elim (is_one ys (older_one x y)) as (λ _. (oldest ys (older_one x y) ≡ x) ⊎ Contains (y ∷ ys) (oldest ys (older_one x y))) [
         | inl same ↦
-            let r : Observation A = oldest (older_one x y) ys in
+            let r : Observation A = oldest ys (older_one x y) in
             let P : Observation A → Type 0 = λ w. r ≡ w → (r ≡ x) ⊎ Contains (y ∷ ys) r in
             by_cases P x y (λ t e. inr (0, omega arith, sym e)) (λ t e. inl e) same
         | inr c ↦ inr (suc c.0, omega (arith, c.1), c.2)
       ]
 
   module _ (reported : List (Observation A)) where
-    not_forgotten : (x : Observation A) → is_forgotten reported (oldest x reported) ≡ false
+    not_forgotten : (x : Observation A) → is_forgotten reported (oldest reported x) ≡ false
     not_forgotten x = false_from_ne_true _ (λ h.
-        let r = oldest x reported in
+        let r : Observation A = oldest reported x in
         let a = Any-from_list_any (λ y. forgets y r) reported h in
         let older = (and_parts (is_older a.1 r) (began_after r.seen a.1) a.4).0 in
         both_ways (is_older a.1 r) (none_older reported x a.1 (a.0, a.2, a.3)) older)
 
     left_one : (y : Observation A) → Contains reported y → Any (λ x. place_of x ≡ place_of y) (remembered reported)
     left_one y c =
-        let r = oldest y reported in
+        let r : Observation A = oldest reported y in
         let there : Contains reported r = elim (is_one reported y) as (λ _. Contains reported r) [
           | inl same ↦ subst (λ w. Contains reported w) (sym same) c
           | inr d ↦ d

@@ -1,16 +1,15 @@
 -- Which of sorted observations are left, and which of the same observations in any order.
 use Rattle.std.proofs.Common.{◌≡◌, ℕ, zero, suc, ◌+◌, ◌<◌, ◌≤◌, ◌⊎◌, refl, sym, ◌∙◌, ap, subst, inl, inr, List, []}
-use Rattle.std.proofs.Common.{◌∷◌, ◌++◌, length, length-take, get_or, map, take, Bool, true, false, not, ◌&&◌, Option, Some, None, if◌then◌else◌, arith}
+use Rattle.std.proofs.Common.{◌∷◌, ◌++◌, length, length-take, get_or, map, take, Bool, true, false, not, Option, Some, if◌then◌else◌, arith}
 use Rattle.std.specs.Prelude.{All, Contains, IsPermutation}
 use Rattle.std.specs.List.{cons_option, filter, filter_map, list_any, zip}
 use Rattle.std.specs.List.Sorted.{IsSorted}
 use Rattle.std.specs.Ordering.{is_eq, is_gt, is_lt, ordering_reverse, ordering_then}
 use Rattle.std.specs.declared.cmp.Ordering.{Ordering}
 use Rattle.std.specs.declared.cmp.Ordering.TheVariants.{Less, Equal, Greater}
-use Rattle.std.proofs.lemmas.Bool.{and_parts, both_ways, cases_Bool, false_from_ne_true}
-use Rattle.std.proofs.lemmas.Cmp.{tied_itself}
+use Rattle.std.proofs.lemmas.Bool.{and_parts, both_ways}
 use Rattle.std.proofs.lemmas.List.{get_or-take, get_or_default, map-append, take_more}
-use Rattle.std.proofs.lemmas.List.Elements.{All-contains, All-contains_itself, All-weaker, Contains-push, filter_passes}
+use Rattle.std.proofs.lemmas.List.Elements.{All-contains, All-contains_itself, All-weaker, filter_passes}
 use Rattle.std.proofs.lemmas.List.Folds.{Any-from_list_any, list_any-from_Any}
 use Rattle.std.proofs.lemmas.List.Sorted.{ranks_by, sorted_far}
 use Rattle.lsa_instances.specs.declared.observation.Observation.{Observation}
@@ -118,7 +117,7 @@ module _ {A : Type 0} where
 -- ---- the same observations
 
 -- one item of a longer list
-contains_cons : {X : Type 0} (y : X) (ys : List X) (k : ℕ) (x : X) → k < length (y ∷ ys) → get_or (y ∷ ys) k x ≡ x → (y ≡ x) ⊎ Contains ys x
+pub contains_cons : {X : Type 0} (y : X) (ys : List X) (k : ℕ) (x : X) → k < length (y ∷ ys) → get_or (y ∷ ys) k x ≡ x → (y ≡ x) ⊎ Contains ys x
 contains_cons y ys zero x l e = inl e
 contains_cons y ys (suc k) x l e = inr (k, omega arith, e)
 
@@ -140,16 +139,16 @@ module _ {X : Type 0} (p : X → Bool) where
         | inr d ↦ inr (kept ys x d h)
       ])
 
+  was_one : (y x : X) (b : Bool) (ys zs : List X) → (Contains zs x → Contains ys x) → Contains (if b then y ∷ zs else zs) x → Contains (y ∷ ys) x
+  was_one y x true ys zs rest d = elim (contains_cons y zs d.0 x d.1 d.2) as (λ _. Contains (y ∷ ys) x) [
+    | inl same ↦ (0, omega arith, same)
+    | inr e ↦ later_one y ys x (rest e)
+  ]
+  was_one y x false ys zs rest d = later_one y ys x (rest d)
+
   was_there : (xs : List X) (x : X) → Contains (filter p xs) x → Contains xs x
   was_there [] x c = c
-  was_there (y ∷ ys) x c = was_one (p y) c
-    where
-      was_one : (b : Bool) → Contains (if b then y ∷ filter p ys else filter p ys) x → Contains (y ∷ ys) x
-      was_one true d = elim (contains_cons y (filter p ys) d.0 x d.1 d.2) as (λ _. Contains (y ∷ ys) x) [
-        | inl same ↦ (0, omega arith, same)
-        | inr e ↦ later_one y ys x (was_there ys x e)
-      ]
-      was_one false d = later_one y ys x (was_there ys x d)
+  was_there (y ∷ ys) x c = was_one y x (p y) ys (filter p ys) (was_there ys x) c
 
   pub is_kept : (xs : List X) → All (λ x. Contains xs x × (p x ≡ true)) (filter p xs)
   is_kept xs = All-weaker (Contains (filter p xs)) (λ x. Contains xs x × (p x ≡ true))

@@ -1,5 +1,5 @@
 -- What is kept of sorted observations that were looked at decides which of the others they forget.
-use Rattle.std.proofs.Common.{◌≡◌, ℕ, ◌-◌, ◌*◌, refl, sym, ◌∙◌, ap, inl, inr, List, []}
+use Rattle.std.proofs.Common.{◌≡◌, ℕ, refl, sym, ◌∙◌, ap, inl, inr, List, []}
 use Rattle.std.proofs.Common.{◌∷◌, ◌++◌, Bool, true, false, ◌&&◌, ◌||◌, Option, Some, None, max, arith}
 use Rattle.std.specs.Prelude.{Contains, nat_lt}
 use Rattle.std.specs.Cmp.{IsTotalOrder}
@@ -7,14 +7,13 @@ use Rattle.std.specs.List.{Any, list_any}
 use Rattle.std.specs.Ordering.{is_eq, is_gt, is_lt, ordering_reverse, ordering_then}
 use Rattle.std.specs.declared.cmp.Ordering.{Ordering}
 use Rattle.std.specs.declared.cmp.Ordering.TheVariants.{Less, Equal, Greater}
-use Rattle.std.proofs.lemmas.Bool.{and_left, both_ways, cases_Bool, or_from}
+use Rattle.std.proofs.lemmas.Bool.{cases_Bool, or_from}
 use Rattle.std.proofs.lemmas.Bool.Decides.{nat_tests}
 use Rattle.std.proofs.lemmas.Cmp.{on_total, then_total, tied_itself}
 use Rattle.std.proofs.lemmas.List.Elements.{Contains-append_left, Contains-push}
 use Rattle.std.proofs.lemmas.List.Folds.{list_any-append}
 use Rattle.std.proofs.lemmas.List.Quantifiers.{Any-push}
 use Rattle.lsa_codec.specs.Fields.{age_of}
-use Rattle.lsa_instances.specs.declared.header.InstanceId.{InstanceId}
 use Rattle.lsa_instances.specs.declared.place.Place.{Place}
 use Rattle.lsa_instances.specs.declared.observation.Observation.{Observation}
 use Rattle.lsa_instances.specs.Instance.{instance_id_cmp, instance_id_of}
@@ -54,10 +53,13 @@ is_less : (o : Ordering) → o ≡ Less → is_lt o ≡ true
 is_less o h = ap is_lt h
 
 module _ {X : Type 0} (cmp : X → X → Ordering) (total : IsTotalOrder cmp) where
-  less_too : (q r s : X) → cmp r s ≡ Less → (o : Ordering) → cmp q r ≡ o → is_gt o ≡ false → cmp q s ≡ Less
-  less_too q r s l Less e g = total.trans q r s e l
-  less_too q r s l Equal e g = total.congr q r s e ∙ l
-  less_too q r s l Greater e g = cc
+  less_by : (q r s : X) → cmp r s ≡ Less → (o : Ordering) → cmp q r ≡ o → is_gt o ≡ false → cmp q s ≡ Less
+  less_by q r s l Less e g = total.trans q r s e l
+  less_by q r s l Equal e g = total.congr q r s e ∙ l
+  less_by q r s l Greater e g = cc
+
+  pub less_too : (q r s : X) → cmp r s ≡ Less → is_gt (cmp q r) ≡ false → cmp q s ≡ Less
+  less_too q r s l g = less_by q r s l (cmp q r) refl g
 
   -- what stands beside one of two equal values stands so beside the other
   pub beside : (x y z : X) → cmp x y ≡ Equal → cmp z x ≡ cmp z y
@@ -178,7 +180,7 @@ module _ {A : Type 0} where
         later_instance w.1 x (b.at w.1 (w.0, w.2, w.3)) same in
         let less : instance_id_cmp f.instance (instance_id_of y.lsa) ≡ Less =
         ap (λ i. instance_id_cmp i (instance_id_of y.lsa)) (sym w.4.1)
-        ∙ less_too instance_id_cmp instance_id_total (instance_id_of w.1.lsa) (instance_id_of x.lsa) (instance_id_of y.lsa) l _ refl g in
+        ∙ less_too instance_id_cmp instance_id_total (instance_id_of w.1.lsa) (instance_id_of x.lsa) (instance_id_of y.lsa) l g in
         let v : is_eq (instance_id_cmp f.instance (instance_id_of y.lsa)) ≡ false = not_equal _ less in
         rw (t, u, v) refl in
         let at_false : is_of f x ≡ false → last_of (Some f) x ≡ older_than (Some f) y =
@@ -195,7 +197,7 @@ module _ {A : Type 0} where
         let g : is_gt (place_cmp (place_of w.1) (place_of x)) ≡ false = later_place w.1 x (b.at w.1 (w.0, w.2, w.3)) in
         let less : place_cmp f.place (place_of y) ≡ Less =
         ap (λ q. place_cmp q (place_of y)) (sym w.4.0)
-        ∙ less_too place_cmp place_total (place_of w.1) (place_of x) (place_of y) l _ refl g in
+        ∙ less_too place_cmp place_total (place_of w.1) (place_of x) (place_of y) l g in
         let u : is_of f y ≡ false = not_equal _ less in
         rw u refl
 

@@ -8,6 +8,7 @@
 #![tactic(auto)]
 
 mod laws;
+mod order;
 mod past;
 mod remembering;
 

@@ -3,6 +3,7 @@
 ghost use Rattle.std.specs.Prelude.{◌≡◌};
 ghost use Rattle.forgotten_instances.specs.steps.Walking.{began, is_before, is_forgotten_by, is_of, last_of, later, older_than, past_with};
 
+use crate::order::compare_places;
 use byteorder::{BigEndian, ByteOrder};
 use lsa_instances::{InstanceId, Observation, Place, compare_instance_ids};
 use std::alloc::Allocator;
@@ -59,7 +60,7 @@ fn is_before(moment: Option<u64>, last: Option<u64>) -> bool
 fn is_of<A: Allocator + Copy>(past: Past, observation: &Observation<A>) -> bool
     ensures { result ≡ is_of past observation.now }
 {
-    past.place.cmp(&observation.place()).is_eq()
+    compare_places(past.place, observation.place()).is_eq()
 }
 
 /// The last moment at which a copy of an older instance of the LSA of an observation began.

@@ -7,18 +7,10 @@ ghost use Rattle.forgotten_instances.specs.Forgotten.{is_forgotten, remembered};
 ghost use Rattle.forgotten_instances.specs.steps.Walking.{age_cmp, left_of};
 ghost use Rattle.lsa_instances.specs.Newest.{AreSame};
 
+use crate::order::compare_ages;
 use crate::past::{Past, is_forgotten_by, past_with};
-use lsa_instances::{InstanceId, Observation, compare_instance_ids};
+use lsa_instances::Observation;
 use std::alloc::{AllocError, Allocator};
-use std::cmp::Ordering;
-
-/// Compares two observations: by place, and the oldest instance of each LSA first.
-fn compare_ages<A: Allocator + Copy>(a: &Observation<A>, b: &Observation<A>) -> Ordering
-    ensures { result ≡ age_cmp a.now b.now }
-{
-    let instance = compare_instance_ids(InstanceId::of(&a.lsa), InstanceId::of(&b.lsa));
-    a.place().cmp(&b.place()).then(instance)
-}
 
 /// The observations by their places, the oldest instance of each LSA first.
 fn sorted<A: Allocator + Copy>(

@@ -1,5 +1,5 @@
 -- What is kept of observations while they are looked through, by place, and the oldest instance of each LSA first.
-use Rattle.std.specs.Prelude.{ℕ, ◌-◌, ◌*◌, Bool, true, false, nat_lt, max, Option, None, Some, ◌×◌, if◌then◌else◌}
+use Rattle.std.specs.Prelude.{ℕ, ◌-◌, ◌*◌, Bool, true, false, nat_lt, max, Option, None, Some, if◌then◌else◌}
 use Rattle.std.specs.Ordering.{is_eq, ordering_then}
 use Rattle.std.specs.declared.cmp.Ordering.{Ordering}
 use Rattle.forgotten_instances.specs.declared.past.Past.{Past}

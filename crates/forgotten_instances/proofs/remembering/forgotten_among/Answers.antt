@@ -3,8 +3,8 @@ use Rattle.forgotten_instances.proofs.Remembered.{one_more}
 use Rattle.forgotten_instances.proofs.Walked.{none_kept}
 use Rattle.forgotten_instances.proofs.remembering.forgotten_among.Goals as goal
 
-pub loop-observation-start : goal.loop-observation-start
-loop-observation-start g c = (none_kept, search rules)
+pub loop-observation-init : goal.loop-observation-init
+loop-observation-init g c = (none_kept, search rules)
 
 pub loop-observation-preserved : goal.loop-observation-preserved
 loop-observation-preserved g c =
