@@ -1,6 +1,8 @@
 //! Observations joined into a database.
 
 ghost use Rattle.std.specs.Prelude.{◌≡◌, ◌⊎◌, All, IfOk, IfErr, Some, map, List};
+ghost use Rattle.forgotten_instances.specs.Forgotten.{remembered};
+ghost use Rattle.lsa_instances.specs.Newest.{AreNewest};
 ghost use Rattle.lsdb.specs.Lists.{Lists, IsDatabase};
 ghost use Rattle.lsdb.specs.Slots.{lists_of};
 ghost use Rattle.lsdb.specs.Text.{text};
@@ -17,7 +19,7 @@ use lsa_instances::{
     AreaReport, FlushedLsas, Observation, Scope, keys_rise, newest, newest_in_any_order,
 };
 use lsdb::{Database, LONGEST_DUMP, MOST_AREAS, text_laws};
-use std::alloc::Allocator;
+use std::alloc::{AllocError, Allocator};
 
 /// The database whose sections have the newest instance of each LSA among the observations that are
 /// not forgotten; flushed LSAs are left out, or kept at MaxAge, as `flushed` says. Its areas are
@@ -41,11 +43,23 @@ pub fn join<A: Allocator + Copy>(
         × (fault_of joining.newest (joined joining) ≡ Some fault))) }
 {
     keys_rise::<A>();
-    newest_in_any_order::<A>();
-    let known = remembered(alloc, observations)?;
-    let newest = newest(alloc, flushed, known)?;
+    let newest = newest_remembered(alloc, flushed, observations)?;
     let scopes = scopes(alloc, areas, &newest)?;
     database_of(alloc, areas, &newest, &scopes)
+}
+
+/// The newest instance of each LSA among the observations that are not forgotten.
+fn newest_remembered<A: Allocator + Copy>(
+    alloc: A,
+    flushed: FlushedLsas,
+    observations: Vec<Observation<A>, A>,
+) -> Result<Vec<Observation<A>, A>, AllocError>
+    ensures { IfOk result
+        (λ newest. AreNewest flushed (remembered observations.items) newest.items) }
+{
+    newest_in_any_order::<A>();
+    let known = remembered(alloc, observations)?;
+    newest(alloc, flushed, known)
 }
 
 /// The database with a section for each scope.

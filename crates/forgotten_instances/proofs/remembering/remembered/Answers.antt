@@ -1,8 +1,16 @@
-use Rattle.std.proofs.Common.{map, ◌∙◌}
+use Rattle.std.proofs.Common.{map, sym, subst, ◌∙◌, List}
+use Rattle.std.specs.List.Sorted.{IsSorted}
 use Rattle.std.proofs.lemmas.Result.{IfOk-weaker}
 use Rattle.forgotten_instances.specs.Forgotten.{is_forgotten}
+use Rattle.forgotten_instances.specs.steps.Walking.{age_cmp}
+use Rattle.lsa_instances.specs.declared.observation.Observation.{Observation}
 use Rattle.forgotten_instances.proofs.Remembered.{left_same}
 use Rattle.forgotten_instances.proofs.remembering.remembered.Goals as goal
+
+pub forgotten_among-requires : goal.forgotten_among-requires
+forgotten_among-requires g c =
+    let P : List (Observation g.row.A.Denot) → Type 0 = λ xs. IsSorted age_cmp xs in
+    subst P (sym c.deref.ensures.value) c.in_ok-sorted.ensures.order
 
 pub returns : goal.returns
 returns g c =

@@ -2,7 +2,6 @@ use Rattle.std.proofs.Common.{◌≡◌, ◌⊎◌, inl, inr, sym, subst, List, 
 use Rattle.std.proofs.lemmas.Result.{IfErr-weaker, IfOk-weaker}
 use Rattle.forgotten_instances.specs.Forgotten.{remembered}
 use Rattle.lsa_instances.specs.declared.observation.Observation.{Observation}
-use Rattle.lsa_instances.specs.Newest.{AreSame}
 use Rattle.lsdb_merge.specs.declared.fault.JoinFault.TheVariants.{OutOfMemory}
 use Rattle.lsdb_merge.specs.Joining.{Joining, joined}
 use Rattle.lsdb_merge.specs.Limits.{fault_of}
@@ -14,28 +13,22 @@ pub database_of-requires-clause-rising : goal.database_of-requires-clause-rising
 database_of-requires-clause-rising g c =
     let P : List (Observation g.row.A.Denot) → Type 0 = λ xs. HaveRisingKeys xs in
     subst P (sym c.deref-2.ensures.value)
-    (λ scope. c.keys_rise.ensures c.args.flushed c.in_ok-known.known.items c.in_ok-newest.newest.items scope c.in_ok-newest.ensures)
+    (λ scope. c.keys_rise.ensures c.args.flushed (remembered c.args.observations.items) c.in_ok-newest.newest.items scope c.in_ok-newest.ensures)
 
 pub returns-clause-joined : goal.returns-clause-joined
 returns-clause-joined g c =
-    let reported = remembered c.args.observations.items in
-    let same : AreSame c.in_ok-known.known.items reported = (c.in_ok-known.ensures.1, c.in_ok-known.ensures.0) in
-    let are_newest = c.newest_in_any_order.ensures.again c.args.flushed c.in_ok-known.known.items reported c.in_ok-newest.newest.items same c.in_ok-newest.ensures in
-    let two = joining_of c.args.flushed reported c.args.areas.now c.in_ok-newest.newest.items c.deref.result.now c.deref-2.result.now
+    let two = joining_of c.args.flushed (remembered c.args.observations.items) c.args.areas.now c.in_ok-newest.newest.items c.deref.result.now c.deref-2.result.now
     c.in_ok-scopes.scopes.items c.deref-3.result.now c.deref.ensures.value c.deref-2.ensures.value c.deref-3.ensures.value
-    are_newest c.in_ok-scopes.ensures.all in
+    c.in_ok-newest.ensures c.in_ok-scopes.ensures.all in
     let j : Joining c.args.flushed c.args.observations.items c.args.areas.now =
     record { newest = c.deref-2.result.now; scopes = c.deref-3.result.now; are_newest = two.0; are_scopes = two.1 } in
     IfOk-weaker c.database_of.result _ _ (λ db h. (j, h)) c.database_of.ensures.joined
 
 pub returns-clause-fault : goal.returns-clause-fault
 returns-clause-fault g c =
-    let reported = remembered c.args.observations.items in
-    let same : AreSame c.in_ok-known.known.items reported = (c.in_ok-known.ensures.1, c.in_ok-known.ensures.0) in
-    let are_newest = c.newest_in_any_order.ensures.again c.args.flushed c.in_ok-known.known.items reported c.in_ok-newest.newest.items same c.in_ok-newest.ensures in
-    let two = joining_of c.args.flushed reported c.args.areas.now c.in_ok-newest.newest.items c.deref.result.now c.deref-2.result.now
+    let two = joining_of c.args.flushed (remembered c.args.observations.items) c.args.areas.now c.in_ok-newest.newest.items c.deref.result.now c.deref-2.result.now
     c.in_ok-scopes.scopes.items c.deref-3.result.now c.deref.ensures.value c.deref-2.ensures.value c.deref-3.ensures.value
-    are_newest c.in_ok-scopes.ensures.all in
+    c.in_ok-newest.ensures c.in_ok-scopes.ensures.all in
     let j : Joining c.args.flushed c.args.observations.items c.args.areas.now =
     record { newest = c.deref-2.result.now; scopes = c.deref-3.result.now; are_newest = two.0; are_scopes = two.1 } in
     IfErr-weaker c.database_of.result _ _
