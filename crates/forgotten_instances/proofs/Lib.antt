@@ -1,3 +1,3 @@
 pub mod Walked
-pub mod Remembered
+pub mod LeftOver
 pub mod Oldest

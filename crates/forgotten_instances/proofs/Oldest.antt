@@ -18,7 +18,7 @@ use Rattle.lsa_instances.specs.Order.{place_cmp, place_of}
 use Rattle.lsa_instances.proofs.OrderLemmas.{instance_id_total, place_exact, place_total}
 use Rattle.forgotten_instances.specs.Forgotten.{forgets, is_forgotten, is_older, remembered}
 use Rattle.forgotten_instances.proofs.Walked.{eq_true}
-use Rattle.forgotten_instances.proofs.Remembered.{contains_cons, kept}
+use Rattle.forgotten_instances.proofs.LeftOver.{contains_cons, kept}
 
 lt_true : (o : Ordering) → is_lt o ≡ true → o ≡ Less
 lt_true Less h = refl

@@ -1,4 +1,4 @@
-use Rattle.forgotten_instances.proofs.Remembered.{same_remembered}
+use Rattle.forgotten_instances.proofs.LeftOver.{same_remembered}
 use Rattle.forgotten_instances.proofs.laws.remembered_in_any_order.Goals as goal
 
 pub returns : goal.returns

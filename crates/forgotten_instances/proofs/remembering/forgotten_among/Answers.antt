@@ -1,5 +1,5 @@
 use Rattle.std.proofs.Common.{rules}
-use Rattle.forgotten_instances.proofs.Remembered.{one_more}
+use Rattle.forgotten_instances.proofs.LeftOver.{one_more}
 use Rattle.forgotten_instances.proofs.Walked.{none_kept}
 use Rattle.forgotten_instances.proofs.remembering.forgotten_among.Goals as goal
 

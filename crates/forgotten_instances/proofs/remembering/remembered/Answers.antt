@@ -4,7 +4,7 @@ use Rattle.std.proofs.lemmas.Result.{IfOk-weaker}
 use Rattle.forgotten_instances.specs.Forgotten.{is_forgotten}
 use Rattle.forgotten_instances.specs.steps.Walking.{age_cmp}
 use Rattle.lsa_instances.specs.declared.observation.Observation.{Observation}
-use Rattle.forgotten_instances.proofs.Remembered.{left_same}
+use Rattle.forgotten_instances.proofs.LeftOver.{left_same}
 use Rattle.forgotten_instances.proofs.remembering.remembered.Goals as goal
 
 pub forgotten_among-requires : goal.forgotten_among-requires
