@@ -2,7 +2,7 @@
 use Rattle.std.proofs.Common.{◌≡◌, suc, ◌⊎◌, refl, sym, ◌∙◌, ap, subst, inl, inr, List}
 use Rattle.std.proofs.Common.{[], ◌∷◌, true, false, not, None, if◌then◌else◌, arith}
 use Rattle.std.specs.Prelude.{All, Contains}
-use Rattle.std.specs.List.{Any, list_any}
+use Rattle.std.specs.List.{Any}
 use Rattle.std.specs.Ordering.{is_eq, is_lt}
 use Rattle.std.specs.declared.cmp.Ordering.{Ordering}
 use Rattle.std.specs.declared.cmp.Ordering.TheVariants.{Less, Equal, Greater}

@@ -16,10 +16,7 @@ pub(crate) fn compare_places(a: Place, b: Place) -> Ordering
 }
 
 /// Compares two observations: by place, and the oldest instance of each LSA first.
-pub(crate) fn compare_ages<A: Allocator + Copy>(
-    a: &Observation<A>,
-    b: &Observation<A>,
-) -> Ordering
+pub(crate) fn compare_ages<A: Allocator + Copy>(a: &Observation<A>, b: &Observation<A>) -> Ordering
     ensures { result ≡ age_cmp a.now b.now }
 {
     let instance = compare_instance_ids(InstanceId::of(&a.lsa), InstanceId::of(&b.lsa));
