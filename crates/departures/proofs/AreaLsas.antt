@@ -1,10 +1,9 @@
 -- What becomes of an LSA of an area, by the tests that come first.
-use Rattle.std.proofs.Common.{◌≡◌, ℕ, Bool, true, false, List, None, sym, ap, ◌∙◌}
-use Rattle.std.specs.Prelude.{if◌then◌else◌}
+use Rattle.std.proofs.Common.{◌≡◌, ℕ, true, false, List, None, sym, ap, ◌∙◌}
 use Rattle.std.proofs.lemmas.Bool.{cond-false, cond-true}
 use Rattle.lsa_codec.specs.declared.address.AreaId.{AreaId}
 use Rattle.lsdb.specs.Lists.{Lists}
-use Rattle.event_lsas.specs.Outcomes.{LsaChange, becomes}
+use Rattle.event_lsas.specs.Outcomes.{becomes}
 use Rattle.network_departures.specs.declared.departure.Departure.{Departure}
 use Rattle.network_departures.specs.Leaving.{router_of, is_left, networks_left}
 use Rattle.network_departures.specs.Successors.{network_after}

@@ -1,7 +1,6 @@
 -- Departures that happen, and those that are refused.
 use Rattle.std.proofs.Common.{◌≡◌, ℕ, true, false, List, length, map, Option, Some, None, Result, Ok, Err, sym, ap, ◌∙◌}
 use Rattle.std.specs.Prelude.{◌==◌}
-use Rattle.std.specs.List.{list_all}
 use Rattle.std.proofs.lemmas.List.Folds.{list_all-map}
 use Rattle.lsa_codec.specs.declared.address.AreaId.{AreaId}
 use Rattle.lsdb.specs.Lists.{Lists}

@@ -1,13 +1,12 @@
 -- Which router-LSAs change.
-use Rattle.std.proofs.Common.{◌≡◌, ◌≢◌, ℕ, Bool, true, false, not, List, ◌&&◌, Option, None, ap, ◌∙◌}
-use Rattle.std.specs.Prelude.{◌==◌}
+use Rattle.std.proofs.Common.{◌≡◌, ◌≢◌, ℕ, Bool, true, false, not, List, ◌&&◌, ap, ◌∙◌}
 use Rattle.std.proofs.lemmas.Bool.{cond-false, cond-true, ne_eqb, eq-eqb}
 use Rattle.lsa_codec.specs.declared.address.AreaId.{AreaId}
 use Rattle.lsa_codec.specs.Fields.{kind_of}
 use Rattle.lsa_codec.specs.Key.{is_at_max_age}
 use Rattle.lsdb.specs.Lists.{Lists}
 use Rattle.area_graph.specs.Area.{is_live, is_router_lsa}
-use Rattle.event_lsas.specs.Outcomes.{LsaChange, kept}
+use Rattle.event_lsas.specs.Outcomes.{kept}
 use Rattle.network_departures.specs.declared.departure.Departure.{Departure}
 use Rattle.network_departures.specs.LinksAfter.{links_after}
 use Rattle.departures.specs.Departures.{relinked_by, originator_of, router_lsa_after}

@@ -1,5 +1,5 @@
 -- Routers that go: the swaps of the slots that change carry their fates out, and a refusal is one of the departure.
-use Rattle.std.proofs.Common.{◌≡◌, true, false, List, map, Option, Some, None, Result, Ok, Err, refl, sym, ap, ◌∙◌}
+use Rattle.std.proofs.Common.{◌≡◌, true, false, List, map, Option, Some, None, Ok, Err, refl, sym, ap, ◌∙◌}
 use Rattle.std.proofs.lemmas.Bool.{cond-true, cond-false}
 use Rattle.lsdb.specs.Lists.{Lists, IsDatabase}
 use Rattle.lsdb.specs.Slots.{Slots, lists_of}

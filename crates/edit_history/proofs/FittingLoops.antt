@@ -7,7 +7,7 @@ use Rattle.std.proofs.lemmas.List.{drop_all}
 use Rattle.std.proofs.lemmas.List.Folds.{list_all-map}
 use Rattle.lsdb.specs.Slots.{Slots, lists_of}
 use Rattle.edit_history.specs.Exchange.{SwapData}
-use Rattle.edit_history.specs.Fitting.{all_fit, are_apart, fits, is_rekeyed, share_key}
+use Rattle.edit_history.specs.Fitting.{are_apart, fits, is_rekeyed, share_key}
 use Rattle.edit_history.specs.Rules.{Change}
 use Rattle.edit_history.specs.steps.Happening.{swaps_fit}
 use Rattle.edit_history.specs.steps.Plans.{planned_change}

@@ -1,31 +1,26 @@
 -- Fates that give LSAs keys which are free: carried out slot by slot, each state on the way is a database.
-use Rattle.std.proofs.Common.{◌≡◌, ◌≤◌, ℕ, Bool, true, false, List, [], ◌∷◌, ◌++◌, length, map, Option, Some, None, refl, sym, ap, ◌∙◌, subst, arith, cond}
+use Rattle.std.proofs.Common.{◌≡◌, ◌≤◌, ℕ, Bool, true, false, List, [], ◌∷◌, ◌++◌, length, Option, Some, None, refl, sym, ap, ◌∙◌, subst, arith, cond}
 use Rattle.std.proofs.Common.{append_assoc}
 use Rattle.std.specs.Prelude.{All, AllPairs, ◌&&◌, ◌||◌, ◌==◌, not, nat_le}
 use Rattle.std.specs.List.{list_any, list_all, find, filter_map, cons_option}
-use Rattle.std.proofs.lemmas.Bool.{and_parts, and_from, or_parts, or_left, or_right, or_from, not-true, not_from_false, eqb-true, eq-eqb, leb-true}
+use Rattle.std.proofs.lemmas.Bool.{and_parts, and_from, or_parts, or_from, not-true, eqb-true, eq-eqb, leb-true}
 use Rattle.std.proofs.lemmas.List.Elements.{All-head, All-tail}
 use Rattle.std.proofs.lemmas.List.Folds.{list_any-append, list_all-append}
 use Rattle.lsa_codec.specs.declared.key.Key.{Key}
 use Rattle.lsa_codec.specs.Accepted.{IsAccepted}
 use Rattle.lsa_codec.specs.Fields.{kind_of}
 use Rattle.lsa_codec.specs.Key.{key_of}
-use Rattle.lsdb.specs.declared.section.Section.{Section}
-use Rattle.lsdb.specs.declared.slot.SlotId.{SlotId}
 use Rattle.lsdb.specs.Lists.{AreaHead, SectionLsas, Lists, IsBefore, IsDatabase, heads_of, is_head_of, is_section, has_key, same_key, lsas_of, lsas_or_none}
-use Rattle.lsdb.specs.Slots.{Slot, Slots, SectionSlots, slot_at, full, section_of, lists_of}
-use Rattle.lsdb.specs.steps.OneSlot.{IsPutSafe}
+use Rattle.lsdb.specs.Slots.{Slot, Slots, full, section_of, lists_of}
 use Rattle.lsdb.proofs.KeyLemmas.{same_key_true}
-use Rattle.lsdb.proofs.SlotLemmas.{put_safe}
 use Rattle.event_lsas.specs.Outcomes.{is_accepted}
 use Rattle.event_lsas.proofs.ReplacementLemmas.{accepted_of}
 use Rattle.edit_history.specs.Rules.{Fate, stays, removed, rewritten, Fates, by_fates, Change, outcome, change_of, section_name, changes_by}
-use Rattle.edit_history.specs.Exchange.{SwapData}
-use Rattle.edit_history.specs.Fitting.{is_like, has_free_key, has_place, fits, is_rekeyed, share_key, are_apart, all_fit}
-use Rattle.edit_history.specs.steps.Plans.{slot_of, swaps_from}
-use Rattle.edit_history.proofs.FatesBySlot.{with_section, changed_in, slot_after, accepted_in, put_in, IsPassed, Turn, Starts, walked_by, carried_out}
+use Rattle.edit_history.specs.Fitting.{is_like, has_free_key, fits, is_rekeyed, share_key, are_apart, all_fit}
+use Rattle.edit_history.specs.steps.Plans.{swaps_from}
+use Rattle.edit_history.proofs.FatesBySlot.{with_section, changed_in, accepted_in, put_in, IsPassed, Turn, Starts, walked_by, carried_out}
 use Rattle.edit_history.proofs.Keys.{only_section}
-use Rattle.edit_history.proofs.Rekeyed.{IsNewTo, rekeyed, full_passed}
+use Rattle.edit_history.proofs.Rekeyed.{rekeyed, full_passed}
 use Rattle.edit_history.proofs.RuleOutcomes.{change}
 use Rattle.edit_history.proofs.RulesCarriedOut.{CarriesOutRule}
 
@@ -253,15 +248,16 @@ module _ (fates : Fates) (db : Lists) where
       let parts = apart_parts mine others apart in
       let lsas : lsas_of (section_name s.area) db ≡ full s.slots =
       ap (lsas_of (section_name s.area)) is
-      ∙ own_lsas low (lists_of ss) (section_of s) (subst (λ (l : Lists). AllPairs IsBefore (heads_of l)) is order) in
-      (record {
-        places = places.0;
-        apart = parts.0;
-        free =
-            subst (λ (xs : List (List ℕ)). list_all (is_free xs) (changed_in fates s.area s.slots) ≡ true) lsas
-            (free_at_first s.area (full s.slots) places.0);
-      },
-      starts_from order (low ++ section_of s ∷ []) ss (is ∙ sym (append_assoc low (section_of s ∷ []) (lists_of ss))) places.1 parts.1)
+      ∙ own_lsas low (lists_of ss) (section_of s) (subst (λ (l : Lists). AllPairs IsBefore (heads_of l)) is order) in (
+        record {
+          places = places.0;
+          apart = parts.0;
+          free =
+              subst (λ (xs : List (List ℕ)). list_all (is_free xs) (changed_in fates s.area s.slots) ≡ true) lsas
+              (free_at_first s.area (full s.slots) places.0);
+        },
+        starts_from order (low ++ section_of s ∷ []) ss (is ∙ sym (append_assoc low (section_of s ∷ []) (lists_of ss))) places.1 parts.1,
+      )
 
 -- changes for which there are places are carried out
 pub fit_carried_out : (fates : Fates) (d : Slots) → IsDatabase (lists_of d) → all_fit (lists_of d) (changes_by (by_fates fates) (lists_of d)) ≡ true

@@ -5,11 +5,11 @@ use Rattle.std.specs.List.{cons_option}
 use Rattle.std.proofs.lemmas.List.{map-append}
 use Rattle.lsa_codec.specs.Fields.{kind_of}
 use Rattle.lsdb.specs.Lists.{AreaHead}
-use Rattle.lsdb.specs.Slots.{Slot, Slots, SectionSlots, slot_at, lists_of}
+use Rattle.lsdb.specs.Slots.{Slot, Slots, slot_at, lists_of}
 use Rattle.edit_history.specs.Rules.{Fate, stays, removed, rewritten, Fates, by_fates, Change, change_of, section_name, changes_by}
 use Rattle.edit_history.specs.Exchange.{SwapData}
 use Rattle.edit_history.specs.steps.Plans.{planned_change, slot_of, swap_for, section_swaps, swaps_from}
-use Rattle.edit_history.proofs.FatesBySlot.{changed_in, section_slots, slot_mid, with_section}
+use Rattle.edit_history.proofs.FatesBySlot.{changed_in, slot_mid, with_section}
 
 module _ (d : Slots) (fates : Fates) where
   -- one slot

@@ -1,8 +1,8 @@
 -- An LSA gives way to one of another key, which no other LSA of its section has: the lists still make a database.
-use Rattle.std.proofs.Common.{◌≡◌, ◌≢◌, ◌≤◌, ℕ, Bool, true, false, List, [], ◌∷◌, ◌++◌, length, map, Option, Some, None, refl, sym, ap, ◌∙◌, subst, arith}
-use Rattle.std.proofs.Common.{append-nil, append_assoc, length-append, true≢false}
+use Rattle.std.proofs.Common.{◌≡◌, ◌≢◌, ◌≤◌, ℕ, true, false, List, [], ◌∷◌, ◌++◌, length, map, Option, Some, None, refl, sym, ap, ◌∙◌, subst, arith}
+use Rattle.std.proofs.Common.{append_assoc, length-append, true≢false}
 use Rattle.std.specs.Prelude.{All, AllPairs, ◌==◌, ◌||◌, not}
-use Rattle.std.specs.List.{list_any, sum_by, cons_option}
+use Rattle.std.specs.List.{list_any, cons_option}
 use Rattle.std.proofs.lemmas.Bool.{or_parts}
 use Rattle.std.proofs.lemmas.List.Elements.{All-nil, All-cons, All-head, All-tail}
 use Rattle.std.proofs.lemmas.List.Kept.{AllPairs-cons}
@@ -13,7 +13,7 @@ use Rattle.lsa_codec.specs.Accepted.{IsAccepted}
 use Rattle.lsa_codec.specs.Fields.{kind_of}
 use Rattle.lsa_codec.specs.Key.{key_of}
 use Rattle.lsdb.specs.Lists.{AreaHead, SectionLsas, Lists, AreKeys, AreHeads, IsSection, IsDatabase, is_in_scope, section_size, has_key}
-use Rattle.lsdb.specs.Slots.{Slot, Slots, SectionSlots, full, section_of, lists_of}
+use Rattle.lsdb.specs.Slots.{Slot, Slots, full, section_of, lists_of}
 use Rattle.lsdb.proofs.KeyLemmas.{own_key}
 use Rattle.lsdb.proofs.ListLemmas.{map_mid, all_at_mid, pairs_head, pairs_tail}
 use Rattle.lsdb.proofs.SlotLemmas.{section_with, full-cons}
@@ -72,8 +72,7 @@ keys_placed area front back x y new keys =
     let scope : is_in_scope area (key_of x) ≡ true = all_at_mid (λ k. is_in_scope area k ≡ true) (map key_of front) (map key_of back) (key_of x) keys.scope in
     record {
       few =
-          omega
-          (
+          omega (
             arith,
             length-append (map key_of front) (key_of x ∷ map key_of back),
             length-append (map key_of front) (key_of y ∷ map key_of back),
@@ -107,8 +106,7 @@ lists_rekeyed low high area front back x y new db =
       heads = subst AreHeads (map_mid head_in low high s ∙ sym (map_mid head_in low high t)) db.heads;
       sections = all_placed IsSection low high s t (section_rekeyed area front back x y new (all_at_mid IsSection low high s db.sections)) db.sections;
       small =
-          omega
-          (
+          omega (
             arith,
             sum_by-append section_size low (s ∷ high),
             sum_by-cons section_size s high,

@@ -25,9 +25,8 @@ use Rattle.event_lsas.specs.Outcomes.{LsaChange, kept, becomes}
 use Rattle.event_lsas.proofs.ReplacementLemmas.{outcome_safe}
 use Rattle.edit_history.specs.Effect.{link_fate, net_fate, router_fate, is_graph_kind}
 use Rattle.network_departures.specs.declared.departure.Departure.{Departure}
-use Rattle.network_departures.specs.Leaving.{router_of, is_left, networks_left}
-use Rattle.network_departures.specs.Successors.{network_after}
-use Rattle.departures.specs.Departures.{is_of_failed, outcome_of as outcome_of_departure, relinked_by, originator_of, router_lsa_after}
+use Rattle.network_departures.specs.Leaving.{is_left, networks_left}
+use Rattle.departures.specs.Departures.{is_of_failed, router_lsa_after}
 use Rattle.edit_history.specs.Events.{departure_fates, fate_of_change, link_fates}
 use Rattle.edit_history.specs.Refreshing.{with_due, metric_fate, refresh_fates}
 use Rattle.edit_history.proofs.RefreshFates.{stale_has_metric}

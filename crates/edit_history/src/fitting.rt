@@ -106,11 +106,7 @@ fn any_shares<A: Allocator + Copy>(one: &Swap<A>, later: &[Swap<A>]) -> bool
 }
 
 /// Whether a swap keeps the key of its LSA, or no later one brings the new key.
-fn is_apart<A: Allocator + Copy>(
-    database: &Database<A>,
-    swap: &Swap<A>,
-    later: &[Swap<A>],
-) -> bool
+fn is_apart<A: Allocator + Copy>(database: &Database<A>, swap: &Swap<A>, later: &[Swap<A>]) -> bool
     ensures { result ≡ (let c = planned_change database.now swap.now in
         not (is_rekeyed c.old c.new
         && list_any (λ other. share_key swap.now.other other.other) later.now)) }

@@ -28,12 +28,7 @@ impl<A: Allocator> Model for SlotChange<A> {
 
 impl<A: Allocator + Copy> SlotChange<A> {
     /// The change of a slot.
-    pub fn new(
-        slot: SlotId,
-        section: Section,
-        kind: u8,
-        lsa: Option<Lsa<A>>,
-    ) -> SlotChange<A>
+    pub fn new(slot: SlotId, section: Section, kind: u8, lsa: Option<Lsa<A>>) -> SlotChange<A>
         ensures { result ≡ record { slot = slot; section = section; kind = kind; new = lsa } }
     {
         SlotChange {

@@ -1,4 +1,4 @@
-use Rattle.std.proofs.Common.{◌<◌, ◌+◌, List, length, map, ap, ◌∙◌, arith}
+use Rattle.std.proofs.Common.{List, map, ap, ◌∙◌, arith}
 use Rattle.std.proofs.lemmas.List.{take_all}
 use Rattle.lsdb.specs.Lists.{AreaHead, areas_of}
 use Rattle.lsdb.specs.Slots.{lists_of}
