@@ -1,0 +1,8 @@
+mod Conditions
+mod Updates
+mod SlotSteps
+mod Noted
+mod Keys
+mod Passes
+mod Due
+mod Decoded
