@@ -1,5 +1,5 @@
 -- The metrics that are due are at most LSInfinity.
-use Rattle.std.proofs.Common.{◌≡◌, ℕ, ◌<◌, ◌≤◌, Bool, true, false, cond, ltb, List, [], ◌∷◌, Option, None, Some, IfSome, refl, sym, ap, ◌∙◌, arith}
+use Rattle.std.proofs.Common.{◌≡◌, ℕ, ◌<◌, ◌≤◌, Bool, true, false, cond, ltb, List, [], ◌∷◌, filter, Option, None, Some, IfSome, refl, sym, ap, ◌∙◌, arith}
 use Rattle.std.specs.Prelude.{◌&&◌, All}
 use Rattle.std.specs.List.{cons_option, filter_map, find, flat_map}
 use Rattle.std.specs.Option.{option_and_then, option_map, option_map_or}
@@ -75,4 +75,13 @@ found_most (d ∷ ds) router destination all = by (is_due_for router destination
     by : (b : Bool) → IsMost d → metric_among ds router destination ≤ ls_infinity
         → option_map_or (λ (due : DueSummary). due.metric) (cond b (Some d) (find (is_due_for router destination) ds)) ls_infinity ≤ ls_infinity
     by true here rest = here
+    by false here rest = rest
+
+-- those among some
+pub some_most : (p : DueSummary → Bool) (due : List DueSummary) → All IsMost due → All IsMost (filter p due)
+some_most p [] all = all
+some_most p (d ∷ ds) all = by (p d) (All-head IsMost d ds all) (some_most p ds (All-tail IsMost d ds all))
+  where
+    by : (b : Bool) → IsMost d → All IsMost (filter p ds) → All IsMost (cond b (d ∷ filter p ds) (filter p ds))
+    by true here rest = All-cons IsMost d (filter p ds) here rest
     by false here rest = rest

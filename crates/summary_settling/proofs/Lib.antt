@@ -1,8 +1,13 @@
 mod Conditions
 mod Updates
+mod AreaByArea
 mod SlotSteps
 mod Noted
 mod Keys
+mod PlacedLists
 mod Passes
 mod Due
 mod Decoded
+mod Found
+mod Scopes
+mod LoadedStays

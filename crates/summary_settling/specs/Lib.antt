@@ -7,4 +7,5 @@ pub mod Placing
 pub mod BorderBits
 pub mod Settled
 pub mod Changes
+pub mod Laws
 pub mod steps

@@ -34,8 +34,12 @@ mod plan;
 // All together.
 mod settling;
 
+// What holds of the definitions.
+mod laws;
+
 pub use announcement::Announcement;
 pub use fault::SettleFault;
+pub use laws::loaded_databases_stay;
 pub use loaded::LoadedSummaries;
 pub use settling::{settled, settling_changes};
 pub use slot_content::SlotContent;

@@ -63,7 +63,8 @@ impl<A: Allocator> Model for AreaPlan<A> {
     ghost use Rattle.std.specs.Prelude.{◌≤◌, All};
     ghost use Rattle.lsa_codec.specs.Views.{ls_infinity};
 
-    ghost invariant = { λ p. All (λ due. due.metric ≤ ls_infinity) p.due.items };
+    ghost invariant = { λ p. (All (λ due. due.metric ≤ ls_infinity) p.due.items)
+        × (All (λ due. due.metric ≤ ls_infinity) p.missing.items) };
 }
 
 /// Whether a summary that is due in an area neither stands there nor was left out.
