@@ -6,6 +6,7 @@ mod Noted
 mod Keys
 mod PlacedLists
 mod Passes
+mod PlanLists
 mod Due
 mod Decoded
 mod Found

@@ -1,14 +1,15 @@
 -- Changes of slots that are noted.
-use Rattle.std.proofs.Common.{◌≡◌, ℕ, zero, suc, ◌≤◌, List, [], ◌∷◌, ◌++◌, length, cond, Option, None, Some, refl, sym, ap, ◌∙◌, subst, arith}
+use Rattle.std.proofs.Common.{◌≡◌, ℕ, zero, suc, ◌≤◌, List, [], ◌∷◌, ◌++◌, length, cond, Option, None, Some, IfSome, refl, sym, ap, ◌∙◌, subst, arith}
 use Rattle.std.specs.Prelude.{is_some}
 use Rattle.std.proofs.lemmas.List.Sums.{fold_push}
+use Rattle.lsdb.specs.declared.slot.SlotId.{SlotId}
 use Rattle.lsdb.specs.Lists.{IsDatabase}
 use Rattle.lsdb.specs.Slots.{Slot, Slots, item_at, lists_of, open_at, put, slot_at, slots_in}
 use Rattle.lsdb.proofs.SlotLemmas.{put_safe}
 use Rattle.event_lsas.specs.Outcomes.{SlotChangeData}
 use Rattle.event_lsas.specs.SlotChanges.{slot_of}
 use Rattle.summary_settling.specs.Changes.{with_content, with_contents}
-use Rattle.summary_settling.specs.steps.Slots.{IsNoted, IsSafeChange}
+use Rattle.summary_settling.specs.steps.Slots.{IsChangeOf, IsNoted, IsSafeChange}
 
 -- nothing changes
 pub noted_none : (d : Slots) (changes : List SlotChangeData) → IsNoted d changes d changes
@@ -47,3 +48,9 @@ no_slot_there (s ∷ ss) (suc section) i past = no_slot_there ss section i past
 -- a safe change leaves a database
 pub safe_sound : (d : Slots) (c : SlotChangeData) → IsSafeChange d c → IsDatabase (lists_of d) → IsDatabase (lists_of (put d c.slot c.new))
 safe_sound d c safe sound = put_safe d c.slot (Some safe.old) c.new safe.stands safe.safe sound
+
+-- a change of the LSA at a slot is safe
+pub safe_change : (d : Slots) (slot : SlotId) (lsa : List ℕ) (o : Option SlotChangeData) → slot_at d slot ≡ Some (Some lsa)
+    → IfSome o (IsChangeOf slot lsa) → IfSome o (IsSafeChange d)
+safe_change d slot lsa None at of = tt
+safe_change d slot lsa (Some c) at of = record { old = lsa; stands = ap (λ (s : SlotId). slot_at d s) of.slot_is ∙ at; safe = of.safe }

@@ -1,5 +1,5 @@
 -- The sections of a database, each settled in turn by its plan.
-use Rattle.std.proofs.Common.{◌≡◌, ℕ, zero, suc, ◌+◌, ◌<◌, ◌≤◌, Bool, true, false, cond, List, [], ◌∷◌, length, map, get_or, Option, None, Some, refl, sym, ap, ◌∙◌, subst, arith}
+use Rattle.std.proofs.Common.{◌≡◌, ℕ, zero, suc, ◌+◌, ◌<◌, ◌≤◌, Bool, true, false, cond, List, [], ◌∷◌, length, map, get_or, Option, None, Some, IfSome, refl, sym, ap, ◌∙◌, subst, arith}
 use Rattle.std.specs.Prelude.{IsSome}
 use Rattle.std.specs.Option.{option_map}
 use Rattle.std.proofs.lemmas.Option.{get_or_from_slice_get, slice_get-get_or}
@@ -10,10 +10,10 @@ use Rattle.summary_settling.specs.declared.announcement.Announcement.{Announceme
 use Rattle.summary_settling.specs.declared.plan.Pass.{Pass}
 use Rattle.summary_settling.specs.Loaded.{held, left_out}
 use Rattle.summary_settling.specs.Settled.{areas_settled, settled_area, settled_section}
-use Rattle.summary_settling.specs.steps.Passes.{PlanValue, area_plan, areas_in, plans, section_plan, settled_by}
+use Rattle.summary_settling.specs.steps.Passes.{PlanValue, area_plan, areas_in, plans, section_plan, section_settled_by, settled_by}
 use Rattle.summary_settling.specs.steps.Slots.{first_changed, with_lsas}
 use Rattle.summary_settling.proofs.Keys.{area_in, area_of}
-use Rattle.summary_settling.proofs.Updates.{first_all, item-map, item_first, same_first, update_first}
+use Rattle.summary_settling.proofs.Updates.{first_all, item-map, item_first, update_first}
 
 module _ (loaded db : Lists) (pass : Pass) where
   abbrev plan_of : Option AreaHead → Option PlanValue
@@ -76,16 +76,17 @@ module _ (loaded db : Lists) (pass : Pass) where
   abbrev pub SoFar : ℕ → Slots → Type 0
   SoFar n d = lists_of d ≡ first_changed settled_one n db
 
-  pub settled_more : (n m : ℕ) (plan : PlanValue) (old new : Slots) → m ≡ suc n → item_at (plans (left_out loaded) db pass) n ≡ Some (Some plan)
-      → lists_of new ≡ update_at (with_lsas (settled_by loaded (held loaded) plan)) (lists_of old) n → SoFar n old → SoFar m new
-  settled_more n m plan old new next at is so_far =
-      let found = plan_at n (Some plan) at in
-      is ∙ ap (λ (l : Lists). update_at (with_lsas (settled_by loaded (held loaded) plan)) l n) so_far
-      ∙ update_first settled_one (with_lsas (settled_by loaded (held loaded) plan)) db n m found.0 next found.1 (planned found.0 plan found.2)
+  -- a section by its plan
+  by_plan : (s : SectionLsas) (o : Option PlanValue) → plan_of s.area ≡ o → section_settled_by loaded (held loaded) o s ≡ settled_one s
+  by_plan s None is = sym (unplanned s is)
+  by_plan s (Some plan) is = planned s plan is
 
-  pub settled_same : (n m : ℕ) (d : Slots) → m ≡ suc n → item_at (plans (left_out loaded) db pass) n ≡ Some None → SoFar n d → SoFar m d
-  settled_same n m d next at so_far =
-      let found = plan_at n None at in so_far ∙ same_first settled_one db n m found.0 next found.1 (unplanned found.0 found.2)
+  pub settled_more : (n m : ℕ) (o : Option PlanValue) (old new : Slots) → m ≡ suc n → item_at (plans (left_out loaded) db pass) n ≡ Some o
+      → lists_of new ≡ update_at (section_settled_by loaded (held loaded) o) (lists_of old) n → SoFar n old → SoFar m new
+  settled_more n m o old new next at is so_far =
+      let found = plan_at n o at in
+      is ∙ ap (λ (l : Lists). update_at (section_settled_by loaded (held loaded) o) l n) so_far
+      ∙ update_first settled_one (section_settled_by loaded (held loaded) o) db n m found.0 next found.1 (by_plan found.0 o found.2)
 
   pub settled_all : (n : ℕ) (d : Slots) → length (plans (left_out loaded) db pass) ≤ n → SoFar n d → lists_of d ≡ areas_settled (areas_in pass) loaded db
   settled_all n d past so_far = so_far ∙ first_all settled_one db n (omega (arith, counts db, past))
@@ -95,9 +96,10 @@ module _ (loaded db : Lists) (pass : Pass) where
       counts (s ∷ ss) = ap suc (counts ss)
 
   -- a section that is planned is that of an area
-  pub planned_area : (n : ℕ) (plan : PlanValue) (d : Slots) → item_at (plans (left_out loaded) db pass) n ≡ Some (Some plan) → SoFar n d
-      → IsSome (head_or_none (item_at d n))
-  planned_area n plan d at so_far =
+  pub planned_area : (n : ℕ) (o : Option PlanValue) (d : Slots) → item_at (plans (left_out loaded) db pass) n ≡ Some o → SoFar n d
+      → IfSome o (λ _. IsSome (head_or_none (item_at d n)))
+  planned_area n None d at so_far = tt
+  planned_area n (Some plan) d at so_far =
       let found = plan_at n (Some plan) at in
       subst (λ (o : Option AreaHead). IsSome o)
       (sym (area_in d n ∙ ap (λ (l : Lists). area_of (item_at l n)) so_far ∙ ap area_of (item_first settled_one db n found.0 found.1)))

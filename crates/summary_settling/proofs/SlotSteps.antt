@@ -1,13 +1,16 @@
 -- The slots of a section, each changed in turn.
-use Rattle.std.proofs.Common.{◌≡◌, ℕ, zero, suc, ◌<◌, ◌≤◌, List, [], ◌∷◌, ◌++◌, length, map, get_or, Option, None, Some, refl, sym, ap, ◌∙◌, arith}
+use Rattle.std.proofs.Common.{◌≡◌, ℕ, zero, suc, ◌<◌, ◌≤◌, Bool, List, [], ◌∷◌, ◌++◌, length, map, get_or, Option, None, Some, refl, sym, ap, ◌∙◌, arith}
 use Rattle.std.specs.Prelude.{IsSome}
+use Rattle.std.specs.Option.{option_map}
 use Rattle.std.specs.List.{cons_option, filter_map}
 use Rattle.std.proofs.lemmas.Option.{slice_get-get_or}
+use Rattle.lsa_codec.specs.declared.address.AreaId.{AreaId}
 use Rattle.lsdb.specs.declared.section.Section.{Section}
 use Rattle.lsdb.specs.declared.slot.SlotId.{SlotId}
-use Rattle.lsdb.specs.Lists.{Lists}
-use Rattle.lsdb.specs.Slots.{SectionSlots, Slot, Slots, full, item_at, lists_of, lsa_or_none, put, put_slot, section_of, slot_at, slots_in, update_at}
+use Rattle.lsdb.specs.Lists.{AreaHead, Lists, id_and_kind}
+use Rattle.lsdb.specs.Slots.{SectionSlots, Slot, Slots, full, head_or_none, item_at, lists_of, lsa_or_none, put, put_slot, section_of, slot_at, slots_in, update_at}
 use Rattle.lsdb.proofs.SlotLemmas.{full-cons, put-slot_at}
+use Rattle.area_routes.specs.Attached.{id_of}
 use Rattle.event_lsas.specs.Outcomes.{LsaChange, Outcome, after, becomes, in_areas, kept, lsa_after, section_after}
 use Rattle.event_lsas.specs.SlotChanges.{slot_change, slot_of}
 use Rattle.summary_settling.specs.steps.Slots.{changed_at, first_changed, outcome_section, section_changed, slot_after, with_change, with_changes, with_lsas, with_slots}
@@ -116,3 +119,51 @@ lists-after outcome [] = refl
 lists-after outcome (s ∷ ss) =
     ap (λ (lsas : List (List ℕ)). with_lsas (λ old. lsas) (section_of s) ∷ lists_of (map (outcome_section outcome) ss)) (full-changed (outcome s.area) s.slots)
     ∙ ap (λ (ts : Lists). section_after outcome (section_of s) ∷ ts) (lists-after outcome ss)
+
+-- the section of an area by its changes
+pub area_section : (f : AreaId → List ℕ → LsaChange) (d : Slots) (number : ℕ) (area : AreaId) (is_stub : Bool)
+    → Some (area, is_stub) ≡ option_map id_and_kind (head_or_none (item_at d number))
+    → with_changes (f area) number d ≡ update_at (outcome_section (in_areas f)) d number
+area_section f [] number area is_stub is = refl
+area_section f (s ∷ ss) zero area is_stub is = ap (λ (t : SectionSlots). t ∷ ss) (by s.area refl is)
+  where
+    id_in : AreaId → Option (AreaId × Bool) → AreaId
+    id_in other None = other
+    id_in other (Some named) = named.0
+
+    by : (head : Option AreaHead) → s.area ≡ head → Some (area, is_stub) ≡ option_map id_and_kind head
+        → section_changed (f area) s ≡ outcome_section (in_areas f) s
+    unfolding id_in
+    by None e h = absurd cc
+    by (Some head) e h =
+        let same : area ≡ id_of head = ap (id_in area) h in
+        ap (λ (a : AreaId). section_changed (f a) s) same ∙ ap (λ (o : Option AreaHead). section_changed (in_areas f o) s) (sym e)
+area_section f (s ∷ ss) (suc number) area is_stub is = ap (λ (ts : Slots). s ∷ ts) (area_section f ss number area is_stub is)
+
+-- the section of AS scope stays as it is
+pub as_wide_section : (f : AreaId → List ℕ → LsaChange) (d : Slots) (number : ℕ) → None ≡ option_map id_and_kind (head_or_none (item_at d number))
+    → d ≡ update_at (outcome_section (in_areas f)) d number
+as_wide_section f [] number is = refl
+as_wide_section f (s ∷ ss) zero is = ap (λ (t : SectionSlots). t ∷ ss) (by s.area refl is)
+  where
+    by : (head : Option AreaHead) → s.area ≡ head → None ≡ option_map id_and_kind head → s ≡ outcome_section (in_areas f) s
+    by None e h = sym (ap (λ (o : Option AreaHead). section_changed (in_areas f o) s) e ∙ kept_section s)
+    by (Some head) e h = absurd cc
+as_wide_section f (s ∷ ss) (suc number) is = ap (λ (ts : Slots). s ∷ ts) (as_wide_section f ss number is)
+
+-- ---- one section after another
+
+module _ (outcome : Outcome) where
+  pub sections_more : (d : Slots) (n m : ℕ) (old new : Slots) → m ≡ suc n → n < length d → old ≡ first_changed (outcome_section outcome) n d
+      → new ≡ update_at (outcome_section outcome) old n → new ≡ first_changed (outcome_section outcome) m d
+  sections_more d n m old new next lt so_far is =
+      is ∙ ap (λ (e : Slots). update_at (outcome_section outcome) e n) so_far
+      ∙ update_first (outcome_section outcome) (outcome_section outcome) d n m (get_or d n nothing) next (slice_get-get_or d n nothing lt) refl
+    where
+      nothing : SectionSlots
+      nothing = record { area = None; slots = [] }
+
+  pub sections_all : (d : Slots) (n : ℕ) (now : Slots) → length d ≤ n → now ≡ first_changed (outcome_section outcome) n d
+      → lists_of now ≡ after outcome (lists_of d)
+  sections_all d n now past so_far =
+      ap lists_of so_far ∙ ap lists_of (first_all (outcome_section outcome) d n past) ∙ lists-after outcome d

@@ -1,5 +1,6 @@
 -- Lists of which one item is changed, and lists of which the first items are.
-use Rattle.std.proofs.Common.{◌≡◌, ℕ, zero, suc, ◌≤◌, List, [], ◌∷◌, ◌++◌, length, map, take, drop, append-nil, Option, None, Some, refl, sym, ap, ◌∙◌, arith}
+use Rattle.std.proofs.Common.{◌≡◌, ℕ, zero, suc, ◌<◌, ◌≤◌, List, [], ◌∷◌, ◌++◌, length, map, take, drop, append-nil, Option, None, Some, refl, sym, ap, ◌∙◌, arith}
+use Rattle.std.specs.Prelude.{IsSome}
 use Rattle.std.specs.Option.{option_map}
 use Rattle.std.proofs.lemmas.List.{drop_all, take_all}
 use Rattle.lsdb.specs.Lists.{Lists, SectionLsas}
@@ -54,15 +55,11 @@ module _ {X : Type 0} where
       → update_at g (first_changed f n xs) n ≡ first_changed f m xs
   update_first f g xs n m x next at same = step f g xs n x at same ∙ ap (λ k. first_changed f k xs) (sym next)
 
-  stay : (f : X → X) (xs : List X) (n : ℕ) (x : X) → item_at xs n ≡ Some x → f x ≡ x → first_changed f n xs ≡ first_changed f (suc n) xs
-  stay f [] n x at same = absurd cc
-  stay f (y ∷ ys) zero x at same = let e : y ≡ x = cc in ap (λ (z : X). z ∷ ys) (e ∙ sym same ∙ ap f (sym e))
-  stay f (y ∷ ys) (suc n) x at same = ap (λ (zs : List X). f y ∷ zs) (stay f ys n x at same)
-
-  -- one that stays as it is
-  pub same_first : (f : X → X) (xs : List X) (n m : ℕ) (x : X) → m ≡ suc n → item_at xs n ≡ Some x → f x ≡ x
-      → first_changed f n xs ≡ first_changed f m xs
-  same_first f xs n m x next at same = stay f xs n x at same ∙ ap (λ k. first_changed f k xs) (sym next)
+  -- there is one
+  pub first_there : (f : X → X) (xs : List X) (n : ℕ) → n < length xs → IsSome (item_at (first_changed f n xs) n)
+  first_there f [] n lt = absurd (omega arith)
+  first_there f (y ∷ ys) zero lt = refl
+  first_there f (y ∷ ys) (suc n) lt = first_there f ys n (omega arith)
 
   -- all of them
   pub first_all : (f : X → X) (xs : List X) (n : ℕ) → length xs ≤ n → first_changed f n xs ≡ map f xs

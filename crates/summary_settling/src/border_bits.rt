@@ -1,12 +1,14 @@
 //! Bit B of router-LSAs.
 
 ghost use Rattle.std.specs.Prelude.{◌≡◌, ◌≤◌, Some, IfOk, IfSome, IsSome, OnOk, is_some, length};
+ghost use Rattle.std.specs.Bool.{OnTrue};
+ghost use Rattle.lsa_codec.specs.Making.{IsRewriteOf};
 ghost use Rattle.lsdb.specs.declared.section.Section.TheVariants.{Area};
-ghost use Rattle.lsdb.specs.Slots.{item_at, lists_of};
+ghost use Rattle.lsdb.specs.Slots.{item_at, lists_of, update_at};
 ghost use Rattle.event_lsas.specs.Outcomes.{after, can_replace, in_areas, is_accepted, replaced};
 ghost use Rattle.event_lsas.specs.SlotChanges.{slot_change};
 ghost use Rattle.summary_settling.specs.BorderBits.{bit_b_due, bit_b_settled_by, has_bit_b, turned_flags, with_bit_b_turned};
-ghost use Rattle.summary_settling.specs.steps.Slots.{IsNoted, changed_at, with_changes};
+ghost use Rattle.summary_settling.specs.steps.Slots.{IsChangeOf, IsNoted, changed_at, outcome_section, with_changes};
 
 use crate::loaded::{LoadedSummaries, is_border};
 use crate::slot_content::SlotContent;
@@ -78,7 +80,8 @@ fn turned_bytes<A: Allocator + Copy>(
 /// Whether an LSA can take the place of another: it has its key, and is no longer.
 #[tactic(auto, using(event_lsas::proofs::ReplacementLemmas::accepted_true))]
 fn can_replace<A: Allocator + Copy>(old: &Lsa<A>, new: &Lsa<A>) -> bool
-    ensures { result ≡ can_replace old.now new.now }
+    ensures can { result ≡ can_replace old.now new.now }
+    ensures safe { OnTrue result (IsRewriteOf old.now new.now) }
 {
     let (bytes, old_bytes) = (new.bytes(), old.bytes());
     new.key() == old.key() && bytes.len() <= old_bytes.len()
@@ -108,8 +111,9 @@ fn change_to<A: Allocator + Copy>(
     lsa: &Lsa<A>,
     bytes: &[u8],
 ) -> Result<Option<SlotContent<A>>, AllocError>
-    ensures { IfOk result (λ change. change
+    ensures change { IfOk result (λ change. change
         ≡ slot_change slot (Area area) lsa.now (replaced lsa.now (Some bytes.now))) }
+    ensures safe { IfOk result (λ change. IfSome change (IsChangeOf slot lsa.now)) }
 {
     let Some(new) = decoded(alloc, bytes)? else {
         return Ok(None);
@@ -134,8 +138,9 @@ fn change_for<A: Allocator + Copy>(
     area: AreaId,
     lsa: &Lsa<A>,
 ) -> Result<Option<SlotContent<A>>, AllocError>
-    ensures { IfOk result (λ change. change ≡ slot_change slot (Area area) lsa.now
+    ensures change { IfOk result (λ change. change ≡ slot_change slot (Area area) lsa.now
         (bit_b_settled_by (lists_of before.now) loaded.now.borders borders.now area lsa.now)) }
+    ensures safe { IfOk result (λ change. IfSome change (IsChangeOf slot lsa.now)) }
 {
     let Some(view) = lsa.router() else {
         return Ok(None);
@@ -199,6 +204,28 @@ fn turn_in_area<A: Allocator + Copy>(
     Ok(())
 }
 
+/// The router-LSAs of a section, by its number, get the bits B that they are due.
+fn turn_in_section<A: Allocator + Copy>(
+    before: &Database<A>,
+    loaded: &LoadedSummaries<A>,
+    borders: &[RouterId],
+    database: &mut Database<A>,
+    changes: &mut Vec<SlotContent<A>, A>,
+    number: usize,
+) -> Result<(), AllocError>
+    requires { IsSome (item_at database.old number) }
+    ensures turned { OnOk result (database.new ≡ update_at (outcome_section (in_areas
+        (bit_b_settled_by (lists_of before.now) loaded.now.borders borders.now))) database.old
+        number) }
+    ensures noted { OnOk result
+        (IsNoted database.old changes.old.items database.new changes.new.items) }
+{
+    let Some((area, _is_stub)) = database.area_in(number) else {
+        return Ok(());
+    };
+    turn_in_area(before, loaded, borders, database, changes, number, area)
+}
+
 /// All router-LSAs get the bits B that they are due; these routers are attached to several areas.
 ///
 /// # Errors
@@ -218,9 +245,7 @@ pub(crate) fn settle_bits<A: Allocator + Copy>(
         (IsNoted database.old changes.old.items database.new changes.new.items) }
 {
     for number in 0..database.section_count() {
-        if let Some((area, _is_stub)) = database.area_in(number) {
-            turn_in_area(before, loaded, borders, database, changes, number, area)?;
-        }
+        turn_in_section(before, loaded, borders, database, changes, number)?;
     }
     Ok(())
 }

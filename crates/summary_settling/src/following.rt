@@ -9,7 +9,7 @@ ghost use Rattle.area_routes.specs.Inter.{is_summary};
 ghost use Rattle.event_lsas.specs.Outcomes.{becomes};
 ghost use Rattle.event_lsas.specs.SlotChanges.{slot_change};
 ghost use Rattle.summary_settling.specs.Following.{followed_by, with_due, with_due_otherwise};
-ghost use Rattle.summary_settling.specs.steps.Slots.{IsNoted, changed_at, with_changes};
+ghost use Rattle.summary_settling.specs.steps.Slots.{IsChangeOf, IsNoted, changed_at, with_changes};
 
 use crate::announcement::Announcement;
 use crate::fault::SettleFault;
@@ -59,7 +59,7 @@ fn with_due<A: Allocator + Copy>(
     requires most { metric ≤ ls_infinity }
     ensures change { IfOk result
         (λ change. change ≡ slot_change slot (Area area) lsa.now (with_due metric lsa.now)) }
-    ensures safe { IfOk result (λ change. IfSome change (λ c. IsPutSafe (Some lsa.now) c.new)) }
+    ensures safe { IfOk result (λ change. IfSome change (IsChangeOf slot lsa.now)) }
 {
     if old == metric {
         return Ok(None);
@@ -84,7 +84,7 @@ fn change_for<A: Allocator + Copy>(
     ensures change { IfOk result
         (λ change. change ≡ slot_change slot (Area plan.now.area) lsa.now (followed_by
         loaded.now.held plan.now.due plan.now.is_stub plan.now.area lsa.now)) }
-    ensures safe { IfOk result (λ change. IfSome change (λ c. IsPutSafe (Some lsa.now) c.new)) }
+    ensures safe { IfOk result (λ change. IfSome change (IsChangeOf slot lsa.now)) }
 {
     let Some(summary) = live_summary(plan.is_stub, lsa) else {
         return Ok(None);

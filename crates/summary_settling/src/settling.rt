@@ -1,11 +1,11 @@
 //! All that border routers originate after a network has changed.
 
-ghost use Rattle.std.specs.Prelude.{◌≡◌, IfOk, IsSome, OnOk};
+ghost use Rattle.std.specs.Prelude.{◌≡◌, IfOk, IfSome, IsSome, OnOk};
 ghost use Rattle.lsdb.specs.Slots.{head_or_none, item_at, lists_of, update_at};
 ghost use Rattle.summary_settling.specs.Changes.{with_contents};
 ghost use Rattle.summary_settling.specs.Loaded.{loaded_summaries};
 ghost use Rattle.summary_settling.specs.Settled.{areas_settled, bits_settled, settled, summaries_settled};
-ghost use Rattle.summary_settling.specs.steps.Passes.{areas_in, settled_by};
+ghost use Rattle.summary_settling.specs.steps.Passes.{areas_in, section_settled_by, settled_by};
 ghost use Rattle.summary_settling.specs.steps.Slots.{IsNoted, with_lsas};
 
 use crate::border_bits::settle_bits;
@@ -39,6 +39,27 @@ fn settle_area<A: Allocator + Copy>(
     place_all(before, plan, database, changes, number)
 }
 
+/// The summaries of a section, by its number, settle by its plan, if it has one.
+fn settle_section<A: Allocator + Copy>(
+    before: &Database<A>,
+    loaded: &LoadedSummaries<A>,
+    plan: &Option<AreaPlan<A>>,
+    database: &mut Database<A>,
+    changes: &mut Vec<SlotContent<A>, A>,
+    number: usize,
+) -> Result<(), SettleFault>
+    requires { IfSome plan.now (λ _. IsSome (head_or_none (item_at database.old number))) }
+    ensures settled { OnOk result (lists_of database.new ≡ update_at (section_settled_by
+        (lists_of before.now) loaded.now.held plan.now) (lists_of database.old) number) }
+    ensures noted { OnOk result
+        (IsNoted database.old changes.old.items database.new changes.new.items) }
+{
+    match plan {
+        Some(plan) => settle_area(before, loaded, plan, database, changes, number),
+        None => Ok(()),
+    }
+}
+
 /// The summaries of the areas of a pass settle, all by the database before.
 fn settle_pass<A: Allocator + Copy>(
     before: &Database<A>,
@@ -56,9 +77,7 @@ fn settle_pass<A: Allocator + Copy>(
     let borders = border_routers(database.alloc(), database)?;
     let plans = plans(loaded, &borders, database, pass)?;
     for number in 0..plans.len() {
-        if let Some(plan) = &plans[number] {
-            settle_area(before, loaded, plan, database, changes, number)?;
-        }
+        settle_section(before, loaded, &plans[number], database, changes, number)?;
     }
     Ok(())
 }

@@ -2,7 +2,7 @@
 use Rattle.std.specs.Prelude.{ℕ, Bool, List, Option, None, Some, map, if◌then◌else◌}
 use Rattle.std.specs.List.{filter, filter_map}
 use Rattle.lsa_codec.specs.declared.address.AreaId.{AreaId}
-use Rattle.lsdb.specs.Lists.{AreaHead, Lists, heads_of}
+use Rattle.lsdb.specs.Lists.{AreaHead, Lists, SectionLsas, heads_of}
 use Rattle.area_routes.specs.Attached.{id_of}
 use Rattle.external_routes.specs.Summaries.{is_stub_area}
 use Rattle.event_lsas.specs.Outcomes.{lsa_after}
@@ -14,6 +14,7 @@ use Rattle.summary_settling.specs.declared.plan.Pass.TheVariants.{Backbone, Othe
 use Rattle.summary_settling.specs.Following.{followed_by}
 use Rattle.summary_settling.specs.Placing.{all_placed, is_missing}
 use Rattle.summary_settling.specs.Settled.{is_not_backbone}
+use Rattle.summary_settling.specs.steps.Slots.{with_lsas}
 use Rattle.lsa_codec.specs.Areas.{is_backbone}
 
 -- the areas of a pass
@@ -52,3 +53,8 @@ abbrev pub settled_by : Lists → List Announcement → PlanValue → List (List
 settled_by loaded held plan lsas =
     all_placed loaded plan.area plan.is_stub
     (filter_map (λ lsa. lsa_after (followed_by held plan.due plan.is_stub plan.area lsa) lsa) lsas) plan.missing
+
+-- a section by its plan, if it has one
+abbrev pub section_settled_by : Lists → List Announcement → Option PlanValue → SectionLsas → SectionLsas
+section_settled_by loaded held None s = s
+section_settled_by loaded held (Some plan) s = with_lsas (settled_by loaded held plan) s

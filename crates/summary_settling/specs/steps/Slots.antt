@@ -15,6 +15,11 @@ pub record IsSafeChange (d : Slots) (c : SlotChangeData) : Type 0 where
   pub stands : slot_at d c.slot ≡ Some (Some old)
   pub safe : IsPutSafe (Some old) c.new
 
+-- a change of a slot with an LSA to what may stand for that
+pub record IsChangeOf (slot : SlotId) (lsa : List ℕ) (c : SlotChangeData) : Type 0 where
+  pub slot_is : c.slot ≡ slot
+  pub safe : IsPutSafe (Some lsa) c.new
+
 -- a slot gets its content, if it changes
 abbrev pub with_change : Slots → Option SlotChangeData → Slots
 with_change d None = d
