@@ -1,11 +1,10 @@
 -- Bit B of router-LSAs, where routers become area border routers or are none any more (RFC 2328, 12.4.1 and A.4.2).
-use Rattle.std.specs.Prelude.{ℕ, ◌+◌, ◌-◌, Bool, ◌&&◌, not, List, Some, if◌then◌else◌}
+use Rattle.std.specs.Prelude.{ℕ, Bool, ◌&&◌, not, bit_xor, slice_set, List, Some, if◌then◌else◌}
 use Rattle.std.specs.List.{list_any}
 use Rattle.std.specs.Option.{option_map_or}
 use Rattle.lsa_codec.specs.declared.address.AreaId.{AreaId}
 use Rattle.lsa_codec.specs.declared.address.RouterId.{RouterId}
 use Rattle.lsa_codec.specs.Checksum.{with_checksum}
-use Rattle.lsa_codec.specs.Fields.{put_number}
 use Rattle.lsdb.specs.Lists.{Lists}
 use Rattle.area_graph.specs.Area.{is_live, is_router_lsa}
 use Rattle.area_routes.specs.Entries.{bit_b, flags_of, has_bit}
@@ -22,11 +21,11 @@ same_bool a b = if a then b else not b
 
 -- the flags with bit B turned
 abbrev pub turned_flags : List ℕ → ℕ
-turned_flags lsa = if has_bit_b lsa then flags_of lsa - bit_b else flags_of lsa + bit_b
+turned_flags lsa = bit_xor (flags_of lsa) bit_b
 
 -- a router-LSA with bit B turned
 abbrev pub with_bit_b_turned : List ℕ → List ℕ
-with_bit_b_turned lsa = with_checksum (put_number 1 20 (turned_flags lsa) lsa)
+with_bit_b_turned lsa = with_checksum (slice_set lsa 20 (turned_flags lsa))
 
 -- a router is among some border routers
 abbrev pub is_border : List RouterId → RouterId → Bool

@@ -32,11 +32,7 @@ fn has_bit_b(lsa: &RouterView<'_>) -> bool
 fn turned_flags(lsa: &RouterView<'_>) -> u8
     ensures { result ≡ turned_flags lsa.now }
 {
-    if has_bit_b(lsa) {
-        lsa.flags() - BIT_B
-    } else {
-        lsa.flags() + BIT_B
-    }
+    lsa.flags() ^ BIT_B
 }
 
 /// Bit B that the router-LSA of a router in an area is due: as in the loaded database where it was
@@ -96,8 +92,12 @@ fn decoded<A: Allocator + Copy>(
     ensures none { IfOk result (λ lsa. is_some lsa ≡ is_accepted bytes.now) }
 {
     match Lsa::decode(alloc, bytes) {
-        Ok((lsa, size)) if size == bytes.len() => Ok(Some(lsa)),
-        Ok(_) => Ok(None),
+        Ok((lsa, size)) => {
+            if size != bytes.len() {
+                return Ok(None);
+            }
+            Ok(Some(lsa))
+        }
         Err(LsaFault::OutOfMemory) => Err(AllocError),
         Err(_) => Ok(None),
     }

@@ -107,9 +107,12 @@ pub(crate) fn new_summary<A: Allocator + Copy>(
     ensures { IfOk result (λ lsa. lsa ≡ new_summary_lsa is_stub due id.0) }
 {
     let bytes = text(alloc, is_stub, due, id)?;
-    match Lsa::decode(alloc, &bytes) {
-        Ok((lsa, size)) if size == bytes.len() => Ok(lsa),
-        // These bytes are an accepted LSA, so only memory is wanting.
-        _ => Err(AllocError),
+    // These bytes are an accepted LSA, so only memory is wanting.
+    let Ok((lsa, size)) = Lsa::decode(alloc, &bytes) else {
+        return Err(AllocError);
+    };
+    if size != bytes.len() {
+        return Err(AllocError);
     }
+    Ok(lsa)
 }
