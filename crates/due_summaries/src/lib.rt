@@ -11,7 +11,7 @@ mod destination;
 mod due_summary;
 
 // The routers that originate them.
-mod border_routers;
+mod attachments;
 
 // What they are due to originate.
 mod announced;
@@ -20,7 +20,7 @@ mod lists;
 mod stub_areas;
 mod ways;
 
-pub use border_routers::border_routers;
+pub use attachments::border_routers;
 pub use destination::{Destination, destination_of};
 pub use due::due_into;
 pub use due_summary::DueSummary;

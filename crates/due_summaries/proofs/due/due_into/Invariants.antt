@@ -8,6 +8,6 @@ use Rattle.due_summaries.proofs.due.due_into.Given as goal
 -- what the routers so far are due
 abbrev pub invariant-loop-router : goal.invariant-loop-router
 invariant-loop-router g l = record {
-  due : l.due.items ≡ flat_map (due_of (lists_of l.database) l.area) (take l.router-index l.borders);
+  due : l.due.items ≡ flat_map (due_of (lists_of l.database) l.fn.area) (take l.router-index l.borders);
   trees : AreOfDatabase (lists_of l.database) l.trees;
 }

@@ -2,7 +2,7 @@ use Rattle.std.proofs.Common.{◌≡◌, take}
 use Rattle.lsdb.specs.Lists.{areas_of}
 use Rattle.lsdb.specs.Slots.{lists_of}
 use Rattle.due_summaries.proofs.AttachedIds.{ids_among}
-use Rattle.due_summaries.proofs.border_routers.attached_ids.Given as goal
+use Rattle.due_summaries.proofs.attachments.attached_ids.Given as goal
 
 -- the IDs of the areas so far to which the router is attached
 abbrev pub invariant-loop-i : goal.invariant-loop-i

@@ -2,8 +2,8 @@ use Rattle.std.proofs.Common.{◌∙◌, sym, ap, arith}
 use Rattle.lsdb.specs.Lists.{AreaHead}
 use Rattle.lsdb.specs.Slots.{lists_of}
 use Rattle.due_summaries.proofs.AttachedIds.{all_ids, more_ids, same_ids}
-use Rattle.due_summaries.proofs.border_routers.attached_ids.Goals as goal
-use Rattle.due_summaries.proofs.border_routers.attached_ids.Goals.{then-is_attached+in_ok-push, else-is_attached}
+use Rattle.due_summaries.proofs.attachments.attached_ids.Goals as goal
+use Rattle.due_summaries.proofs.attachments.attached_ids.Goals.{then-is_attached+in_ok-push, else-is_attached}
 
 pub loop-i-preserved : goal.loop-i-preserved
 loop-i-preserved g c =

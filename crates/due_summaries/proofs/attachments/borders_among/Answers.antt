@@ -4,7 +4,7 @@ use Rattle.lsdb.specs.Slots.{lists_of}
 use Rattle.due_summaries.specs.BorderRouters.{is_border_router}
 use Rattle.due_summaries.proofs.Borders.{filter_adds}
 use Rattle.due_summaries.proofs.Loops.{ended, one_more_at}
-use Rattle.due_summaries.proofs.border_routers.borders_among.Goals as goal
+use Rattle.due_summaries.proofs.attachments.borders_among.Goals as goal
 
 abbrev no_router : RouterId
 no_router = record { 0 = 0 }
