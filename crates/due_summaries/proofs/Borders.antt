@@ -1,5 +1,5 @@
 -- Filtering a list, one item after another.
-use Rattle.std.proofs.Common.{◌≡◌, ◌∙◌, ◌<◌, Bool, true, false, cond, List, [], ◌∷◌, ◌++◌, filter, get_or, length, ℕ, refl, ap}
+use Rattle.std.proofs.Common.{◌≡◌, ◌<◌, Bool, true, cond, List, [], ◌∷◌, filter, get_or, length, ℕ, refl}
 use Rattle.std.proofs.lemmas.List.Elements.{All-get_or, filter-append, filter_passes}
 use Rattle.area_routes.proofs.AddsLemmas.{Adds}
 

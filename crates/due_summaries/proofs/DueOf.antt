@@ -1,10 +1,10 @@
 -- What a border router is due to originate into an area, by its intra-area routes and its inter-area routes apart.
 use Rattle.std.proofs.Common.{◌≡◌, ◌∙◌, ℕ, Bool, true, false, cond, List, [], ◌∷◌, ◌++◌, map, filter, Option, None, Some, is_some, refl, sym, ap}
 use Rattle.std.specs.Prelude.{◌&&◌, ◌||◌, flat_map}
-use Rattle.std.specs.List.{cons_option, filter_map, find, list_any}
+use Rattle.std.specs.List.{cons_option, filter_map, list_any}
 use Rattle.std.specs.Option.{option_and_then, option_map, option_or}
 use Rattle.std.specs.Ordering.{eq_by_cmp}
-use Rattle.std.proofs.lemmas.List.{append-nil, map-append}
+use Rattle.std.proofs.lemmas.List.{map-append}
 use Rattle.std.proofs.lemmas.List.Elements.{filter_map-append}
 use Rattle.lsa_codec.specs.declared.address.AreaId.{AreaId}
 use Rattle.lsa_codec.specs.declared.address.RouterId.{RouterId}
@@ -27,8 +27,8 @@ use Rattle.due_summaries.specs.declared.destination.Destination.TheVariants.{Net
 use Rattle.due_summaries.specs.declared.due_summary.DueSummary.{DueSummary}
 use Rattle.due_summaries.specs.BorderRouters.{is_border_router}
 use Rattle.due_summaries.specs.Destinations.{boundary_routers, destinations_inside, entries_inside, routes_inside}
-use Rattle.due_summaries.specs.DueSummaries.{announced_cost, announced_metric, due_for, due_metric, due_of}
-use Rattle.due_summaries.specs.steps.Ways.{WaysValue, boundary_router_due, boundary_routers_due, entry_metric, nets_by, network_due, networks_due, route_metric, ways_of}
+use Rattle.due_summaries.specs.DueSummaries.{announced_cost, announced_metric, due_for, due_of}
+use Rattle.due_summaries.specs.steps.Ways.{WaysValue, boundary_router_due, boundary_routers_due, entry_metric, network_due, networks_due, route_metric, ways_of}
 
 -- ---- lists
 

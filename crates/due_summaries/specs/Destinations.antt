@@ -4,7 +4,6 @@ use Rattle.lsa_codec.specs.LsTypes.{summary_lsa}
 use Rattle.lsa_codec.specs.declared.address.RouterId.{RouterId}
 use Rattle.lsa_codec.specs.Fields.{kind_of}
 use Rattle.lsa_codec.specs.Order.{prefix_cmp, router_cmp}
-use Rattle.lsa_codec.specs.Prefix.{Net}
 use Rattle.lsa_codec.specs.Views.{net_of_lsa}
 use Rattle.lsdb.specs.Lists.{Lists}
 use Rattle.area_graph.specs.Rising.{rising}

@@ -1,5 +1,5 @@
 -- The summary-LSAs that border routers are due to originate into an area, and their metrics (RFC 2328, 12.4.3).
-use Rattle.std.specs.Prelude.{ℕ, nat_lt, Bool, ◌&&◌, List, flat_map, Option, None, Some, option_map, if◌then◌else◌}
+use Rattle.std.specs.Prelude.{ℕ, nat_lt, ◌&&◌, List, flat_map, Option, None, Some, option_map, if◌then◌else◌}
 use Rattle.std.specs.List.{filter_map}
 use Rattle.std.specs.Option.{option_and_then}
 use Rattle.lsa_codec.specs.declared.address.AreaId.{AreaId}

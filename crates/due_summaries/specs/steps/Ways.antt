@@ -1,5 +1,5 @@
 -- What a router announces, by its intra-area routes and its inter-area routes apart.
-use Rattle.std.specs.Prelude.{ℕ, Bool, ◌&&◌, List, [], ◌++◌, map, Option, None, Some, option_and_then, option_map, if◌then◌else◌}
+use Rattle.std.specs.Prelude.{ℕ, Bool, ◌&&◌, List, [], ◌++◌, Option, None, option_and_then, option_map, if◌then◌else◌}
 use Rattle.std.specs.List.{filter_map}
 use Rattle.lsa_codec.specs.declared.address.AreaId.{AreaId}
 use Rattle.lsa_codec.specs.declared.address.RouterId.{RouterId}
@@ -16,7 +16,6 @@ use Rattle.external_routes.specs.Choose.{preferred}
 use Rattle.external_routes.specs.Summaries.{is_announced_entry, is_announced_route, is_default}
 use Rattle.routing_table.specs.Preferring.{preferred_route}
 use Rattle.routing_table.specs.Tables.{inter_result}
-use Rattle.due_summaries.specs.declared.destination.Destination.{Destination}
 use Rattle.due_summaries.specs.declared.destination.Destination.TheVariants.{Network, BoundaryRouter}
 use Rattle.due_summaries.specs.declared.due_summary.DueSummary.{DueSummary}
 use Rattle.due_summaries.specs.Destinations.{boundary_routers}

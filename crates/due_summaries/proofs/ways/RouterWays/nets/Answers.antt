@@ -1,4 +1,4 @@
-use Rattle.std.proofs.Common.{◌++◌, ◌∙◌, List, ap, sym}
+use Rattle.std.proofs.Common.{◌∙◌, List, ap, sym}
 use Rattle.std.proofs.lemmas.List.{map-append}
 use Rattle.std.proofs.lemmas.Result.{IfOk-weaker}
 use Rattle.lsa_codec.specs.Order.{prefix_cmp}
