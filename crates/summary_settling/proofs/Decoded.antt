@@ -1,5 +1,5 @@
 -- Bytes that are decoded whole.
-use Rattle.std.proofs.Common.{◌≡◌, ℕ, ◌≤◌, Bool, true, false, cond, eqb, List, ◌++◌, length, drop, Option, None, Some, Result, Ok, Err, refl, sym, ap, ◌∙◌, subst, arith}
+use Rattle.std.proofs.Common.{◌≡◌, ℕ, ◌≤◌, true, false, cond, eqb, List, ◌++◌, length, drop, Some, Result, Ok, Err, refl, sym, ap, ◌∙◌, subst}
 use Rattle.std.specs.Prelude.{◌&&◌}
 use Rattle.std.proofs.lemmas.Bool.{ne_eqb}
 use Rattle.std.proofs.lemmas.List.{append-nil, drop_all}
@@ -9,7 +9,7 @@ use Rattle.lsa_codec.specs.Accepted.{IsAccepted}
 use Rattle.lsa_codec.specs.Decoding.{IsFaultOf, decoded}
 use Rattle.lsa_codec.specs.Fields.{kind_of, length_of}
 use Rattle.lsa_codec.proofs.LsaLemmas.{has_texts}
-use Rattle.event_lsas.specs.Outcomes.{LsaChange, becomes, can_replace, is_accepted, is_all_of, kept, replaced}
+use Rattle.event_lsas.specs.Outcomes.{becomes, can_replace, is_accepted, is_all_of, kept, replaced}
 use Rattle.event_lsas.proofs.ReplacementLemmas.{accepted_true}
 use Rattle.summary_settling.proofs.Conditions.{and_false}
 

@@ -1,5 +1,5 @@
 -- The metrics that are due are at most LSInfinity.
-use Rattle.std.proofs.Common.{◌≡◌, ℕ, ◌<◌, ◌≤◌, Bool, true, false, cond, ltb, List, [], ◌∷◌, filter, Option, None, Some, IfSome, refl, sym, ap, ◌∙◌, arith}
+use Rattle.std.proofs.Common.{◌≡◌, ℕ, ◌<◌, ◌≤◌, Bool, true, false, cond, ltb, List, [], ◌∷◌, filter, Option, None, Some, IfSome, refl, arith}
 use Rattle.std.specs.Prelude.{◌&&◌, All}
 use Rattle.std.specs.List.{cons_option, filter_map, find, flat_map}
 use Rattle.std.specs.Option.{option_and_then, option_map, option_map_or}

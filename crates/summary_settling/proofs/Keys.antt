@@ -1,8 +1,8 @@
 -- LSAs of one key that are taken out, and LSAs that are added.
-use Rattle.std.proofs.Common.{◌≡◌, ◌≢◌, ℕ, zero, suc, ◌+◌, ◌<◌, ◌≤◌, Bool, true, false, not, cond, List, [], ◌∷◌, ◌++◌, filter, length, map, Option, None, Some, refl, sym, ap, ◌∙◌, subst, arith}
+use Rattle.std.proofs.Common.{◌≡◌, ◌≢◌, ℕ, zero, suc, ◌+◌, ◌<◌, ◌≤◌, Bool, true, false, not, cond, List, [], ◌∷◌, ◌++◌, length, map, Option, None, Some, refl, sym, ap, ◌∙◌, subst}
 use Rattle.std.specs.Prelude.{All, AllPairs, IsSome, is_some}
 use Rattle.std.specs.List.{find}
-use Rattle.std.specs.Option.{option_map, option_map_or}
+use Rattle.std.specs.Option.{option_map}
 use Rattle.std.proofs.lemmas.List.Elements.{All-head, All-tail}
 use Rattle.lsa_codec.specs.declared.key.Key.{Key}
 use Rattle.lsa_codec.specs.Accepted.{IsAccepted}
@@ -14,11 +14,10 @@ use Rattle.lsdb.specs.Slots.{IsFirstSlot, SectionSlots, Slot, Slots, head_or_non
 use Rattle.lsdb.proofs.KeyLemmas.{other_key, own_key, same_key_true}
 use Rattle.lsdb.proofs.ListLemmas.{all_at_mid, map_mid, pairs_head, pairs_tail}
 use Rattle.lsdb.proofs.SlotLemmas.{added_safe, between, lists-new, section_with, with_lsa}
-use Rattle.area_graph.specs.Area.{is_live}
 use Rattle.event_lsas.specs.SlotChanges.{slot_of}
-use Rattle.summary_settling.specs.Placing.{is_free, with_last, without_key}
+use Rattle.summary_settling.specs.Placing.{without_key}
 use Rattle.summary_settling.specs.steps.Slots.{with_lsas}
-use Rattle.summary_settling.proofs.Updates.{item-map, item-update, update_mid, update_same, update-update}
+use Rattle.summary_settling.proofs.Updates.{item-map, item-update, update_mid}
 
 -- ---- lists
 

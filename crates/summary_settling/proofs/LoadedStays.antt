@@ -7,7 +7,6 @@ use Rattle.std.specs.Option.{option_map_or}
 use Rattle.std.proofs.lemmas.Bool.{and_from, cond-false, eq-eqb, false≢true, ne_eqb}
 use Rattle.std.proofs.lemmas.List.Elements.{All-cons, All-contains, All-head, All-nil, All-tail}
 use Rattle.lsa_codec.specs.declared.address.AreaId.{AreaId}
-use Rattle.lsa_codec.specs.declared.address.RouterId.{RouterId}
 use Rattle.lsa_codec.specs.Accepted.{IsAccepted}
 use Rattle.lsa_codec.specs.Fields.{advertising_router_of, kind_of, link_state_id_of}
 use Rattle.lsa_codec.specs.Key.{key_of, router_key}
@@ -41,7 +40,6 @@ use Rattle.summary_settling.specs.Loaded.{held, held_in, left_out, left_out_in, 
 use Rattle.summary_settling.specs.Placing.{all_placed, is_missing, missing}
 use Rattle.summary_settling.specs.Settled.{areas_settled, bits_settled, has_several_areas, settled, settled_area, settled_lsas, settled_section, summaries_settled}
 use Rattle.summary_settling.specs.Standing.{standing}
-use Rattle.summary_settling.proofs.Conditions.{and_false}
 use Rattle.summary_settling.proofs.Found.{In-find, find-In, one_of_key}
 
 -- ---- what is the same as itself

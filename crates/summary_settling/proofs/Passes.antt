@@ -1,12 +1,10 @@
 -- The sections of a database, each settled in turn by its plan.
-use Rattle.std.proofs.Common.{◌≡◌, ℕ, zero, suc, ◌+◌, ◌<◌, ◌≤◌, Bool, true, false, cond, List, [], ◌∷◌, length, map, get_or, Option, None, Some, IfSome, refl, sym, ap, ◌∙◌, subst, arith}
+use Rattle.std.proofs.Common.{◌≡◌, ℕ, suc, ◌≤◌, Bool, true, false, cond, [], ◌∷◌, length, map, Option, None, Some, IfSome, refl, sym, ap, ◌∙◌, subst, arith}
 use Rattle.std.specs.Prelude.{IsSome}
 use Rattle.std.specs.Option.{option_map}
-use Rattle.std.proofs.lemmas.Option.{get_or_from_slice_get, slice_get-get_or}
 use Rattle.lsdb.specs.Lists.{AreaHead, Lists, SectionLsas, heads_of}
 use Rattle.lsdb.specs.Slots.{Slots, head_or_none, item_at, lists_of, update_at}
 use Rattle.area_routes.specs.Attached.{id_of}
-use Rattle.summary_settling.specs.declared.announcement.Announcement.{Announcement}
 use Rattle.summary_settling.specs.declared.plan.Pass.{Pass}
 use Rattle.summary_settling.specs.Loaded.{held, left_out}
 use Rattle.summary_settling.specs.Settled.{areas_settled, settled_area, settled_section}

@@ -3,7 +3,7 @@ use Rattle.std.proofs.Common.{◌≡◌, ℕ, ◌+◌, ◌<◌, ◌≤◌, Bool,
 use Rattle.std.proofs.lemmas.List.{take_all}
 use Rattle.std.proofs.lemmas.List.Sums.{fold_more}
 use Rattle.lsa_codec.specs.declared.address.AreaId.{AreaId}
-use Rattle.lsdb.specs.Lists.{Lists, SectionLsas}
+use Rattle.lsdb.specs.Lists.{Lists}
 use Rattle.lsdb.specs.Slots.{update_at}
 use Rattle.due_summaries.specs.declared.due_summary.DueSummary.{DueSummary}
 use Rattle.summary_settling.specs.Placing.{all_placed, placed}

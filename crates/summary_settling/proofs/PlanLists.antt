@@ -1,7 +1,7 @@
 -- The plans of the sections, one after another.
 use Rattle.std.proofs.Common.{◌≡◌, ℕ, zero, suc, ◌+◌, ◌<◌, ◌≤◌, List, [], ◌∷◌, ◌++◌, length, map, take, get_or, Option, None, refl, sym, ap, ◌∙◌, arith}
 use Rattle.std.proofs.lemmas.List.{take_all, take_more}
-use Rattle.lsdb.specs.Lists.{AreaHead, Lists, heads_of}
+use Rattle.lsdb.specs.Lists.{AreaHead, heads_of}
 use Rattle.lsdb.specs.Slots.{Slots, head_or_none, item_at, lists_of}
 use Rattle.area_routes.proofs.AddsLemmas.{map_adds}
 

@@ -1,11 +1,11 @@
 -- Summary-LSAs have the scope of an area.
-use Rattle.std.proofs.Common.{◌≡◌, ℕ, Bool, true, false, List, Option, None, Some, refl, sym, ap, ◌∙◌, subst}
+use Rattle.std.proofs.Common.{◌≡◌, ℕ, Bool, true, false, List, refl, ap}
 use Rattle.std.specs.Prelude.{◌==◌, ◌||◌}
-use Rattle.std.proofs.lemmas.Bool.{and_parts, eqb-true, or_cases}
+use Rattle.std.proofs.lemmas.Bool.{eqb-true}
 use Rattle.lsa_codec.specs.Fields.{kind_of}
 use Rattle.lsa_codec.specs.Key.{key_of}
 use Rattle.lsa_codec.specs.Views.{has_metric}
-use Rattle.lsdb.specs.Lists.{Lists, has_as_scope}
+use Rattle.lsdb.specs.Lists.{has_as_scope}
 use Rattle.area_routes.specs.Inter.{is_summary}
 use Rattle.due_summaries.specs.declared.destination.Destination.{Destination}
 use Rattle.due_summaries.specs.declared.destination.Destination.TheVariants.{Network, BoundaryRouter}

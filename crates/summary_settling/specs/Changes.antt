@@ -1,5 +1,5 @@
 -- The slots that change where a database settles, and the database with them.
-use Rattle.std.specs.Prelude.{List, Option, None, Some, is_some, if◌then◌else◌, fold}
+use Rattle.std.specs.Prelude.{List, is_some, if◌then◌else◌, fold}
 use Rattle.lsdb.specs.Slots.{Slots, open_at, put, slot_at}
 use Rattle.event_lsas.specs.Outcomes.{SlotChangeData}
 

@@ -1,7 +1,7 @@
 -- Slots that change, one after another, and the changes so far.
 use Rattle.std.specs.Prelude.{◌≡◌, ℕ, List, ◌++◌, map, take, drop, Option, None, Some}
 use Rattle.lsdb.specs.declared.slot.SlotId.{SlotId}
-use Rattle.lsdb.specs.Lists.{Lists, SectionLsas}
+use Rattle.lsdb.specs.Lists.{SectionLsas}
 use Rattle.lsdb.specs.Slots.{SectionSlots, Slot, Slots, lsa_or_none, put, slot_at, update_at}
 use Rattle.lsdb.specs.steps.OneSlot.{IsPutSafe}
 use Rattle.event_lsas.specs.Outcomes.{LsaChange, Outcome, SlotChangeData, lsa_after}
