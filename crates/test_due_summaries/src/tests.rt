@@ -59,13 +59,7 @@ fn said(alloc: Global, database: &Database, area: AreaId) -> Result<Vec<DueSumma
 /// Whether the summary-LSAs of an area are those that are due there.
 fn are_due(alloc: Global, database: &Database, area: AreaId) -> Result<bool, Fail> {
     let borders = border_routers(alloc, database)?;
-    let due = due_into(
-        alloc,
-        database,
-        area,
-        &borders,
-        &mut KeptTrees::new(alloc),
-    )?;
+    let due = due_into(alloc, database, area, &borders, &mut KeptTrees::new(alloc))?;
     Ok(due == said(alloc, database, area)?)
 }
 
@@ -75,7 +69,7 @@ fn summaries_of_each_area_are_due(rt: HostRuntime) -> Result<(), Fail> {
     let alloc = rt.alloc();
     let database = Database::load(alloc, &dump_of_text(alloc, BORDERS)?)?;
     let borders = border_routers(alloc, &database)?;
-    assert!(rt; borders.as_slice() == [RouterId(0x0101_0101), RouterId(0x0202_0202)]);
+    assert!(rt; borders.as_slice() == [RouterId(0x0101_0101), RouterId(0x0202_0202)].as_slice());
     assert!(rt; are_due(alloc, &database, AreaId(0))?);
     assert!(rt; are_due(alloc, &database, AreaId(1))?);
     assert!(rt; are_due(alloc, &database, AreaId(2))?);
