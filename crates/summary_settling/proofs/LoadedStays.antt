@@ -119,11 +119,8 @@ module _ (db : Lists) (is : IsDatabase db) (head : AreaHead) (of : In (areas_of 
   bit_kept : (lsa : List ℕ) → In lsas lsa → bit_b_settled db db area lsa ≡ kept
   bit_kept lsa there = by (is_router_lsa lsa) (is_live lsa) refl refl
     where
-      abbrev due : Bool
-      due = bit_b_due db (border_routers db) (border_routers db) area (originator_of lsa)
-
       by : (b d : Bool) → is_router_lsa lsa ≡ b → is_live lsa ≡ d
-          → cond (b && (d && not (same_bool (has_bit_b lsa) due))) (replaced lsa (Some (with_bit_b_turned lsa))) kept ≡ kept
+          → cond (b && (d && not (same_bool (has_bit_b lsa) (bit_b_due db (border_routers db) (border_routers db) area (originator_of lsa))))) (replaced lsa (Some (with_bit_b_turned lsa))) kept ≡ kept
       by false d e f = refl
       by true false e f = refl
       by true true e f =
@@ -232,9 +229,10 @@ all_found (s ∷ db) pairs =
     by : (area : Option AreaHead) → s.area ≡ area → IsFound (s ∷ db) area s.lsas
     by None e = tt
     by (Some head) e =
-        let own : has_id head.id s.area ≡ true = ap (has_id head.id) e ∙ eq-eqb head.id head.id refl in
-        (subst (λ (a : Option AreaHead). In (cons_option a (areas_of db)) head) (sym e) (inl refl),
-        ap (λ b. lsas_or_none (cond b (Some s) (find (is_section (Area (id_of head))) db))) own)
+        let own : has_id head.id s.area ≡ true = ap (has_id head.id) e ∙ eq-eqb head.id head.id refl in (
+          subst (λ (a : Option AreaHead). In (cons_option a (areas_of db)) head) (sym e) (inl refl),
+          ap (λ b. lsas_or_none (cond b (Some s) (find (is_section (Area (id_of head))) db))) own,
+        )
 
 -- ---- all sections
 

@@ -16,9 +16,9 @@ pub noted_none : (d : Slots) (changes : List SlotChangeData) → IsNoted d chang
 noted_none d changes = λ start so_far. so_far
 
 -- one after another
-pub noted_then : (a : Slots) (as : List SlotChangeData) (b : Slots) (bs : List SlotChangeData) (c : Slots) (cs : List SlotChangeData)
-    → IsNoted a as b bs → IsNoted b bs c cs → IsNoted a as c cs
-noted_then a as b bs c cs first second = λ start so_far. second start (first start so_far)
+pub noted_then : (a : Slots) (xs : List SlotChangeData) (b : Slots) (ys : List SlotChangeData) (c : Slots) (zs : List SlotChangeData)
+    → IsNoted a xs b ys → IsNoted b ys c zs → IsNoted a xs c zs
+noted_then a xs b ys c zs first second = λ start so_far. second start (first start so_far)
 
 module _ (old new : Slots) (before after : List SlotChangeData) (c : SlotChangeData) (added : after ≡ before ++ c ∷ []) where
   one_more : new ≡ with_content old c → IsNoted old before new after

@@ -120,20 +120,21 @@ lists-after outcome (s ∷ ss) =
     ap (λ (lsas : List (List ℕ)). with_lsas (λ old. lsas) (section_of s) ∷ lists_of (map (outcome_section outcome) ss)) (full-changed (outcome s.area) s.slots)
     ∙ ap (λ (ts : Lists). section_after outcome (section_of s) ∷ ts) (lists-after outcome ss)
 
+-- the ID of an area
+id_in : AreaId → Option (AreaId × Bool) → AreaId
+id_in other None = other
+id_in other (Some named) = named.0
+
 -- the section of an area by its changes
 pub area_section : (f : AreaId → List ℕ → LsaChange) (d : Slots) (number : ℕ) (area : AreaId) (is_stub : Bool)
     → Some (area, is_stub) ≡ option_map id_and_kind (head_or_none (item_at d number))
     → with_changes (f area) number d ≡ update_at (outcome_section (in_areas f)) d number
+unfolding id_in
 area_section f [] number area is_stub is = refl
 area_section f (s ∷ ss) zero area is_stub is = ap (λ (t : SectionSlots). t ∷ ss) (by s.area refl is)
   where
-    id_in : AreaId → Option (AreaId × Bool) → AreaId
-    id_in other None = other
-    id_in other (Some named) = named.0
-
     by : (head : Option AreaHead) → s.area ≡ head → Some (area, is_stub) ≡ option_map id_and_kind head
         → section_changed (f area) s ≡ outcome_section (in_areas f) s
-    unfolding id_in
     by None e h = absurd cc
     by (Some head) e h =
         let same : area ≡ id_of head = ap (id_in area) h in

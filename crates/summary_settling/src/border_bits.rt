@@ -84,10 +84,7 @@ fn can_replace<A: Allocator + Copy>(old: &Lsa<A>, new: &Lsa<A>) -> bool
 }
 
 /// The LSA that bytes are, all of them.
-fn decoded<A: Allocator + Copy>(
-    alloc: A,
-    bytes: &[u8],
-) -> Result<Option<Lsa<A>>, AllocError>
+fn decoded<A: Allocator + Copy>(alloc: A, bytes: &[u8]) -> Result<Option<Lsa<A>>, AllocError>
     ensures whole { IfOk result (λ lsa. IfSome lsa (λ l. l ≡ bytes.now)) }
     ensures none { IfOk result (λ lsa. is_some lsa ≡ is_accepted bytes.now) }
 {

@@ -168,9 +168,7 @@ pub(crate) fn plans<A: Allocator + Copy>(
     let mut trees = KeptTrees::new(alloc);
     let mut plans = Vec::new(alloc);
     for number in 0..database.section_count() {
-        plans.push(section_plan(
-            loaded, borders, database, pass, number, &mut trees,
-        )?)?;
+        plans.push(section_plan(loaded, borders, database, pass, number, &mut trees)?)?;
     }
     Ok(plans)
 }

@@ -47,13 +47,12 @@ fn said_by(lsa: &Lsa) -> Option<DueSummary> {
 
 /// What the summary-LSAs of an area say, in their order.
 fn said(alloc: Global, database: &Database, area: AreaId) -> Result<Vec<DueSummary>, Fail> {
-    let mut all = Vec::new(alloc);
-    for lsa in database.lsas(Section::Area(area)) {
-        if let Some(said) = said_by(lsa) {
-            all.push(said)?;
-        }
-    }
-    Ok(all)
+    Ok(
+        database
+            .lsas(Section::Area(area))
+            .filter_map(|lsa| said_by(lsa))
+            .collect(alloc)?,
+    )
 }
 
 /// Whether the summary-LSAs of an area are those that are due there.
