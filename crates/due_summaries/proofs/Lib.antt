@@ -1,0 +1,6 @@
+mod RisingLists
+mod Loops
+mod AttachedIds
+mod AreasPassed
+mod Borders
+mod DueOf
