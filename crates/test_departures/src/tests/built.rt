@@ -28,6 +28,9 @@ pub(super) fn leaves(router: RouterId) -> Departure {
     Departure::LeavesNetwork { router, net: lan() }
 }
 
+/// No section of these databases has more LSAs.
+const MOST_LSAS: usize = 64;
+
 /// The database that a text describes.
 fn database(alloc: Global, text: &str) -> Result<Database, Fail> {
     Ok(Database::load(alloc, &dump_of_text(alloc, text)?)?)
@@ -55,7 +58,7 @@ fn push_section(
     section: usize,
 ) -> Result<(), Fail> {
     bytes.extend_from_slice(&section.to_be_bytes())?;
-    for index in 0..database.slot_count(section) {
+    for index in 0..MOST_LSAS {
         if let Some(lsa) = lsa_after(database, changes, SlotId { section, index }) {
             bytes.extend_from_slice(lsa.bytes())?;
         }
