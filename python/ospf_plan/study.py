@@ -17,7 +17,7 @@ if TYPE_CHECKING:
 
 EDITS = frozenset({
     "cost", "drop-link", "fail-link", "fail-net", "fail-router", "add-stub", "summary", "add-summary", "add-external",
-    "drop-external", "refresh", "cut", "set-cost", "drain",
+    "drop-external", "refresh", "cut", "set-cost", "drain", "fail",
 })
 """The words of edits and events."""
 
@@ -93,12 +93,13 @@ class Study:
 
     # ---- events
 
-    def cut(self, router: str, neighbor: str, address: str | None = None) -> Study:
+    def cut(self, router: str, to: str, address: str | None = None) -> Study:
         """Takes the point-to-point links of two routers away at both ends, each with the stub network of its interface.
 
-        With `address` the one link whose interface has it, at `router` or else at `neighbor`.
+        With `address` the one link whose interface has it, at `router` or else at its neighbor `to`. Where `to` is a prefix,
+        as `10.1.0.0/24`, the interface of `router` to this transit network goes.
         """
-        return self._edit("cut", router, neighbor, *(() if address is None else (address,)))
+        return self._edit("cut", router, to, *(() if address is None else (address,)))
 
     def set_cost(self, router: str, to: str, metric: int, *, both: bool = False) -> Study:
         """Sets the cost of a router's interfaces, 0 to 65535 for a stub network and 1 to 65535 for others.
@@ -111,6 +112,10 @@ class Study:
     def drain(self, router: str) -> Study:
         """Makes a router the last resort: its links to routers and transit networks cost 65535 (RFC 6987)."""
         return self._edit("drain", router)
+
+    def fail(self, router: str) -> Study:
+        """Lets a router fail: its LSAs go, and so do the links of others to it, and its place in transit networks."""
+        return self._edit("fail", router)
 
     # ---- edits
 

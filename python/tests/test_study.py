@@ -117,6 +117,36 @@ def test_events(two_areas):
     assert study.cut("r1", "r3", "10.0.13.2").undo(1).save() == two_areas.dump
 
 
+def test_routers_that_go(two_areas):
+    study = two_areas.study().fail("r5")
+    assert [(network.prefix, network.address, network.router, network.members) for network in study.networks()] == [
+        ("10.1.0.0/24", "10.1.0.4", "4.4.4.4", ("3.3.3.3", "4.4.4.4")),
+    ]
+    assert [router.router for router in study.routers()] == ["1.1.1.1", "2.2.2.2", "3.3.3.3", "4.4.4.4"]
+    assert study.cut("r4", "10.1.0.0/24").log() == ("fail 5.5.5.5", "cut 4.4.4.4 10.1.0.0/24")
+    assert len(study.networks()) == 0
+    assert [(link.type, link.prefix, link.cost) for link in study.links("r3") if link.area == "0.0.0.1"] == [
+        ("stub", "10.1.0.0/24", 10),
+    ]
+    assert study.undo(2).save() == two_areas.dump
+
+
+def test_events_that_are_refused(two_areas):
+    study = two_areas.study()
+    with pytest.raises(LineRefused, match="1.1.1.1 is on no transit network") as refused:
+        study.cut("r1", "10.1.0.0/24")
+    assert (refused.value.code, refused.value.name, refused.value.at) == ("E3", "NotOnNetwork", "10.1.0.0/24")
+    with pytest.raises(LineRefused, match="3.3.3.3 is on 10.1.0.0/24") as refused:
+        study.cut("r3", "10.2.0.0/24")
+    assert (refused.value.code, refused.value.name, refused.value.at) == ("E3", "NotOnNetwork", "10.2.0.0/24")
+    with pytest.raises(LineRefused, match="without host bits 10.1.0.0/24") as refused:
+        study.cut("r3", "10.1.0.3/24")
+    assert (refused.value.code, refused.value.name) == ("S7", "BadPrefix")
+    with pytest.raises(LineRefused) as refused:
+        study.fail("9.9.9.9")
+    assert (refused.value.code, refused.value.name) == ("E2", "NoRouter")
+
+
 def test_another_baseline(square):
     left = square.study().fail_link("0.0.0.0", "1.1.1.1", "2.2.2.2").save()
     after = type(square)(left)

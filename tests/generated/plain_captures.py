@@ -649,16 +649,23 @@ def flushes(flush: Observation, copy: Observation) -> bool:
             and not began_after(copy, flush.seen))
 
 
+def forgets(copy: Observation, other: Observation) -> bool:
+    """Whether an older instance began after the other one was seen: its originator had forgotten that one."""
+    return instance(copy.lsa)[:2] < instance(other.lsa)[:2] and began_after(copy, other.seen)
+
+
 def newest(observations: list[Observation], keeps: bool = False) -> list[Observation]:
-    """The newest of each LSA that stands, in order; where flushed LSAs are kept, also of those that were flushed."""
+    """The newest of each LSA that is not forgotten and stands, in order; where flushed LSAs are kept, also of those that
+    were flushed."""
     places = collections.defaultdict(list)
     for observation in observations:
         places[observation.place()].append(observation)
     found = []
     for place in sorted(places):
-        standing = [copy for copy in places[place] if not any(flushes(flush, copy) for flush in places[place])]
+        known = [copy for copy in places[place] if not any(forgets(other, copy) for other in places[place])]
+        standing = [copy for copy in known if not any(flushes(flush, copy) for flush in known)]
         if standing or keeps:
-            found.append(max(standing or places[place], key=lambda copy: instance(copy.lsa)))
+            found.append(max(standing or known, key=lambda copy: instance(copy.lsa)))
     return found
 
 

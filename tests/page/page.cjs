@@ -142,8 +142,8 @@ async function useKeys(_browser, tab) {
   await tab.evaluate('select("4.4.4.4")');
   await tab.key('f');
   await tab.settle();
-  check('a router fails by a key', (await valueOf(tab, 'text')) === 'cut r1 r2\nfail-router r4\n', await valueOf(tab, 'text'));
-  await compareChanges(tab, 'two failures', ['cut r1 r2', 'fail-router r4']);
+  check('a router fails by a key', (await valueOf(tab, 'text')) === 'cut r1 r2\nfail r4\n', await valueOf(tab, 'text'));
+  await compareChanges(tab, 'two failures', ['cut r1 r2', 'fail r4']);
   await tab.key('[');
   await tab.settle();
   await compareChanges(tab, 'an earlier line', ['cut r1 r2']);
@@ -152,7 +152,7 @@ async function useKeys(_browser, tab) {
   await tab.evaluate('select("5.5.5.5")');
   await tab.key('d');
   await tab.settle();
-  check('a drain is a line', (await valueOf(tab, 'text')).endsWith('fail-router r4\ndrain r5\n'), await valueOf(tab, 'text'));
+  check('a drain is a line', (await valueOf(tab, 'text')).endsWith('fail r4\ndrain r5\n'), await valueOf(tab, 'text'));
 }
 
 async function setText(tab, lines) {
@@ -457,18 +457,18 @@ async function sweepWithin(_browser, tab) {
   await tab.click('[data-sweep="routers"]');
   check('areas to choose from', (await tab.evaluate('[...document.getElementById("within").options].map((option) => option.textContent).join(", ")')) === 'all areas, backbone 0.0.0.0, area 0.0.0.1');
   await choose('0.0.0.0');
-  const backbone = await swept(), rows = await rowsOf(tab), failed = answers(['fail-router r1', 'changes'])[1].counts;
-  check('routers of the backbone', backbone === 'fail-router r1, fail-router r2, fail-router r3', backbone);
-  check('what one of them does', rows.some(([line, , lost, gone, dearer]) => line === 'fail-router r1' && [lost, gone, dearer].join() === [failed.lost, failed.gone, failed.dearer].join()), JSON.stringify(rows));
+  const backbone = await swept(), rows = await rowsOf(tab), failed = answers(['fail r1', 'changes'])[1].counts;
+  check('routers of the backbone', backbone === 'fail r1, fail r2, fail r3', backbone);
+  check('what one of them does', rows.some(([line, , lost, gone, dearer]) => line === 'fail r1' && [lost, gone, dearer].join() === [failed.lost, failed.gone, failed.dearer].join()), JSON.stringify(rows));
   await choose('');
   const all = await swept();
-  check('routers of all areas', all === 'fail-router r1, fail-router r2, fail-router r3, fail-router r4, fail-router r5', all);
+  check('routers of all areas', all === 'fail r1, fail r2, fail r3, fail r4, fail r5', all);
   await choose('0.0.0.1');
   const shown = (await rowsOf(tab)).map(([line]) => line).sort().join(', ');
-  check('of them those of an area', shown === 'fail-router r2, fail-router r3, fail-router r4, fail-router r5' && (await tab.evaluate('picture.heat.size')) === 4, shown);
+  check('of them those of an area', shown === 'fail r2, fail r3, fail r4, fail r5' && (await tab.evaluate('picture.heat.size')) === 4, shown);
   await tab.picture(path.join(folder, 'within.png'));
   await tab.evaluate('makeReport().then(() => 0)');
-  const losing = [2, 3, 4, 5].filter((one) => answers([`fail-router r${one}`, 'changes'])[1].counts.lost).length, printed = await textOf(tab, '#report');
+  const losing = [2, 3, 4, 5].filter((one) => answers([`fail r${one}`, 'changes'])[1].counts.lost).length, printed = await textOf(tab, '#report');
   check('a sweep is printed', losing > 0 && printed.includes(`One more failure within area 0.0.0.1: ${losing} of 4 lose routes`) && (await tab.evaluate('document.querySelectorAll("#report .bar").length')) === 4);
   await choose('');
   await tab.click('[data-sweep="all"]');
@@ -526,7 +526,7 @@ async function foresee(_browser, tab) {
   await setText(tab, ['']);
   await tab.evaluate('select("4.4.4.4")');
   await tab.until('/\\d/.test(document.querySelector("#card [data-key=f] .forecast").textContent)');
-  const { counts } = answers(['fail-router r4', 'changes'])[1];
+  const { counts } = answers(['fail r4', 'changes'])[1];
   const wanted = wordsOf(counts);
   check('a forecast', (await textOf(tab, '#card [data-key=f] .forecast')) === wanted, await textOf(tab, '#card [data-key=f] .forecast'));
   await tab.evaluate('select(null)');
@@ -661,7 +661,7 @@ async function openMenus(_browser, tab) {
   check('it is of that router', (await tab.evaluate('document.getElementById("menu").getAttribute("aria-label")')) === 'r4' && (await textOf(tab, '#card h2')) === 'r4');
   await tab.until('/\\d/.test(document.querySelector("#menu [data-key=f] .forecast").textContent)');
   const said = await textOf(tab, '#menu [data-key=f] .forecast');
-  check('what the menu foresees', said === wordsOf(answers(['fail-router r4', 'changes'])[1].counts), said);
+  check('what the menu foresees', said === wordsOf(answers(['fail r4', 'changes'])[1].counts), said);
   await tab.picture(path.join(folder, 'menu.png'));
   await tab.clickAt(...await tab.evaluate('(({ left, bottom }) => [left + 30, bottom - 60])(document.getElementById("map").getBoundingClientRect())'));
   check('a click beside it closes it', (await menuOf(tab)).length === 0 && (await valueOf(tab, 'text')) === '');
@@ -670,7 +670,7 @@ async function openMenus(_browser, tab) {
   check('a menu at a link', JSON.stringify(await menuOf(tab)) === '["Cut","Set cost r1 to r2","Set cost r2 to r1"]', JSON.stringify(await menuOf(tab)));
   await tab.key('Escape', 27);
   await tab.clickAt(...await tab.evaluate('picture.placeOf("net 0.0.0.1 10.1.0.5")'), 'right');
-  check('a menu at a LAN', JSON.stringify(await menuOf(tab)) === '["Fail the LAN"]', JSON.stringify(await menuOf(tab)));
+  check('a menu at a LAN', JSON.stringify(await menuOf(tab)) === '["Fail the LAN","Cut r3 from the LAN","Cut r4 from the LAN","Cut r5 from the LAN"]', JSON.stringify(await menuOf(tab)));
   await tab.click('#menu [data-key=f]');
   await tab.settle();
   check('a line of the menu', (await valueOf(tab, 'text')) === 'fail-net 0.0.0.1 10.1.0.5\n' && (await menuOf(tab)).length === 0, await valueOf(tab, 'text'));
@@ -701,7 +701,7 @@ async function openMenusByKeys(_browser, tab) {
   check('the Menu key opens it', (await menuOf(tab)).length === 5);
   await tab.key('f');
   await tab.settle();
-  check('a letter does its action', (await valueOf(tab, 'text')) === 'fail-router r5\n', await valueOf(tab, 'text'));
+  check('a letter does its action', (await valueOf(tab, 'text')) === 'fail r5\n', await valueOf(tab, 'text'));
   await tab.click('#tab-Elements');
   await tab.evaluate('document.querySelector("#pane [data-element=\'2.2.2.2\']").focus()');
   await tab.key('ContextMenu', 93);

@@ -28,13 +28,14 @@ function checkGrammar(help) {
   const grammar = new Grammar(help), after = (line) => grammar.next(line.split(' ')).map(({ token }) => token).join(' ');
   check('all words', grammar.next([]).length, help.filter(({ meaning }) => meaning).length);
   check('edits', [after('cost'), after('cost 0.0.0.0'), after('cost 0.0.0.0 r1'), after('cost 0.0.0.0 r1 r2'), after('cost 0.0.0.0 r1 r2 1')], ['AREA', 'ROUTER', 'LINK', 'METRIC', '']);
-  check('events', [after('cut r1'), after('cut r1 r2'), after('set-cost r1'), after('set-cost r1 r2'), after('set-cost r1 r2 5'), after('drain')], ['NEIGHBOR', 'ADDRESS', 'NEIGHBOR', 'METRIC', 'both', 'ROUTER']);
+  check('events', [after('cut'), after('cut r1'), after('cut r1 r2'), after('cut r1 10.1.0.0/24'), after('set-cost r1'), after('set-cost r1 r2'), after('set-cost r1 r2 5'), after('drain'), after('fail')], ['ROUTER', 'NEIGHBOR PREFIX', 'ADDRESS', '', 'NEIGHBOR', 'METRIC', 'both', 'ROUTER', 'ROUTER']);
+  check('sweeps', [after('sweep'), after('sweep links'), after('sweep all within'), after('sweep all within 0.0.0.1'), after('sweep nets')], ['links networks routers all', 'within', 'AREA', '', '']);
   check('what may be left out', [after('links'), after('routes r1'), after('expect microloops')], ['ROUTER', 'ADDRESS', 'COUNT none']);
   check('conditions', [after('expect lost'), after('expect not lost only'), after('expect lost only 10.0.0.0/8'), after('expect path r1 10.1.5.1')], ['none <= only', 'PREFIX..', 'PREFIX..', 'via avoids delivered']);
   check('parts of a condition', [after('expect route r1 10.0.0.0/8'), after('expect route r1 10.0.0.0/8 inter'), after('expect route r1 10.0.0.0/8 via r2,r3'), after('expect route r1 10.0.0.0/8 cost')], ['KIND via cost', 'via cost', 'cost', 'OP']);
   check('not', [after('expect').split(' ').at(-1), after('expect not').includes('not '), after('nonsense')], ['not', false, '']);
-  const whole = ['refresh', 'undo 1', 'cut r1 r2', 'cut r1 r2 10.0.0.1', 'set-cost r1 r2 5 both', 'expect lost none', 'expect lost only 10.0.0.0/8 10.1.0.0/16', 'expect path r1 10.1.5.1 avoids r2', 'links', 'links r1'];
-  const parts = ['undo', 'cut r1', 'set-cost r1 r2', 'expect', 'expect lost', 'expect lost only', 'expect path r1 10.1.5.1 via', 'cost 0.0.0.0 r1 r2', 'refresh 1', 'nonsense'];
+  const whole = ['refresh', 'undo 1', 'cut r1 r2', 'cut r1 r2 10.0.0.1', 'cut r1 10.1.0.0/24', 'fail r1', 'sweep links', 'sweep all within 0.0.0.1', 'set-cost r1 r2 5 both', 'expect lost none', 'expect lost only 10.0.0.0/8 10.1.0.0/16', 'expect path r1 10.1.5.1 avoids r2', 'links', 'links r1'];
+  const parts = ['undo', 'cut r1', 'cut r1 10.1.0.0/24 10.1.0.1', 'fail', 'fail r1 r2', 'sweep', 'sweep all within', 'sweep within 0.0.0.1', 'set-cost r1 r2', 'expect', 'expect lost', 'expect lost only', 'expect path r1 10.1.5.1 via', 'cost 0.0.0.0 r1 r2', 'refresh 1', 'nonsense'];
   check('whole lines', [...whole, ...parts].map((line) => grammar.isWhole(line.split(' '))), [...whole.map(() => true), ...parts.map(() => false)]);
 }
 
@@ -165,7 +166,7 @@ function checkFailures() {
     state.graph = topology(before, now);
     return sweepLines('all').map(([line]) => line);
   };
-  const routers = ['fail-router 1.1.1.1', 'fail-router 2.2.2.2'];
+  const routers = ['fail 1.1.1.1', 'fail 2.2.2.2'];
   check('failures', failures(networkOf(LINK), {}), ['cut 1.1.1.1 2.2.2.2', ...routers]);
   check('after a failure', failures(networkOf(LINK), { links: { links: LINK.slice(1) }, routers: { routers: [router('2.2.2.2')] } }), routers.slice(1));
   check('of a one-way link', failures(networkOf(LINK), { links: { links: LINK.slice(1) } }), ['cut 1.1.1.1 2.2.2.2', ...routers]);
@@ -184,15 +185,32 @@ function checkOffers() {
     return actionsOf(id).map(({ label, key, lines = [] }) => [label, key, ...lines].join(' '));
   };
   const isFirst = (id) => id === '1.1.1.1', paths = ['Path from here p', 'Path to here P', 'Routes t'];
-  check('at a router', offered(networkOf(LINK), {}, isFirst), ['Fail f fail-router 1.1.1.1', 'Drain d drain 1.1.1.1', ...paths]);
-  check('at a drained router', offered(networkOf(LINK), { links: { links: drained } }, isFirst), ['Fail f fail-router 1.1.1.1', ...paths]);
+  check('at a router', offered(networkOf(LINK), {}, isFirst), ['Fail f fail 1.1.1.1', 'Drain d drain 1.1.1.1', ...paths]);
+  check('at a drained router', offered(networkOf(LINK), { links: { links: drained } }, isFirst), ['Fail f fail 1.1.1.1', ...paths]);
   check('at a failed router', offered(networkOf(LINK), { routers: { routers: [router('2.2.2.2')] } }, isFirst), paths);
   const first = (found) => Array.isArray(found) ? found[0] : false;
   check('at a link', offered(networkOf(LINK), {}, first), ['Cut c cut 1.1.1.1 2.2.2.2', 'Set cost 1.1.1.1 to 2.2.2.2 s', 'Set cost 2.2.2.2 to 1.1.1.1 ']);
   check('at one of parallel links', offered(networkOf([...LINK, ...PARALLEL]), {}, first)[0], 'Cut c cut 1.1.1.1 2.2.2.2 10.0.0.1');
   check('at a link that is gone', offered(networkOf(LINK), { links: { links: [] } }, first), []);
   const withLan = { ...networkOf([toLan]), networks: { networks: [lan] } };
-  check('at a LAN, and at a link to it', [offered(withLan, {}, (found) => !Array.isArray(found) && found.startsWith('net')), offered(withLan, {}, first)], [['Fail the LAN f fail-net 0.0.0.0 10.8.0.2'], ['Cut c drop-link 0.0.0.0 1.1.1.1 10.8.0.1', 'Set cost 1.1.1.1 to 10.8.0.0/24 s']]);
+  check('at a LAN, and at a link to it', [offered(withLan, {}, (found) => !Array.isArray(found) && found.startsWith('net')), offered(withLan, {}, first)], [['Fail the LAN f fail-net 0.0.0.0 10.8.0.2', 'Cut 1.1.1.1 from the LAN  cut 1.1.1.1 10.8.0.0/24'], ['Cut c cut 1.1.1.1 10.8.0.0/24', 'Set cost 1.1.1.1 to 10.8.0.0/24 s']]);
+}
+
+// A LAN whose Designated Router failed is the same one, at the address of the next.
+function checkSuccessors() {
+  const ids = ['1.1.1.1', '2.2.2.2', '3.3.3.3'], lan = (address, members) => ({ area: '0.0.0.0', prefix: '10.8.0.0/24', address, members });
+  const toLan = (id, to) => ({ router: id, area: '0.0.0.0', number: 1, type: 'transit', cost: 5, to, data: `10.8.0.${id[0]}` });
+  const before = { routers: { routers: ids.map(router) }, links: { links: ids.map((id) => toLan(id, '10.8.0.3')) }, networks: { networks: [lan('10.8.0.3', ids)] } };
+  const [left, next] = [ids.slice(0, 2), '10.8.0.2'];
+  const seen = (now) => {
+    const { nodes, edges } = topology(before, now);
+    return [[...nodes.values()].filter(({ kind }) => kind === 'network').map(({ id, address, failed }) => [id, address, failed]), [...edges.values()].map(edgeFailed)];
+  };
+  const now = { routers: { routers: left.map(router) }, links: { links: left.map((id) => toLan(id, next)) }, networks: { networks: [lan(next, left)] } };
+  check('a LAN that goes on', seen(now), [[['net 0.0.0.0 10.8.0.3', '10.8.0.2', false]], [false, false, true]]);
+  check('a LAN that goes', seen({ ...now, links: { links: [] }, networks: { networks: [] } }), [[['net 0.0.0.0 10.8.0.3', '10.8.0.3', true]], [true, true, true]]);
+  const apart = { ...before.networks.networks[0], prefix: '10.9.0.0/24', address: next };
+  check('another LAN', seen({ ...now, networks: { networks: [apart] } })[0].map(([id, , failed]) => [id, failed]), [['net 0.0.0.0 10.8.0.3', true], ['net 0.0.0.0 10.8.0.2', false]]);
 }
 
 // What fails within an area: its links, its LANs, and its routers, of which border routers are in several.
@@ -204,7 +222,7 @@ function checkAreas() {
   state.graph = topology({ routers: { routers }, links: { links }, networks: { networks } }, {});
   const within = (kind, area) => sweepLines(kind, area).map(([line]) => line).join(', ');
   check('links within an area', [within('links', first), within('links', second), within('links', '0.0.0.9')], ['cut 1.1.1.1 2.2.2.2', 'cut 2.2.2.2 3.3.3.3', '']);
-  check('all within an area', [within('all', first), within('all', second)], ['cut 1.1.1.1 2.2.2.2, fail-router 1.1.1.1, fail-router 2.2.2.2', 'cut 2.2.2.2 3.3.3.3, fail-net 0.0.0.7 10.8.0.3, fail-router 2.2.2.2, fail-router 3.3.3.3']);
+  check('all within an area', [within('all', first), within('all', second)], ['cut 1.1.1.1 2.2.2.2, fail 1.1.1.1, fail 2.2.2.2', 'cut 2.2.2.2 3.3.3.3, fail-net 0.0.0.7 10.8.0.3, fail 2.2.2.2, fail 3.3.3.3']);
   check('the areas', areasNow(), [first, second]);
   state.sweepArea = second;
   const rows = [{ key: '1.1.1.1', lost: 9, gone: 0, dearer: 0 }, { key: '3.3.3.3', lost: 1, gone: 0, dearer: 0 }, { key: '2.2.2.2', lost: 4, gone: 0, dearer: 0 }];
@@ -313,6 +331,7 @@ checkKinds();
 checkLinks();
 checkFailures();
 checkOffers();
+checkSuccessors();
 checkAreas();
 checkPaths();
 checkStrokes();

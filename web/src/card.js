@@ -26,16 +26,13 @@ function inBranch(line) {
 const canDrain = (router) => state.graph.nodes.get(router).edges
   .some((edge) => edge.ends.some((end) => end.router === router && end.now !== null && end.now !== 65535));
 
-// All links of two routers, or the one end of a router's link to a network.
-const CUTS = {
-  link: (edge) => `cut ${nameOf(edge.a)} ${nameOf(edge.b)}`,
-  transit: (edge) => `drop-link ${edge.area} ${nameOf(edge.a)} ${edge.ends[0].data}`,
-};
+// The line that cuts all links of two routers, or a router from a LAN.
+const cutApart = (edge) => `cut ${nameOf(edge.a)} ${nameOf(edge.b)}`;
 
 // The line that cuts one link: by an address of it where links beside it stay.
 function cutLine(edge) {
   const isBeside = ({ key, kind, a, b }) => key !== edge.key && kind === 'link' && [a, b].includes(edge.a) && [a, b].includes(edge.b);
-  if (edge.kind === 'transit' || !state.graph.nodes.get(edge.a).edges.some(isBeside)) return CUTS[edge.kind](edge);
+  if (edge.kind === 'transit' || !state.graph.nodes.get(edge.a).edges.some(isBeside)) return cutApart(edge);
   const [end] = edge.ends.filter(({ now }) => now !== null), other = end.router === edge.a ? edge.b : edge.a;
   return `cut ${nameOf(end.router)} ${nameOf(other)} ${end.data}`;
 }
@@ -50,14 +47,23 @@ function actionsOf(id) {
   const { nodes, edges } = state.graph;
   if (edges.has(id)) return edgeActions(edges.get(id));
   const node = nodes.get(id);
-  if (node.kind === 'network') return node.failed ? [] : [{ label: 'Fail the LAN', key: 'f', lines: [`fail-net ${node.area} ${node.address}`] }];
+  if (node.kind === 'network') return node.failed ? [] : lanActions(node);
   return [
-    !node.failed && { label: 'Fail', key: 'f', lines: [`fail-router ${nameOf(id)}`] },
+    !node.failed && { label: 'Fail', key: 'f', lines: [`fail ${nameOf(id)}`] },
     !node.failed && canDrain(id) && { label: 'Drain', key: 'd', lines: [`drain ${nameOf(id)}`] },
     { label: 'Path from here', key: 'p', act: () => askPath(id) },
     { label: 'Path to here', key: 'P', act: () => askPathTo(id) },
     { label: 'Routes', key: 't', act: () => { state.table = id; state.tab = 'Routes'; calculate(false); } },
   ].filter(Boolean);
+}
+
+// Of a LAN with more routers each is cut at its link to it alone.
+const MOST_CUTS = 6;
+
+function lanActions({ area, address, edges }) {
+  const left = edges.filter((edge) => !edgeFailed(edge));
+  const cuts = left.length > MOST_CUTS ? [] : left.map((edge) => ({ label: `Cut ${nameOf(edge.a)} from the LAN`, key: null, lines: [cutApart(edge)] }));
+  return [{ label: 'Fail the LAN', key: 'f', lines: [`fail-net ${area} ${address}`] }, ...cuts];
 }
 
 function edgeActions(edge) {

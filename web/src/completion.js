@@ -48,6 +48,12 @@ function metricOptions({ ROUTER, AREA, LINK, NEIGHBOR }) {
   return edge ? [{ word: String(now), about: 'its cost now' }, { word: '65535', about: 'no transit' }] : [];
 }
 
+// The LANs that a router has a link to.
+function lanOptions({ ROUTER }) {
+  const id = idOf(ROUTER), edges = linksOf(ROUTER).filter((edge) => edge.kind === 'transit' && !edgeFailed(edge));
+  return edges.map((edge) => optionOf(edge.b, `LAN, cost ${edge.ends.find((end) => end.router === id)?.now}`));
+}
+
 // The prefixes that are known, each with the routers or the network that it is of.
 function knownPrefixes() {
   const { before, now } = state.answers, found = new Map();
@@ -77,8 +83,8 @@ const VALUES = {
   ADDRESS: ({ AREA, ROUTER, NEIGHBOR }) => NEIGHBOR ? endOptions({ ROUTER, NEIGHBOR }) : AREA
     ? [...state.graph.nodes.values()].filter((node) => node.kind === 'network' && node.area === AREA && !node.failed).map(({ address, label }) => ({ word: address, about: `LAN ${label}` }))
     : knownPrefixes().map(([prefix, about]) => ({ word: hostIn(prefix), about: `${prefix} ${about}` })),
-  PREFIX: () => knownPrefixes().map(([word, about]) => ({ word, about })),
-  'PREFIX..': () => VALUES.PREFIX(),
+  PREFIX: ({ ROUTER, command }) => command === 'cut' ? lanOptions({ ROUTER }) : knownPrefixes().map(([word, about]) => ({ word, about })),
+  'PREFIX..': () => VALUES.PREFIX({}),
   KIND: fixed(...CLOSED.KIND), 'KIND..': () => (state.audit?.findings ?? []).map(({ kind }) => ({ word: kind, about: '' })),
   OP: fixed(...CLOSED.OP), TYPE: fixed('1', '2'), FORWARD: fixed('0.0.0.0'), TAG: fixed('0'), COUNT: fixed('1'),
   WORD: () => state.grammar.lines.map(({ word, meaning }) => ({ word, about: meaning })),
@@ -109,12 +115,13 @@ function caretPlace({ field }) {
 
 // ---- what is found, or done
 
-// Edits of the elements of the network, as they are called in their cards, and what takes them back.
+// Edits of the elements of the network, as they are called in their cards, and what takes them back. Those that a card offers without
+// a key are those of another element.
 function actionsNow() {
   const { nodes, edges } = state.graph, actions = [];
   for (const id of [...edges.keys(), ...nodes.keys()]) {
     const title = edges.has(id) ? edgeTitle(edges.get(id), nodes) : nodes.get(id).label;
-    for (const { label, lines } of actionsOf(id)) if (lines) actions.push({ word: `${label.replace(' the LAN', ' LAN')} ${title}`, lines });
+    for (const { label, key, lines } of actionsOf(id)) if (lines && key) actions.push({ word: `${label.replace(' the LAN', ' LAN')} ${title}`, lines });
     const culprit = conditionOf(id) && !edges.get(id)?.isDown ? lineOf(id) : 0;
     if (culprit) actions.push({ word: `Remove line ${culprit}: ${title} is ${conditionOf(id)}`, act: () => editor.remove(culprit) });
   }

@@ -1,13 +1,19 @@
 // What may stand next in a line, by the words of `help` that the module answers: `cost AREA ROUTER LINK METRIC`, where words
-// in capitals stand for others, `[..]` may be left out, and `|` separates what may stand at the end.
+// in capitals stand for others, `[..]` may be left out, and `|` separates what may stand in parentheses, or without them at the
+// end, from the first other word on.
 
 const isLiteral = (token) => !/^[A-Z]/.test(token);
 const isRepeated = (token) => /[A-Z]\.\.$/.test(token);
 const CLOSED = { KIND: ['intra', 'inter', 'ext1', 'ext2', 'own'], OP: ['<=', '=', '>='] };
+// What tells a prefix from a neighbor.
+const FORMS = { PREFIX: (word) => word.includes('/'), NEIGHBOR: (word) => !word.includes('/') };
 
 // The sequences of words that a text of `help` stands for.
 function sequencesOf(text) {
-  const [first, ...others] = text.split(' | ').map((part) => part.match(/\[[^\]]*\]|\S+/g) ?? []);
+  const partsOf = (part) => part.match(/\[[^\]]*\]|\S+/g) ?? [];
+  const [, before, inside, after] = /^(.*)\((.*)\)(.*)$/.exec(text) ?? [];
+  if (inside) return inside.split(' | ').flatMap((one) => withOptions([before, one, after].flatMap(partsOf)));
+  const [first, ...others] = text.split(' | ').map(partsOf);
   const front = first.slice(0, Math.max(0, first.findIndex(isLiteral)));
   return [first, ...others.map((other) => [...front, ...other])].flatMap(withOptions);
 }
@@ -23,7 +29,8 @@ function withOptions(parts) {
 }
 
 const tokenAt = (sequence, k) => sequence[k] ?? (isRepeated(sequence.at(-1) ?? '') ? sequence.at(-1) : null);
-const fits = (token, word) => token !== null && (isLiteral(token) ? token === word : !CLOSED[token] || CLOSED[token].includes(word));
+const isOf = (token, word) => FORMS[token]?.(word) ?? (!CLOSED[token] || CLOSED[token].includes(word));
+const fits = (token, word) => token !== null && (isLiteral(token) ? token === word : isOf(token, word));
 const beginsWith = (sequence, words) => words.every((word, k) => fits(tokenAt(sequence, k), word));
 
 // What a sequence has after words, with what its words in capitals stand for; null where it does not begin with them, or ends.

@@ -2,11 +2,11 @@
 
 const EDITS = new Set([
   'cost', 'drop-link', 'fail-link', 'fail-net', 'fail-router', 'add-stub', 'summary', 'add-summary', 'add-external',
-  'drop-external', 'refresh', 'cut', 'set-cost', 'drain',
+  'drop-external', 'refresh', 'cut', 'set-cost', 'drain', 'fail',
 ]);
 const QUESTIONS = new Set([
   'table', 'tables', 'compare', 'info', 'routers', 'links', 'networks', 'routes', 'path', 'explain', 'changes', 'differences', 'lost',
-  'gone', 'loops', 'microloops', 'audit', 'log', 'help', 'undo', 'redo', 'back', 'expect',
+  'gone', 'loops', 'microloops', 'sweep', 'audit', 'log', 'help', 'undo', 'redo', 'back', 'expect',
 ]);
 const KINDS = ['lost', 'gone', 'dearer', 'type', 'moved', 'gained', 'cheaper', 'router-gone', 'router-new'];
 
@@ -109,22 +109,37 @@ function endOf(link, now) {
   return { router: link.router, number: link.number, data: link.data, was: link.cost, now: found ? found.cost : null };
 }
 
-// The nodes and edges of a picture: of the loaded database and of now, joined.
+// LANs that have another Designated Router than in the loaded database, by what they are called now: the address of the old one.
+function oldAddresses(before, now) {
+  const idsOf = (networks) => new Set(networks.map(({ area, address }) => networkId(area, address)));
+  const known = idsOf(before), inUse = idsOf(now), found = new Map();
+  for (const { area, prefix, address } of now.filter((net) => !known.has(networkId(net.area, net.address)))) {
+    const old = before.find((net) => net.area === area && net.prefix === prefix && !inUse.has(networkId(area, net.address)));
+    if (old) found.set(networkId(area, address), old.address);
+  }
+  return found;
+}
+
+// The nodes and edges of a picture: of the loaded database and of now, joined. A LAN with another Designated Router is the same.
 function topology(before, now) {
-  const nodes = new Map(), edges = new Map();
-  const present = new Map((now.links?.links ?? before.links.links).map((link) => [linkKey(link), link]));
+  const nodes = new Map(), edges = new Map(), old = oldAddresses(before.networks.networks, now.networks?.networks ?? []);
+  const asBefore = (link) => link.type === 'transit' && old.has(networkId(link.area, link.to)) ? { ...link, to: old.get(networkId(link.area, link.to)) } : link;
+  const linksNow = now.links?.links.map(asBefore);
+  const present = new Map((linksNow ?? before.links.links).map((link) => [linkKey(link), link]));
   const attached = new Set((now.routers?.routers ?? before.routers.routers).map(({ router }) => router));
-  const inUse = new Set((now.networks?.networks ?? before.networks.networks).map((net) => networkId(net.area, net.address)));
+  const idNow = (area, address) => networkId(area, old.get(networkId(area, address)) ?? address);
+  const inUse = new Set((now.networks?.networks ?? before.networks.networks).map((net) => idNow(net.area, net.address)));
   const add = (id, node) => nodes.has(id) || nodes.set(id, { id, edges: [], ...node });
   for (const { router, name, areas, roles } of [...before.routers.routers, ...(now.routers?.routers ?? [])]) {
     add(router, { kind: 'router', router, label: name ?? router, areas, roles, failed: !attached.has(router) });
   }
   for (const { area, prefix, address, members } of [...before.networks.networks, ...(now.networks?.networks ?? [])]) {
-    const id = networkId(area, address);
-    add(id, { kind: 'network', area, areas: [area], label: prefix, address, members, failed: !inUse.has(id) });
+    const id = idNow(area, address);
+    add(id, { kind: 'network', area, areas: [area], label: prefix, members, failed: !inUse.has(id) });
+    nodes.get(id).address = address;
   }
   const known = new Map(before.links.links.map((link) => [linkKey(link), link]));
-  for (const link of now.links?.links ?? []) if (!known.has(linkKey(link))) known.set(linkKey(link), { ...link, isNew: true });
+  for (const link of linksNow ?? []) if (!known.has(linkKey(link))) known.set(linkKey(link), { ...link, isNew: true });
   for (const link of known.values()) addEdge(nodes, edges, link, present);
   for (const edge of edges.values()) edge.isDown = nodes.get(edge.a).failed || nodes.get(edge.b).failed;
   for (const node of nodes.values()) node.drained = node.kind === 'router' && !node.failed && isDrained(node);
@@ -237,6 +252,7 @@ const REPLIES = {
   gone: ({ pairs }) => counted(pairs.length, 'route'),
   loops: ({ loops, blackholes }) => `${counted(loops.length, 'loop')}, ${counted(blackholes.length, 'blackhole')}`,
   microloops: ({ loops }) => loops.length ? `${loops.length} may loop while routers change over` : 'none may loop',
+  sweep: ({ failures }) => `${counted(failures.filter(({ counts }) => counts?.lost).length, 'failure')} of ${failures.length} with lost routes`,
   audit: ({ wrong, findings, places }) => places ? counted(places.length, 'place') : wrong ? `${wrong} wrong` : findings.length ? `clean, ${counted(findings.length, 'note')}` : 'clean',
   table: ({ routes }) => counted(routes.length, 'route'),
   tables: ({ tables }) => counted(tables.length, 'table'),

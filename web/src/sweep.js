@@ -15,9 +15,9 @@ const areasNow = () => [...new Set([...state.graph.nodes.values()].flatMap(({ ar
 // The lines that fail what is there of a kind, each with its element: all of it, or what is within an area.
 function sweepLines(kind, area = null) {
   const { nodes, edges } = state.graph, present = [...nodes.values()].filter((node) => !node.failed && isWithin(node.id, area));
-  const links = new Map([...edges.values()].filter((edge) => edge.kind === 'link' && !edgeFailed(edge) && isWithin(edge.key, area)).map((edge) => [CUTS.link(edge), edge.key]));
+  const links = new Map([...edges.values()].filter((edge) => edge.kind === 'link' && !edgeFailed(edge) && isWithin(edge.key, area)).map((edge) => [cutApart(edge), edge.key]));
   const networks = present.filter((node) => node.kind === 'network').map((node) => [`fail-net ${node.area} ${node.address}`, node.id]);
-  const routers = present.filter((node) => node.kind === 'router').map((node) => [`fail-router ${nameOf(node.id)}`, node.id]);
+  const routers = present.filter((node) => node.kind === 'router').map((node) => [`fail ${nameOf(node.id)}`, node.id]);
   return { links: [...links], networks, routers, all: [...links, ...networks, ...routers] }[kind];
 }
 

@@ -4,6 +4,7 @@ pub mod RouteDocuments
 pub mod ExplainDocuments
 pub mod ChangeDocuments
 pub mod LoopDocuments
+pub mod SweepDocuments
 pub mod AuditDocuments
 pub mod OwnDocuments
 pub mod Questions

@@ -13,6 +13,7 @@ use Rattle.document_answers.specs.RouteDocuments.{IsPathDocument, IsRoutesDocume
 use Rattle.document_answers.specs.ExplainDocuments.{IsExplainDocument}
 use Rattle.document_answers.specs.ChangeDocuments.{IsChangesDocument, IsDifferencesDocument, IsMissingDocument}
 use Rattle.document_answers.specs.LoopDocuments.{IsLoopsDocument, IsMicroloopsDocument}
+use Rattle.document_answers.specs.SweepDocuments.{IsSweepDocument}
 use Rattle.document_answers.specs.AuditDocuments.{IsAuditDocument}
 use Rattle.document_answers.specs.OwnDocuments.{IsHelpDocument, IsLogDocument}
 
@@ -32,6 +33,7 @@ module _ (called : Called) (baseline : Lists) (s : Session) where
   IsQuestionDocument question.Loops given = IsLoopsDocument baseline (state s) given
   IsQuestionDocument (question.Microloops count) given =
       IsMicroloopsDocument (state s) (count_or_one count) (before_last (count_or_one count) s) given
+  IsQuestionDocument (question.Sweep kind within) given = IsSweepDocument (state s) kind within given
   IsQuestionDocument (question.Audit kind) given = IsAuditDocument s.base (state s) kind given
   IsQuestionDocument question.Log given = IsLogDocument s.done given
   IsQuestionDocument (question.Help word) given = IsHelpDocument word given

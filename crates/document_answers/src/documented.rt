@@ -11,4 +11,6 @@ pub enum Documented<A: Allocator = Global> {
     NoRouter,
     /// Fewer edits are done than it names.
     TooFewDone,
+    /// It names an area that is not there.
+    NoArea,
 }

@@ -14,9 +14,10 @@ mod explain;
 mod links;
 mod routes;
 
-// What differs from the baseline, and what loops.
+// What differs from the baseline, what loops, and what each single failure takes away.
 mod changes;
 mod loops;
+mod sweep;
 
 // What the answers may not be trusted for.
 mod audit;

@@ -16,6 +16,7 @@ use crate::links::{links_document, networks_document, routers_document};
 use crate::log::log_document;
 use crate::loops::{loops_document, microloops_document};
 use crate::routes::{path_document, routes_document};
+use crate::sweep::sweep_document;
 use branches::Branches;
 use lsdb::Database;
 use network_names::Names;
@@ -59,6 +60,7 @@ pub fn question_document<A: Allocator + Copy>(
         Question::Gone => missing_document(alloc, baseline, now, Missing::Gone),
         Question::Loops => loops_document(alloc, baseline, now),
         Question::Microloops(count) => microloops_document(alloc, branches, branch, count),
+        Question::Sweep { kind, within } => sweep_document(alloc, now, (kind, within)),
         Question::Audit(kind) => audit_document(alloc, branches, branch, kind),
         Question::Log => log_document(alloc, planner),
         Question::Help(word) => help_document(alloc, word),

@@ -55,7 +55,7 @@ list_mid [] post p v (suc i) e = absurd (omega arith)
 list_mid (q ∷ pre) post p v zero e = absurd (omega arith)
 list_mid (q ∷ pre) post p v (suc i) e = let rest = list_mid pre post p v i (omega arith) in (ap (λ (qs : List Slot). q ∷ qs) rest.0, rest.1)
 
-slot_mid : (low high : Slots) (area : Option AreaHead) (pre post : List Slot) (p v : Slot) (section i : ℕ) → section ≡ length low → i ≡ length pre
+pub slot_mid : (low high : Slots) (area : Option AreaHead) (pre post : List Slot) (p v : Slot) (section i : ℕ) → section ≡ length low → i ≡ length pre
     → (put (low ++ section_slots area (pre ++ p ∷ post) ∷ high) (slot_of section i) v ≡ low ++ section_slots area (pre ++ v ∷ post) ∷ high)
     × (slot_at (low ++ section_slots area (pre ++ p ∷ post) ∷ high) (slot_of section i) ≡ Some p)
 slot_mid [] high area pre post p v zero i e f = let m = list_mid pre post p v i f in
@@ -67,14 +67,14 @@ slot_mid (l ∷ low) high area pre post p v (suc section) i e f = let rest = slo
 
 -- ---- one more swap
 
-pub walk_swap : (d m e : Slots) (slot : SlotId) (name : Section) (x : List ℕ) (v : Slot) (ss : List SwapData) (cs : List Change)
-    → IsDatabase (lists_of d) → slot_at d slot ≡ Some (Some x) → IsPutSafe (Some x) v → put d slot v ≡ m → slot_at e slot ≡ Some v
+walk_swap : (d m e : Slots) (slot : SlotId) (name : Section) (x : List ℕ) (v : Slot) (ss : List SwapData) (cs : List Change)
+    → slot_at d slot ≡ Some (Some x) → IsDatabase (lists_of m) → put d slot v ≡ m → slot_at e slot ≡ Some v
     → (IsDatabase (lists_of m) → Leads m e ss cs)
     → Leads d e ((record { slot = slot; section = name; kind = kind_of x; other = v }) ∷ ss)
     ((record { section = name; kind = kind_of x; old = Some x; new = v }) ∷ cs)
-walk_swap d m e slot name x v ss cs sound at safe made now rest =
-    let next : IsDatabase (lists_of (put d slot v)) = put_safe d slot (Some x) v at safe sound in
-    let r = rest (subst (λ (w : Slots). IsDatabase (lists_of w)) made next) in
+walk_swap d m e slot name x v ss cs at sound made now rest =
+    let next : IsDatabase (lists_of (put d slot v)) = subst (λ (w : Slots). IsDatabase (lists_of w)) (sym made) sound in
+    let r = rest sound in
     let one : Change → List Change = λ c. c ∷ cs in
     record {
       can = (subst (λ (o : Option Slot). IsSome o) (sym at) refl, next, subst (λ (w : Slots). CanDo w ss) (sym made) r.can);
@@ -95,31 +95,33 @@ walk_swap d m e slot name x v ss cs sound at safe made now rest =
 
 -- ---- all slots
 
-abbrev changed_in : Fates → Option AreaHead → List Slot → List Change
+abbrev pub changed_in : Fates → Option AreaHead → List Slot → List Change
 changed_in fates area ps = filter_map (change fates area) (full ps)
 
-pub walk_slot : (fates : Fates) (low high : Slots) (area : Option AreaHead) (pre post : List Slot) (x : List ℕ) (f : Fate) (section i : ℕ)
-    → IsSafe fates → IsSafeFate x f → section ≡ length low → i ≡ length pre
-    → IsDatabase (lists_of (low ++ section_slots area (pre ++ Some x ∷ post) ∷ high))
-    → ((v : Slot) → IsDatabase (lists_of (low ++ section_slots area (pre ++ v ∷ post) ∷ high))
-    → Leads (low ++ section_slots area (pre ++ v ∷ post) ∷ high)
-    (low ++ section_slots area (pre ++ v ∷ map (slot_after fates area) post) ∷ slots_after fates high)
+abbrev pub with_section : Slots → Option AreaHead → List Slot → Slots → Slots
+with_section low area slots high = low ++ section_slots area slots ∷ high
+
+walk_slot : (fates : Fates) (low high : Slots) (area : Option AreaHead) (pre post : List Slot) (x : List ℕ) (f : Fate) (section i : ℕ)
+    → section ≡ length low → i ≡ length pre → IsDatabase (lists_of (with_section low area (pre ++ outcome f x ∷ post) high))
+    → (IsDatabase (lists_of (with_section low area (pre ++ outcome f x ∷ post) high))
+    → Leads (with_section low area (pre ++ outcome f x ∷ post) high)
+    (with_section low area (pre ++ outcome f x ∷ map (slot_after fates area) post) (slots_after fates high))
     (section_swaps (fates area) section (section_name area) (suc i) post ++ swaps_from fates (suc section) high)
     (changed_in fates area post ++ changes_by (by_fates fates) (lists_of high)))
-    → Leads (low ++ section_slots area (pre ++ Some x ∷ post) ∷ high)
-    (low ++ section_slots area (pre ++ outcome f x ∷ map (slot_after fates area) post) ∷ slots_after fates high)
+    → Leads (with_section low area (pre ++ Some x ∷ post) high)
+    (with_section low area (pre ++ outcome f x ∷ map (slot_after fates area) post) (slots_after fates high))
     (cons_option (swap_for (slot_of section i) (section_name area) x f)
     (section_swaps (fates area) section (section_name area) (suc i) post) ++ swaps_from fates (suc section) high)
     (cons_option (change_of (section_name area) x f) (changed_in fates area post) ++ changes_by (by_fates fates) (lists_of high))
-walk_slot fates low high area pre post x stays section i safe fits e g sound rest = rest (Some x) sound
-walk_slot fates low high area pre post x removed section i safe fits e g sound rest =
+walk_slot fates low high area pre post x stays section i e g sound rest = rest sound
+walk_slot fates low high area pre post x removed section i e g sound rest =
     let here = slot_mid low high area pre post (Some x) None section i e g in
     let there = slot_mid low (slots_after fates high) area pre (map (slot_after fates area) post) None None section i e g in
-    walk_swap _ _ _ (slot_of section i) (section_name area) x None _ _ sound here.1 tt here.0 there.1 (rest None)
-walk_slot fates low high area pre post x (rewritten new) section i safe fits e g sound rest =
+    walk_swap _ _ _ (slot_of section i) (section_name area) x None _ _ here.1 sound here.0 there.1 rest
+walk_slot fates low high area pre post x (rewritten new) section i e g sound rest =
     let here = slot_mid low high area pre post (Some x) (Some new) section i e g in
     let there = slot_mid low (slots_after fates high) area pre (map (slot_after fates area) post) (Some new) None section i e g in
-    walk_swap _ _ _ (slot_of section i) (section_name area) x (Some new) _ _ sound here.1 fits here.0 there.1 (rest (Some new))
+    walk_swap _ _ _ (slot_of section i) (section_name area) x (Some new) _ _ here.1 sound here.0 there.1 rest
 
 -- the slot that was passed is among those before it
 shifted : (low high high' : Slots) (area : Option AreaHead) (pre post post' : List Slot) (v : Slot) (ss : List SwapData) (cs : List Change)
@@ -156,36 +158,88 @@ accepted_at d slot x at sound =
     let section : IsSection s = all_at_mid IsSection w.low w.high s (subst (All IsSection) w.before sound.sections) in
     all_at_mid IsAccepted w.front w.back x section.accepted
 
--- the walk on from slot i of a section
-pub walk : (fates : Fates) (low high : Slots) (area : Option AreaHead) (pre post : List Slot) (section i : ℕ) → IsSafe fates → section ≡ length low
-    → i ≡ length pre
-    → IsDatabase (lists_of (low ++ section_slots area (pre ++ post) ∷ high))
-    → Leads (low ++ section_slots area (pre ++ post) ∷ high)
-    (low ++ section_slots area (pre ++ map (slot_after fates area) post) ∷ slots_after fates high)
-    (section_swaps (fates area) section (section_name area) i post ++ swaps_from fates (suc section) high)
-    (changed_in fates area post ++ changes_by (by_fates fates) (lists_of high))
-walk fates low [] area pre [] section i safe e g sound = record { can = tt; leads = refl; reports = refl }
-walk fates low (s ∷ high) area pre [] section i safe e g sound =
-    passed low high (slots_after fates high) (section_slots area (pre ++ [])) s
-    (section_slots s.area (map (slot_after fates s.area) s.slots)) _ _
-    (walk fates (low ++ section_slots area (pre ++ []) ∷ []) high s.area [] s.slots (suc section) 0 safe
-    (pushed low (section_slots area (pre ++ [])) section e) refl) sound
-walk fates low high area pre (None ∷ post) section i safe e g sound =
-    shifted low high (slots_after fates high) area pre post (map (slot_after fates area) post) None _ _
-    (walk fates low high area (pre ++ None ∷ []) post section (suc i) safe e (pushed pre None i g)) sound
-walk fates low high area pre (Some x ∷ post) section i safe e g sound =
-    let there = slot_mid low high area pre post (Some x) None section i e g in
-    let accepted : IsAccepted x = accepted_at (low ++ section_slots area (pre ++ Some x ∷ post) ∷ high) (slot_of section i) x there.1 sound in
-    let w = walk_slot fates low high area pre post x (fates area x) section i safe (safe area x accepted) e g sound
-    (λ v. shifted low high (slots_after fates high) area pre post (map (slot_after fates area) post) v _ _
-    (walk fates low high area (pre ++ v ∷ []) post section (suc i) safe e (pushed pre v i g))) in
-    w
+-- what holds of the slots of a section that are passed, and of those that are not, holds after one more slot, and the database is one
+pub record IsPassed (Holds : Option AreaHead → List Slot → List Slot → Type 0) (low high : Slots) (area : Option AreaHead) (pre post : List Slot)
+    (v : Slot) : Type 0 where
+  pub sound : IsDatabase (lists_of (with_section low area (pre ++ v ∷ post) high))
+  pub holds : Holds area (pre ++ v ∷ []) post
 
--- all fates, carried out at all slots
+abbrev pub Turn : Fates → (Option AreaHead → List Slot → List Slot → Type 0) → Type 0
+Turn fates Holds = (low high : Slots) (area : Option AreaHead) (pre post : List Slot) (p : Slot) → Holds area pre (p ∷ post)
+    → IsDatabase (lists_of (with_section low area (pre ++ p ∷ post) high)) → IsPassed Holds low high area pre post (slot_after fates area p)
+
+-- it holds of each section, before its first slot
+abbrev pub Starts : (Option AreaHead → List Slot → List Slot → Type 0) → Slots → Type 0
+Starts Holds [] = Unit {0}
+Starts Holds (s ∷ ss) = Holds s.area [] s.slots × Starts Holds ss
+
+module _ (fates : Fates) (Holds : Option AreaHead → List Slot → List Slot → Type 0) (turn : Turn fates Holds) where
+  -- the walk on from slot i of a section
+  walk : (low high : Slots) (area : Option AreaHead) (pre post : List Slot) (section i : ℕ) → Holds area pre post → Starts Holds high
+      → section ≡ length low → i ≡ length pre → IsDatabase (lists_of (with_section low area (pre ++ post) high))
+      → Leads (with_section low area (pre ++ post) high)
+      (with_section low area (pre ++ map (slot_after fates area) post) (slots_after fates high))
+      (section_swaps (fates area) section (section_name area) i post ++ swaps_from fates (suc section) high)
+      (changed_in fates area post ++ changes_by (by_fates fates) (lists_of high))
+  walk low [] area pre [] section i here others e g sound = record { can = tt; leads = refl; reports = refl }
+  walk low (s ∷ high) area pre [] section i here others e g sound =
+      passed low high (slots_after fates high) (section_slots area (pre ++ [])) s
+      (section_slots s.area (map (slot_after fates s.area) s.slots)) _ _
+      (walk (low ++ section_slots area (pre ++ []) ∷ []) high s.area [] s.slots (suc section) 0 others.0 others.1
+      (pushed low (section_slots area (pre ++ [])) section e) refl) sound
+  walk low high area pre (None ∷ post) section i here others e g sound =
+      shifted low high (slots_after fates high) area pre post (map (slot_after fates area) post) None _ _
+      (walk low high area (pre ++ None ∷ []) post section (suc i) (turn low high area pre post None here sound).holds others e (pushed pre None i g)) sound
+  walk low high area pre (Some x ∷ post) section i here others e g sound =
+      let t = turn low high area pre post (Some x) here sound in
+      walk_slot fates low high area pre post x (fates area x) section i e g t.sound
+      (shifted low high (slots_after fates high) area pre post (map (slot_after fates area) post) (outcome (fates area x) x) _ _
+      (walk low high area (pre ++ outcome (fates area x) x ∷ []) post section (suc i) t.holds others e (pushed pre (outcome (fates area x) x) i g)))
+
+  -- all fates, carried out at all slots
+  pub walked_by : (d : Slots) → Starts Holds d → IsDatabase (lists_of d)
+      → Leads d (slots_after fates d) (swaps_from fates 0 d) (changes_by (by_fates fates) (lists_of d))
+  walked_by [] starts sound = record { can = tt; leads = refl; reports = refl }
+  walked_by (s ∷ ss) starts sound = walk [] ss s.area [] s.slots 0 0 starts.0 starts.1 refl refl sound
+
+-- ---- fates that keep the keys
+
+abbrev AnySlots : Option AreaHead → List Slot → List Slot → Type 0
+AnySlots area pre post = Unit {0}
+
+any_start : (d : Slots) → Starts AnySlots d
+any_start [] = tt
+any_start (s ∷ ss) = (tt, any_start ss)
+
+-- an LSA of a section in the middle is accepted
+pub accepted_in : (low high : Slots) (area : Option AreaHead) (pre post : List Slot) (x : List ℕ)
+    → IsDatabase (lists_of (with_section low area (pre ++ Some x ∷ post) high)) → IsAccepted x
+accepted_in low high area pre post x sound =
+    accepted_at (with_section low area (pre ++ Some x ∷ post) high) (slot_of (length low) (length pre)) x
+    (slot_mid low high area pre post (Some x) None (length low) (length pre) refl refl).1 sound
+
+-- it gives way to one that may stand for it, or to none
+pub put_in : (low high : Slots) (area : Option AreaHead) (pre post : List Slot) (x : List ℕ) (v : Slot) → IsPutSafe (Some x) v
+    → IsDatabase (lists_of (with_section low area (pre ++ Some x ∷ post) high)) → IsDatabase (lists_of (with_section low area (pre ++ v ∷ post) high))
+put_in low high area pre post x v fits sound =
+    let here = slot_mid low high area pre post (Some x) v (length low) (length pre) refl refl in
+    subst (λ (w : Slots). IsDatabase (lists_of w)) here.0
+    (put_safe (with_section low area (pre ++ Some x ∷ post) high) (slot_of (length low) (length pre)) (Some x) v here.1 fits sound)
+
+safe_turn : (fates : Fates) → IsSafe fates → Turn fates AnySlots
+safe_turn fates safe low high area pre post None here sound = record { sound = sound; holds = tt }
+safe_turn fates safe low high area pre post (Some x) here sound =
+    record { sound = by_fate (fates area x) (safe area x (accepted_in low high area pre post x sound)); holds = tt } where
+      by_fate : (f : Fate) → IsSafeFate x f → IsDatabase (lists_of (with_section low area (pre ++ outcome f x ∷ post) high))
+      by_fate stays fits = sound
+      by_fate removed fits = put_in low high area pre post x None tt sound
+      by_fate (rewritten new) fits = put_in low high area pre post x (Some new) fits sound
+
 pub walked : (fates : Fates) (d : Slots) → IsSafe fates → IsDatabase (lists_of d)
     → Leads d (slots_after fates d) (swaps_from fates 0 d) (changes_by (by_fates fates) (lists_of d))
-walked fates [] safe sound = record { can = tt; leads = refl; reports = refl }
-walked fates (s ∷ ss) safe sound = walk fates [] ss s.area [] s.slots 0 0 safe refl refl sound
+walked fates d safe sound = walked_by fates AnySlots (safe_turn fates safe) d (any_start d) sound
+
+-- ---- the lists
 
 full-after : (fates : Fates) (area : Option AreaHead) (ps : List Slot)
     → full (map (slot_after fates area) ps) ≡ filter_map (after fates area) (full ps)
@@ -202,11 +256,14 @@ lists-after fates (s ∷ ss) =
     ∙ ap (λ (ts : Lists). section_after (by_fates fates) (section_of s) ∷ ts) (lists-after fates ss)
 
 -- the swaps of all slots do what the fates require
+pub carried_out : (fates : Fates) (d : Slots)
+    → Leads d (slots_after fates d) (swaps_from fates 0 d) (changes_by (by_fates fates) (lists_of d))
+    → CarriesOutRule d (by_fates fates) (swaps_from fates 0 d)
+carried_out fates d w = record {
+  can = w.can;
+  leads = sym (ap lists_of w.leads ∙ lists-after fates d);
+  reports = sym (ap (λ (e : Slots). map (swap_change e) (done_swaps d (swaps_from fates 0 d))) w.leads ∙ w.reports);
+}
+
 pub fates_carried_out : (fates : Fates) (d : Slots) → IsSafe fates → IsDatabase (lists_of d) → CarriesOutRule d (by_fates fates) (swaps_from fates 0 d)
-fates_carried_out fates d safe sound =
-    let w = walked fates d safe sound in
-    record {
-      can = w.can;
-      leads = sym (ap lists_of w.leads ∙ lists-after fates d);
-      reports = sym (ap (λ (e : Slots). map (swap_change e) (done_swaps d (swaps_from fates 0 d))) w.leads ∙ w.reports);
-    }
+fates_carried_out fates d safe sound = carried_out fates d (walked fates d safe sound)

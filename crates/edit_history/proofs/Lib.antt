@@ -14,6 +14,12 @@ pub mod WantedKeys
 pub mod Candidates
 pub mod RulesCarriedOut
 pub mod FatesBySlot
+pub mod Rekeyed
+pub mod FreshFates
+pub mod PlannedChanges
+pub mod FittingLoops
+pub mod ChangedSlots
+pub mod DepartureFates
 pub mod FailureFates
 pub mod EventFates
 pub mod OfPrefix

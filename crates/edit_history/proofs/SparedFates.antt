@@ -1,7 +1,7 @@
 -- Fates that turn no LSA into a router-LSA or network-LSA.
-use Rattle.std.proofs.Common.{◌≡◌, ℕ, Bool, true, false, cond, List, Option, Some, None, refl, ap, ◌∙◌}
+use Rattle.std.proofs.Common.{◌≡◌, ℕ, Bool, true, false, cond, List, Option, Some, None, refl, sym, ap, ◌∙◌, subst}
 use Rattle.std.specs.Prelude.{filter, if◌then◌else◌, ◌==◌}
-use Rattle.std.proofs.lemmas.Bool.{eqb-true}
+use Rattle.std.proofs.lemmas.Bool.{eqb-true, or_parts, and_left, cond-false}
 use Rattle.lsa_codec.specs.declared.address.Addr.{Addr}
 use Rattle.lsa_codec.specs.declared.address.AreaId.{AreaId}
 use Rattle.lsa_codec.specs.declared.address.RouterId.{RouterId}
@@ -13,6 +13,8 @@ use Rattle.lsa_codec.specs.Key.{key_of, router_key}
 use Rattle.lsa_codec.proofs.LsaLemmas.{metric_rewritten}
 use Rattle.lsdb.specs.declared.section.Section.{Section}
 use Rattle.lsdb.specs.declared.section.Section.TheVariants.{Area}
+use Rattle.area_graph.specs.Area.{is_network_lsa, is_router_lsa}
+use Rattle.event_links.specs.Selections.{id_of as id_of_head}
 use Rattle.lsdb.specs.Lists.{AreaHead, Lists, is_head_of, has_key, is_network}
 use Rattle.lsdb.proofs.KeyLemmas.{same_key_true}
 use Rattle.summary_metrics.specs.Refreshed.{id_of, is_stale, due_in, refreshed_areas}
@@ -22,7 +24,10 @@ use Rattle.event_lsas.specs.LinkEvents.{outcome_of}
 use Rattle.event_lsas.specs.Outcomes.{LsaChange, kept, becomes}
 use Rattle.event_lsas.proofs.ReplacementLemmas.{outcome_safe}
 use Rattle.edit_history.specs.Effect.{link_fate, net_fate, router_fate, is_graph_kind}
-use Rattle.edit_history.specs.Events.{fate_of_change, link_fates}
+use Rattle.network_departures.specs.declared.departure.Departure.{Departure}
+use Rattle.network_departures.specs.Leaving.{is_left, networks_left}
+use Rattle.departures.specs.Departures.{is_of_failed, router_lsa_after}
+use Rattle.edit_history.specs.Events.{departure_fates, fate_of_change, link_fates}
 use Rattle.edit_history.specs.Refreshing.{with_due, metric_fate, refresh_fates}
 use Rattle.edit_history.proofs.RefreshFates.{stale_has_metric}
 
@@ -103,3 +108,24 @@ events_spare db edit head lsa accepted other = by_outcome (outcome_of db edit he
   by_outcome (becomes (Some new)) is =
       let made = outcome_safe db edit head lsa new accepted is in
       ap (λ (k : Key). is_graph_kind k.kind) made.key ∙ other
+
+-- an LSA that is none of the graph is removed or stays where a router goes
+removed_or_kept : (b : Bool) (c : LsaChange) → IsSpared (fate_of_change c) → IsSpared (fate_of_change (if b then becomes None else c))
+removed_or_kept true c spared = tt
+removed_or_kept false c spared = spared
+
+no_network : (lsa : List ℕ) → is_graph_lsa lsa ≡ false → is_network_lsa lsa ≡ false
+no_network lsa other = (or_parts (kind_of lsa == 1) (kind_of lsa == 2) other).1
+
+no_router : (lsa : List ℕ) → is_graph_lsa lsa ≡ false → is_router_lsa lsa ≡ false
+no_router lsa other = (or_parts (kind_of lsa == 1) (kind_of lsa == 2) other).0
+
+pub departures_spare : (db : Lists) (event : Departure) → Spares (by_fates (departure_fates db event))
+departures_spare db event None lsa accepted other = removed_or_kept (is_of_failed event lsa) kept tt
+departures_spare db event (Some head) lsa accepted other =
+    let area : AreaId = id_of_head head in
+    let stays_in : LsaChange = router_lsa_after db event area (networks_left db event area) lsa in
+    let same : stays_in ≡ kept = cond-false _ _ _ (and_left _ _ (no_router lsa other)) in
+    let not_left : is_left db event area lsa ≡ false = and_left _ _ (and_left _ _ (no_network lsa other)) in
+    let spared : IsSpared (fate_of_change stays_in) = subst (λ (c : LsaChange). IsSpared (fate_of_change c)) (sym same) tt in
+    subst (λ (c : LsaChange). IsSpared (fate_of_change c)) (sym (cond-false _ _ _ not_left)) (removed_or_kept (is_of_failed event lsa) stays_in spared)

@@ -28,16 +28,22 @@ use Rattle.event_links.specs.declared.fault.EventFault.{EventFault}
 use Rattle.event_links.specs.declared.selection.LinkEdit.{LinkEdit}
 use Rattle.event_links.specs.Events.{resolved}
 use Rattle.edit_history.specs.declared.fault.EditFault.{EditFault}
-use Rattle.edit_history.specs.declared.fault.EditFault.TheVariants.{NoArea, NoRouter, NoLink, SameRouter, NoNetwork, NoSummary, NoExternal, Full}
+use Rattle.edit_history.specs.declared.fault.EditFault.TheVariants.{NoArea, NoRouter, NoLink, SameRouter, NoNetwork, NoSummary, NoExternal, KeyTaken, Full}
 use Rattle.edit_history.specs.Rules.{Fate, stays, removed, rewritten, Rule, NewLsa, Change, by_fates, one_lsa, within, adding, outcome}
 use Rattle.edit_history.specs.Rules.{change_of, addition, with_added, section_name, section_after, section_changes, lists_after, changes_by}
 use Rattle.edit_history.specs.Effect.{◌>>=◌, or_refused, made, area_of, router_lsa_in, router_lsa_of, has_router, stub_bytes, is_dump_full, remaking}
 use Rattle.edit_history.specs.Effect.{is_originated_for, are_linked, options_in, is_type2, room_for, added, link_fate, net_fate, router_fate}
-use Rattle.edit_history.specs.Events.{link_event_of, link_fates, refusal_of, rule_by}
+use Rattle.network_departures.specs.declared.departure.Departure.{Departure}
+use Rattle.departures.specs.declared.fault.DepartureFault.{DepartureFault}
+use Rattle.departures.specs.Departures.{fault_of as fault_of_departure}
+use Rattle.edit_history.specs.declared.happening.Happening.{Happening}
+use Rattle.edit_history.specs.declared.happening.Happening.TheVariants.{OfLinks, Departs}
+use Rattle.edit_history.specs.Events.{departure_fates, departure_refusal, happening_of, happening_rule, link_fates, refusal_of, rule_by, rule_if_fit, rule_unless}
+use Rattle.edit_history.specs.Fitting.{all_fit}
 use Rattle.edit_history.specs.Effect.{rule_of, effect, is_graph_kind, touched, touched_by, edit_touches, graph_lsas}
 use Rattle.edit_history.proofs.Keys.{found_passes}
 use Rattle.edit_history.proofs.SparedFates.{is_graph_lsa, graph_of, IsSpared, Spares, router_lsa_spares, one_spares, links_spare, network_spares}
-use Rattle.edit_history.proofs.SparedFates.{router_spares, refresh_spares, events_spare}
+use Rattle.edit_history.proofs.SparedFates.{router_spares, refresh_spares, events_spare, departures_spare}
 
 -- ---- the rules of edits
 
@@ -99,6 +105,20 @@ links_spared : (db : Lists) (r : Result LinkEdit EventFault) → IfRuled (rule_b
 links_spared db (Ok edit) = ruled (by_fates (link_fates db edit)) (events_spare db edit)
 links_spared db (Err fault) = refused (refusal_of fault)
 
+departures_spared : (db : Lists) (event : Departure) → IfRuled (rule_if_fit db (departure_fates db event))
+departures_spared db event = by_test (all_fit db (changes_by (by_fates (departure_fates db event)) db)) where
+  by_test : (b : Bool) → IfRuled (if b then Ok (by_fates (departure_fates db event)) else Err KeyTaken)
+  by_test true = ruled (by_fates (departure_fates db event)) (departures_spare db event)
+  by_test false = refused KeyTaken
+
+unless_spared : (db : Lists) (event : Departure) (o : Option DepartureFault) → IfRuled (rule_unless db event o)
+unless_spared db event None = departures_spared db event
+unless_spared db event (Some fault) = refused (departure_refusal fault)
+
+event_spared : (db : Lists) (happens : Happening) → IfRuled (happening_rule db happens)
+event_spared db (OfLinks event) = links_spared db (resolved db event)
+event_spared db (Departs event) = unless_spared db event (fault_of_departure db event)
+
 rule_spares : (db : Lists) (edit : Edit) → IsDatabase db → IfRuled (rule_of db edit)
 unfolding rule_of
 rule_spares db (Cost area router link metric) sound = remaking_spares db area router (with_cost link metric)
@@ -146,7 +166,7 @@ rule_spares db (DropExternal router prefix) sound =
     if_bound (or_refused NoExternal (find (is_originated_for 5 router prefix) (lsas_of AsWide db))) gone
     (λ lsa _. ruled _ (one_spares AsWide (key_of lsa) removed tt))
 rule_spares db Refresh sound = ruled _ (refresh_spares db)
-rule_spares db (of_event event) sound = links_spared db (resolved db (link_event_of db event))
+rule_spares db (of_event event) sound = event_spared db (happening_of db event)
 
 -- ---- a section of the area
 

@@ -3,7 +3,7 @@ use Rattle.std.specs.Prelude.{ℕ, List, codes}
 use Rattle.lsa_codec.specs.declared.fault.MakeFault.{MakeFault}
 use Rattle.lsa_codec.specs.declared.fault.MakeFault.TheVariants as make
 use Rattle.edit_history.specs.declared.fault.EditFault.{EditFault}
-use Rattle.edit_history.specs.declared.fault.EditFault.TheVariants.{NoArea, NoRouter, NoLink, ZeroCost, SameRouter, NoNetwork, NoSummary, NoExternal, KeyTaken, TooLong, Full, HistoryFull, OutOfMemory, NotNeighbors, NoInterface, UnclearEnd}
+use Rattle.edit_history.specs.declared.fault.EditFault.TheVariants.{NoArea, NoRouter, NoLink, ZeroCost, SameRouter, NoNetwork, NoSummary, NoExternal, KeyTaken, TooLong, Full, HistoryFull, OutOfMemory, NotNeighbors, NoInterface, NotOnNetwork, UnclearEnd}
 
 -- its code and its name
 abbrev pub texts_of : EditFault → List ℕ × List ℕ
@@ -22,6 +22,7 @@ texts_of HistoryFull = (codes "E12", codes "HistoryFull")
 texts_of OutOfMemory = (codes "E13", codes "OutOfMemory")
 texts_of NotNeighbors = (codes "E3", codes "NotNeighbors")
 texts_of NoInterface = (codes "E3", codes "NoInterface")
+texts_of NotOnNetwork = (codes "E3", codes "NotOnNetwork")
 texts_of UnclearEnd = (codes "E15", codes "UnclearEnd")
 
 abbrev pub code_of : EditFault → List ℕ

@@ -1,5 +1,6 @@
 pub mod Fault
 pub mod Rules
+pub mod Fitting
 pub mod Refreshing
 pub mod Events
 pub mod Effect

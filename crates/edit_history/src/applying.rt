@@ -19,7 +19,7 @@ use std::alloc::Allocator;
 /// - a cost: `NoArea`, `NoRouter`, `NoLink`, `ZeroCost`; a link that is dropped: `NoArea`,
 ///   `NoRouter`, `NoLink`;
 /// - links between two routers that fail: `NoArea`, `SameRouter`, `NoRouter` for either, `NoLink`;
-///   a network that fails: `NoArea`, `NoNetwork`; a router that fails: `NoRouter`;
+///   a network that fails: `NoArea`, `NoNetwork`; a router whose LSAs go: `NoRouter`;
 /// - a new stub link: `NoArea`, `NoRouter`, `TooLong`, `Full`;
 /// - another metric of a summary: `NoArea`, `NoSummary`; a new summary: `NoArea`, `NoRouter`,
 ///   `KeyTaken`, `Full`;
@@ -28,7 +28,8 @@ use std::alloc::Allocator;
 ///   one of them: `SameRouter`, `NoRouter` for either, `NoInterface`, `UnclearEnd`;
 /// - the cost of interfaces to a neighbor: `SameRouter`, `NoRouter` for either, `NotNeighbors`,
 ///   `ZeroCost`; of the interface with an address: `NoRouter`, `NoInterface`, `ZeroCost`; a router
-///   that is drained: `NoRouter`.
+///   that is drained: `NoRouter`;
+/// - a router that fails: `NoRouter`; one that leaves a network: `NoRouter`, `NotOnNetwork`.
 ///
 /// A refresh fails only where memory ran out.
 ///

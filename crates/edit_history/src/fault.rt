@@ -58,6 +58,9 @@ pub enum EditFault {
     /// E3, of an event: the router has no such interface with this address.
     #[error("NoInterface")]
     NoInterface,
+    /// E3, of an event: the router is on no transit network with this prefix.
+    #[error("NotOnNetwork")]
+    NotOnNetwork,
     /// E15, of an event: which link the interface with this address has is not known.
     #[error("UnclearEnd")]
     UnclearEnd,
@@ -85,6 +88,7 @@ impl EditFault {
             EditFault::OutOfMemory => ("E13", "OutOfMemory"),
             EditFault::NotNeighbors => ("E3", "NotNeighbors"),
             EditFault::NoInterface => ("E3", "NoInterface"),
+            EditFault::NotOnNetwork => ("E3", "NotOnNetwork"),
             EditFault::UnclearEnd => ("E15", "UnclearEnd"),
         }
     }

@@ -10,6 +10,8 @@ mod applying;
 mod events;
 mod failures;
 mod fault;
+mod fitting;
+mod happening;
 mod history;
 mod laws;
 mod limits;

@@ -1,6 +1,6 @@
 //! One slot that an edit changes, and the LSA that the database lacks there.
 
-ghost use Rattle.std.specs.Prelude.{◌≡◌, ◌∷◌, [], IsSome, IfSome, IfOk, Some};
+ghost use Rattle.std.specs.Prelude.{◌≡◌, ◌∷◌, [], IsSome, IfOk, option_map};
 ghost use Rattle.lsdb.specs.Lists.{IsDatabase};
 ghost use Rattle.lsdb.specs.Slots.{put, slot_at, lists_of};
 ghost use Rattle.edit_history.specs.Effect.{is_of_graph};
@@ -50,9 +50,16 @@ impl<A: Allocator + Copy> Swap<A> {
         self.slot
     }
 
+    /// The section of the slot.
+    pub(crate) fn section(&self) -> Section
+        ensures { result ≡ self.now.section }
+    {
+        self.section
+    }
+
     /// The LSA that the database lacks, if it lacks one.
     pub(crate) fn other(&self) -> Option<&Lsa<A>>
-        ensures { IfSome result (λ lsa. self.now.other ≡ Some lsa.now) }
+        ensures { option_map (λ lsa. lsa.now) result ≡ self.now.other }
     {
         self.other.as_ref()
     }

@@ -151,8 +151,10 @@ without_branch (command.Edit (AddExternal router prefix type metric forward tag)
 without_branch (command.Edit (DropExternal router prefix)) = refl
 without_branch (command.Edit Refresh) = refl
 without_branch (command.Edit (of_event (events.Cut router neighbor address))) = refl
+without_branch (command.Edit (of_event (events.Leave router prefix))) = refl
 without_branch (command.Edit (of_event (events.SetCost router far metric both))) = refl
 without_branch (command.Edit (of_event (events.Drain router))) = refl
+without_branch (command.Edit (of_event (events.Fail router))) = refl
 without_branch (command.Undo count) = refl
 without_branch (command.Redo count) = refl
 without_branch (command.Table router) = refl

@@ -32,8 +32,10 @@ both_words false = []
 -- the words of an event in a study
 abbrev pub event_words : Event → List Word
 event_words (events.Cut router neighbor address) = codes "cut" ∷ address_text router.0 ∷ address_text neighbor.0 ∷ address_words address
+event_words (events.Leave router prefix) = codes "cut" ∷ address_text router.0 ∷ prefix_text prefix ∷ []
 event_words (events.SetCost router far metric both) = codes "set-cost" ∷ address_text router.0 ∷ address_text far.0 ∷ decimal metric ∷ both_words both
 event_words (events.Drain router) = codes "drain" ∷ address_text router.0 ∷ []
+event_words (events.Fail router) = codes "fail" ∷ address_text router.0 ∷ []
 
 -- its line in a study: its words, joined by single spaces (32)
 abbrev pub event_spelling : Event → List ℕ

@@ -3,7 +3,7 @@
 ghost use Rattle.std.specs.Prelude.{Some};
 ghost use Rattle.edit_script.specs.Spelling.{event_spelling};
 
-use lsa_codec::{Addr, Decimal, RouterId};
+use lsa_codec::{Addr, Decimal, Prefix, RouterId};
 use std::fmt;
 
 /// What happens to a network. Routers then originate other LSAs (RFC 2328, 12.4). No line of a
@@ -23,6 +23,13 @@ pub enum Event {
         /// the interface where it is unnumbered.
         address: Option<Addr>,
     },
+    /// `cut ROUTER PREFIX`: the interface of a router to a transit network goes.
+    Leave {
+        /// The router.
+        router: RouterId,
+        /// The prefix of the network.
+        prefix: Prefix,
+    },
     /// `set-cost ROUTER FAR METRIC [both]`: interfaces of a router get a cost.
     SetCost {
         /// The router.
@@ -38,6 +45,11 @@ pub enum Event {
     /// `drain ROUTER`: the links of a router to routers and transit networks get the greatest cost
     /// (RFC 6987).
     Drain {
+        /// The router.
+        router: RouterId,
+    },
+    /// `fail ROUTER`: a router fails.
+    Fail {
         /// The router.
         router: RouterId,
     },
@@ -58,6 +70,7 @@ impl fmt::Display for Event {
                 neighbor,
                 address: Some(address),
             } => write!(f, "cut {router} {neighbor} {address}"),
+            Event::Leave { router, prefix } => write!(f, "cut {router} {prefix}"),
             Event::SetCost {
                 router,
                 far,
@@ -72,6 +85,7 @@ impl fmt::Display for Event {
                 }
             }
             Event::Drain { router } => write!(f, "drain {router}"),
+            Event::Fail { router } => write!(f, "fail {router}"),
         }
     }
 }

@@ -30,7 +30,7 @@ accepted_true lsa good =
     ∙ ap (is_all_of lsa) found ∙ eq-eqb (length lsa) (length lsa) refl
 
 -- what passes it is one
-accepted_of : (bytes : List ℕ) → length bytes < 65536 → is_accepted bytes ≡ true → IsAccepted bytes
+pub accepted_of : (bytes : List ℕ) → length bytes < 65536 → is_accepted bytes ≡ true → IsAccepted bytes
 accepted_of bytes short is =
     let parts = and_parts (length_of bytes == length bytes) (is_all_of bytes (decoded bytes)) is in
     by_answer (decoded bytes) refl (eqb-true (length_of bytes) (length bytes) parts.0) parts.1 where

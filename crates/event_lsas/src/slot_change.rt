@@ -28,12 +28,7 @@ impl<A: Allocator> Model for SlotChange<A> {
 
 impl<A: Allocator + Copy> SlotChange<A> {
     /// The change of a slot.
-    pub(crate) fn new(
-        slot: SlotId,
-        section: Section,
-        kind: u8,
-        lsa: Option<Lsa<A>>,
-    ) -> SlotChange<A>
+    pub fn new(slot: SlotId, section: Section, kind: u8, lsa: Option<Lsa<A>>) -> SlotChange<A>
         ensures { result ≡ record { slot = slot; section = section; kind = kind; new = lsa } }
     {
         SlotChange {
@@ -66,6 +61,13 @@ impl<A: Allocator + Copy> SlotChange<A> {
     }
 
     /// The LSA that the slot gets, or `None` where it becomes empty.
+    pub fn lsa(&self) -> Option<&Lsa<A>>
+        ensures { option_map (λ lsa. lsa.now) result ≡ self.now.new }
+    {
+        self.lsa.as_ref()
+    }
+
+    /// The LSA that the slot gets, by value.
     pub fn into_lsa(self) -> Option<Lsa<A>>
         ensures { result ≡ self.new }
     {

@@ -1,8 +1,9 @@
--- The database that observations make: the newest instance of each LSA, in the section of its scope. Flushed LSAs are
--- left out or kept.
+-- The database that observations make: the newest instance of each LSA that is not forgotten, in the section of its scope.
+-- Flushed LSAs are left out or kept.
 use Rattle.std.specs.Prelude.{◌≡◌, ◌⊎◌, Bool, List, map, All, AllPairs, Contains, Option, None, Some, ◌==◌, ◌&&◌, not}
 use Rattle.std.specs.List.{Any, list_any}
 use Rattle.std.specs.declared.cmp.Ordering.TheVariants.{Less}
+use Rattle.forgotten_instances.specs.Forgotten.{remembered}
 use Rattle.lsa_codec.specs.declared.address.AreaId.{AreaId}
 use Rattle.lsa_codec.specs.Areas.{is_backbone}
 use Rattle.lsa_instances.specs.declared.area.AreaReport.{AreaReport}
@@ -44,11 +45,11 @@ pub record AreScopes {A : Type 0} (areas : List AreaReport) (newest : List (Obse
   pub lsas_there : All (λ x. Contains scopes x.scope) newest
   pub as_there : Contains scopes AsWide
 
--- the LSAs and areas that files report, joined: the newest of the LSAs, and the scopes
+-- the LSAs and areas that files report, joined: the newest of the LSAs that are not forgotten, and the scopes
 pub record Joining {A : Type 0} (flushed : FlushedLsas) (reported : List (Observation A)) (areas : List AreaReport) : Type 0 where
   pub newest : List (Observation A)
   pub scopes : List Scope
-  pub are_newest : AreNewest flushed reported newest
+  pub are_newest : AreNewest flushed (remembered reported) newest
   pub are_scopes : AreScopes areas newest scopes
 
 -- the sections: the areas, and after them the LSAs of AS scope

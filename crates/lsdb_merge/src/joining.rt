@@ -1,6 +1,8 @@
 //! Observations joined into a database.
 
 ghost use Rattle.std.specs.Prelude.{◌≡◌, ◌⊎◌, All, IfOk, IfErr, Some, map, List};
+ghost use Rattle.forgotten_instances.specs.Forgotten.{remembered};
+ghost use Rattle.lsa_instances.specs.Newest.{AreNewest};
 ghost use Rattle.lsdb.specs.Lists.{Lists, IsDatabase};
 ghost use Rattle.lsdb.specs.Slots.{lists_of};
 ghost use Rattle.lsdb.specs.Text.{text};
@@ -12,14 +14,17 @@ ghost use Rattle.lsdb_merge.specs.declared.fault.JoinFault.TheVariants.{OutOfMem
 use crate::fault::JoinFault;
 use crate::scopes::scopes;
 use crate::section::{any_misplaced, text_of};
-use lsa_instances::{AreaReport, FlushedLsas, Observation, Scope, keys_rise, newest};
+use forgotten_instances::remembered;
+use lsa_instances::{
+    AreaReport, FlushedLsas, Observation, Scope, keys_rise, newest, newest_in_any_order,
+};
 use lsdb::{Database, LONGEST_DUMP, MOST_AREAS, text_laws};
-use std::alloc::Allocator;
+use std::alloc::{AllocError, Allocator};
 
-/// The database whose sections have the newest instance of each LSA among the observations; flushed
-/// LSAs are left out, or kept at MaxAge, as `flushed` says. Its areas are those that are reported
-/// and those that have LSAs. An area is a stub area where a report says so, and else ordinary; the
-/// backbone is always ordinary.
+/// The database whose sections have the newest instance of each LSA among the observations that are
+/// not forgotten; flushed LSAs are left out, or kept at MaxAge, as `flushed` says. Its areas are
+/// those that are reported and those that have LSAs. An area is a stub area where a report says so,
+/// and else ordinary; the backbone is always ordinary.
 ///
 /// # Errors
 ///
@@ -38,9 +43,23 @@ pub fn join<A: Allocator + Copy>(
         × (fault_of joining.newest (joined joining) ≡ Some fault))) }
 {
     keys_rise::<A>();
-    let newest = newest(alloc, flushed, observations)?;
+    let newest = newest_remembered(alloc, flushed, observations)?;
     let scopes = scopes(alloc, areas, &newest)?;
     database_of(alloc, areas, &newest, &scopes)
+}
+
+/// The newest instance of each LSA among the observations that are not forgotten.
+fn newest_remembered<A: Allocator + Copy>(
+    alloc: A,
+    flushed: FlushedLsas,
+    observations: Vec<Observation<A>, A>,
+) -> Result<Vec<Observation<A>, A>, AllocError>
+    ensures { IfOk result
+        (λ newest. AreNewest flushed (remembered observations.items) newest.items) }
+{
+    newest_in_any_order::<A>();
+    let known = remembered(alloc, observations)?;
+    newest(alloc, flushed, known)
 }
 
 /// The database with a section for each scope.

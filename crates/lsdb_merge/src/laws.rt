@@ -7,6 +7,7 @@ ghost use Rattle.lsa_instances.specs.declared.observation.Observation.{Observati
 ghost use Rattle.lsa_instances.specs.declared.area.AreaReport.{AreaReport as AnyArea};
 ghost use Rattle.lsdb_merge.specs.Joining.{Joining, joined};
 
+use forgotten_instances::remembered_in_any_order;
 use lsa_instances::newest_in_any_order;
 use std::alloc::Allocator;
 
@@ -26,4 +27,5 @@ pub fn joined_in_any_order<A: Allocator>()
         → AreSame areas others → joined one ≡ joined two }
 {
     newest_in_any_order::<A>();
+    remembered_in_any_order::<A>();
 }

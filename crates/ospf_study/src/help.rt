@@ -24,6 +24,7 @@ of them, and `help` lists all of them with their arguments:
   explain ROUTER PREFIX             why a route is what it is
   changes, differences, lost, gone  what differs from the baseline
   loops, microloops                 where packets would go round, also while routers change over
+  sweep KIND                        what each single failure takes away
   audit                             what the answers may not be trusted for
   expect CONDITION                  says what must hold
 A line may be preceded by its branch, @0 to @7. A line that begins with # is a comment. Names of a

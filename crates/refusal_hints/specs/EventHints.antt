@@ -1,51 +1,24 @@
 -- Which word of an event is at fault, and what would have been right, by the reason of its refusal.
-use Rattle.std.specs.Prelude.{ℕ, ◌==◌, ◌&&◌, List, [], ◌++◌, map, codes, Option, Some, None, if◌then◌else◌}
-use Rattle.std.specs.List.{filter_map, flat_map}
-use Rattle.std.specs.Option.{is_some, option_map_or}
-use Rattle.std.specs.Ordering.{nat_cmp}
-use Rattle.area_graph.specs.Rising.{rising}
-use Rattle.lsa_codec.specs.Links.{has_cost, is_point_to_point, links_of}
+use Rattle.std.specs.Prelude.{ℕ, List, ◌++◌, map, codes, Some, None, if◌then◌else◌}
+use Rattle.std.specs.Option.{is_some}
 use Rattle.lsa_codec.specs.Spelling.{address_text}
 use Rattle.lsa_codec.specs.declared.address.Addr.{Addr}
-use Rattle.lsa_codec.specs.declared.address.AreaId.{AreaId}
 use Rattle.lsa_codec.specs.declared.address.RouterId.{RouterId}
-use Rattle.lsa_codec.specs.declared.link.Link.{Link}
 use Rattle.lsdb.specs.Lists.{Lists}
-use Rattle.interfaces.specs.Routers.{router_lsa_of}
-use Rattle.link_report.specs.Areas.{area_ids}
 use Rattle.edit_script.specs.declared.event.Event.{Event}
 use Rattle.edit_script.specs.declared.event.Event.TheVariants as event
 use Rattle.edit_history.specs.declared.fault.EditFault.{EditFault}
 use Rattle.edit_history.specs.declared.fault.EditFault.TheVariants as fault
 use Rattle.study_text.specs.Lists.{joined_or}
-use Rattle.refusal_hints.specs.declared.events.Sought.{Sought}
-use Rattle.refusal_hints.specs.declared.events.Sought.TheVariants.{Neighbors, AddressesTo, Addresses}
+use Rattle.refusal_hints.specs.declared.router_links.Sought.{Sought}
+use Rattle.refusal_hints.specs.declared.router_links.Sought.TheVariants.{Neighbors, AddressesTo, Addresses}
 use Rattle.refusal_hints.specs.Advice.{AdviceValue, advice}
 use Rattle.refusal_hints.specs.Described.{area_with}
 use Rattle.refusal_hints.specs.LimitHints.{limit_advice}
 use Rattle.refusal_hints.specs.Nearest.{has_nearest}
+use Rattle.refusal_hints.specs.NetworkHints.{networks_hint}
 use Rattle.refusal_hints.specs.RouterHints.{anywhere_hint}
-
--- ---- what a router has
-
--- of a link what is sought: the router to which a point-to-point link leads, or the Link Data of one to a router, or of a link to any
--- router or transit network
-abbrev pub sought_of : Sought → Link → Option ℕ
-sought_of Neighbors link = if is_point_to_point link.kind then Some link.id.0 else None
-sought_of (AddressesTo router) link = if is_point_to_point link.kind && (link.id.0 == router.0) then Some link.link_data.0 else None
-sought_of Addresses link = if has_cost link.kind then Some link.link_data.0 else None
-
--- in the live router-LSA of the router in an area
-abbrev pub sought_in : Sought → Lists → RouterId → AreaId → List ℕ
-sought_in what db router area = option_map_or (λ lsa. filter_map (sought_of what) (links_of lsa)) (router_lsa_of db area router) []
-
--- in several areas, in rising order, each once
-abbrev pub sought_among : Sought → Lists → RouterId → List AreaId → List ℕ
-sought_among what db router areas = rising nat_cmp (flat_map (sought_in what db router) areas)
-
--- in all areas
-abbrev pub sought : Sought → Lists → RouterId → List ℕ
-sought what db router = sought_among what db router (area_ids db)
+use Rattle.refusal_hints.specs.RouterLinks.{sought}
 
 -- ---- hints
 
@@ -76,7 +49,13 @@ far_hint db router far =
 
 abbrev pub one_router_advice : Lists → RouterId → EditFault → AdviceValue
 one_router_advice db router fault.NoRouter = advice 1 (anywhere_hint db router)
+one_router_advice db router fault.KeyTaken = advice 1 (codes "the next Designated Router has a network-LSA with that address")
 one_router_advice db router why = limit_advice why
+
+-- `cut ROUTER PREFIX`
+abbrev pub leave_advice : Lists → RouterId → EditFault → AdviceValue
+leave_advice db router fault.NotOnNetwork = advice 2 (networks_hint db router)
+leave_advice db router why = one_router_advice db router why
 
 -- of two routers the first that no area has
 abbrev pub either_advice : Lists → RouterId → RouterId → AdviceValue
@@ -106,5 +85,7 @@ cost_advice db router far why = two_routers_advice db router far why
 abbrev pub event_advice : Lists → Event → EditFault → AdviceValue
 event_advice db (event.Cut router neighbor None) why = two_routers_advice db router (record { 0 = neighbor.0 }) why
 event_advice db (event.Cut router neighbor (Some address)) why = cut_advice db router neighbor address why
+event_advice db (event.Leave router prefix) why = leave_advice db router why
 event_advice db (event.SetCost router far metric both) why = cost_advice db router far why
 event_advice db (event.Drain router) why = one_router_advice db router why
+event_advice db (event.Fail router) why = one_router_advice db router why

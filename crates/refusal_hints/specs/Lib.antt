@@ -3,6 +3,8 @@ pub mod Situation
 pub mod Nearest
 pub mod Described
 pub mod RouterHints
+pub mod RouterLinks
+pub mod NetworkHints
 pub mod LimitHints
 pub mod EventHints
 pub mod EditHints

@@ -3,98 +3,22 @@
 ghost use Rattle.std.specs.Prelude.{◌≡◌, IfOk, OnOk, ◌++◌};
 ghost use Rattle.lsa_codec.specs.Spelling.{address_text};
 ghost use Rattle.lsdb.specs.Slots.{lists_of};
-ghost use Rattle.refusal_hints.specs.EventHints.{address_hint, addresses_of, cost_advice, cut_advice, either_advice, event_advice, far_hint, has_those, neighbors_hint, one_router_advice, sought, sought_among, sought_in, sought_of, two_routers_advice};
+ghost use Rattle.refusal_hints.specs.EventHints.{address_hint, addresses_of, cost_advice, cut_advice, either_advice, event_advice, far_hint, has_those, leave_advice, neighbors_hint, one_router_advice, two_routers_advice};
 
 use crate::advice::Advice;
 use crate::described::area_with;
 use crate::limit::limit_advice;
 use crate::nearest::push_nearest;
+use crate::networks::networks_hint;
+use crate::router_links::Sought;
 use crate::routers::anywhere_hint;
 use edit_history::EditFault;
 use edit_script::Event;
-use interfaces::router_lsa_of;
-use link_report::{area_ids, rising};
-use lsa_codec::{Addr, AreaId, Link, LinkKind, RouterId};
+use lsa_codec::{Addr, RouterId};
 use lsdb::Database;
 use network_names::Names;
 use std::alloc::{AllocError, Allocator};
 use study_text::{push_address, push_joined_or, push_word};
-
-/// What is sought in the links of a router.
-#[derive(Clone, Copy)]
-enum Sought {
-    /// The routers to which point-to-point links lead.
-    Neighbors,
-    /// The Link Data of point-to-point links to a router.
-    AddressesTo(RouterId),
-    /// The Link Data of links to routers and to transit networks.
-    Addresses,
-}
-
-impl Sought {
-    /// What is sought, of a link.
-    fn of(self, link: Link) -> Option<u32>
-        ensures { result ≡ sought_of self link }
-    {
-        let leads = matches!(link.kind, LinkKind::PointToPoint);
-        match self {
-            Sought::Neighbors if leads => Some(link.id.0),
-            Sought::AddressesTo(router) if leads && link.id.0 == router.0 => Some(link.link_data.0),
-            Sought::Addresses if link.kind.has_cost() => Some(link.link_data.0),
-            _ => None,
-        }
-    }
-
-    /// What is sought of a router in an area.
-    fn in_area<A: Allocator + Copy>(
-        self,
-        alloc: A,
-        database: &Database<A>,
-        router: RouterId,
-        area: AreaId,
-    ) -> Result<Vec<u32, A>, AllocError>
-        ensures { IfOk result (λ found. found.items
-            ≡ sought_in self (lists_of database.now) router area) }
-    {
-        let Some(lsa) = router_lsa_of(database, area, router) else {
-            return Ok(Vec::new(alloc));
-        };
-        lsa.links().filter_map(|link| self.of(link)).collect(alloc)
-    }
-
-    /// What is sought of a router in some areas, in rising order, each once.
-    fn in_areas<A: Allocator + Copy>(
-        self,
-        alloc: A,
-        database: &Database<A>,
-        router: RouterId,
-        areas: &[AreaId],
-    ) -> Result<Vec<u32, A>, AllocError>
-        ensures { IfOk result (λ found. found.items
-            ≡ sought_among self (lists_of database.now) router areas.now) }
-    {
-        let mut found = Vec::new(alloc);
-        for area in areas {
-            let mut more = self.in_area(alloc, database, router, *area)?;
-            found.append(&mut more)?;
-        }
-        rising(alloc, &found)
-    }
-
-    /// What is sought of a router in all areas.
-    fn of_router<A: Allocator + Copy>(
-        self,
-        alloc: A,
-        database: &Database<A>,
-        router: RouterId,
-    ) -> Result<Vec<u32, A>, AllocError>
-        ensures { IfOk result
-            (λ found. found.items ≡ sought self (lists_of database.now) router) }
-    {
-        let areas = area_ids(alloc, database)?;
-        self.in_areas(alloc, database, router, &areas)
-    }
-}
 
 /// Addresses by their numbers.
 fn addresses<A: Allocator + Copy>(alloc: A, numbers: &[u32]) -> Result<Vec<Addr, A>, AllocError>
@@ -192,7 +116,27 @@ fn one_router_advice<A: Allocator + Copy>(
 {
     match why {
         EditFault::NoRouter => Ok(Advice::at(1, anywhere_hint(alloc, database, router)?)),
+        EditFault::KeyTaken => Advice::of(
+            alloc,
+            1,
+            "the next Designated Router has a network-LSA with that address",
+        ),
         _ => limit_advice(alloc, why),
+    }
+}
+
+/// Of a router that leaves a network.
+fn leave_advice<A: Allocator + Copy>(
+    alloc: A,
+    database: &Database<A>,
+    router: RouterId,
+    why: EditFault,
+) -> Result<Advice<A>, AllocError>
+    ensures { IfOk result (λ it. it ≡ leave_advice (lists_of database.now) router why) }
+{
+    match why {
+        EditFault::NotOnNetwork => Ok(Advice::at(2, networks_hint(alloc, database, router)?)),
+        _ => one_router_advice(alloc, database, router, why),
     }
 }
 
@@ -293,7 +237,10 @@ pub(crate) fn event_advice<A: Allocator + Copy>(
             neighbor,
             address: Some(address),
         } => cut_advice(alloc, database, router, neighbor, address, why),
+        Event::Leave { router, .. } => leave_advice(alloc, database, router, why),
         Event::SetCost { router, far, .. } => cost_advice(alloc, database, router, far, why),
-        Event::Drain { router } => one_router_advice(alloc, database, router, why),
+        Event::Drain { router } | Event::Fail { router } => {
+            one_router_advice(alloc, database, router, why)
+        }
     }
 }

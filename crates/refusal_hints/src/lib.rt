@@ -12,8 +12,10 @@ mod situation;
 // What a database has, and what of it is most like a word.
 mod described;
 mod nearest;
+mod router_links;
 
 // What would have been right in place of a word.
+mod networks;
 mod routers;
 
 // Which word names a router.

@@ -3,13 +3,13 @@
 ghost use Rattle.std.specs.Prelude.{◌≡◌, IfOk};
 ghost use Rattle.edit_script.specs.Words.{words};
 ghost use Rattle.study_hints.specs.Hints.{command_at};
-ghost use Rattle.refusal_hints.specs.QuestionHints.{count_advice, count_place, named_advice, question_advice, question_hint};
+ghost use Rattle.refusal_hints.specs.QuestionHints.{count_advice, count_place, named_advice, question_advice, question_hint, within_advice};
 
 use crate::advice::{Advice, Hint, from_command};
 use crate::commands::counted;
-use crate::routers::unattached_hint;
+use crate::routers::{area_hint, unattached_hint};
 use crate::situation::Situation;
-use lsa_codec::RouterId;
+use lsa_codec::{AreaId, RouterId};
 use std::alloc::{AllocError, Allocator};
 use study_script::Question;
 
@@ -49,6 +49,21 @@ fn named_advice<A: Allocator + Copy>(
     }
 }
 
+/// Of a question about an area that the database does not have.
+fn within_advice<A: Allocator + Copy>(
+    alloc: A,
+    situation: &Situation<'_, A>,
+    within: Option<AreaId>,
+) -> Result<Advice<A>, AllocError>
+    ensures { IfOk result (λ it. it ≡ within_advice situation.now within) }
+{
+    let Some(area) = within else {
+        return Advice::none(alloc);
+    };
+    let text = area_hint(alloc, situation.database, area)?;
+    Ok(Advice::at(3, text))
+}
+
 /// Which word of a question is at fault, and what would have been right.
 fn question_advice<A: Allocator + Copy>(
     alloc: A,
@@ -65,6 +80,7 @@ fn question_advice<A: Allocator + Copy>(
         | Question::Path { router, .. }
         | Question::Explain { router, .. } => named_advice(alloc, situation, Some(router)),
         Question::Microloops(count) => count_advice(alloc, situation, count),
+        Question::Sweep { within, .. } => within_advice(alloc, situation, within),
         _ => Advice::none(alloc),
     }
 }

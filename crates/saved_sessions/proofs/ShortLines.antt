@@ -117,8 +117,10 @@ some_words (AddExternal router net t metric forward tag) = omega arith
 some_words (DropExternal router net) = omega arith
 some_words Refresh = omega arith
 some_words (of_event (events.Cut router neighbor address)) = omega arith
+some_words (of_event (events.Leave router net)) = omega arith
 some_words (of_event (events.SetCost router far metric both)) = omega arith
 some_words (of_event (events.Drain router)) = omega arith
+some_words (of_event (events.Fail router)) = omega arith
 
 pub short_line : (edit : Edit) → IsScripted edit → length (line_of edit) ≤ longest_line
 short_line edit h =

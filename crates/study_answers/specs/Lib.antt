@@ -1,4 +1,5 @@
 pub mod Answers
 pub mod Known
+pub mod Areas
 pub mod Missing
 pub mod Microloops

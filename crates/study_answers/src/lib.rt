@@ -9,12 +9,14 @@ mod answer;
 mod mark;
 
 // What questions and expectations are about.
+mod areas;
 mod known;
 mod loaded;
 mod may_loop;
 mod missing;
 
 pub use answer::{Answer, Outcome};
+pub use areas::{has_limit, no_area};
 pub use known::{is_among, is_attached, is_known, no_router};
 pub use loaded::loaded_of;
 pub use mark::push_mark;

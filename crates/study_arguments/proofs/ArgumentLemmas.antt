@@ -6,6 +6,7 @@ use Rattle.std.proofs.lemmas.Bool.{ne_eqb}
 use Rattle.lsa_codec.specs.Prefix.{Net}
 use Rattle.lsa_codec.specs.Spelling.{address_text, prefix_text}
 use Rattle.lsa_codec.specs.declared.address.Addr.{Addr}
+use Rattle.lsa_codec.specs.declared.address.AreaId.{AreaId}
 use Rattle.lsa_codec.specs.declared.address.RouterId.{RouterId}
 use Rattle.edit_script.specs.Spelling.{IsPrefix}
 use Rattle.edit_script.proofs.PrefixLemmas.{prefix_again}
@@ -15,11 +16,13 @@ use Rattle.text_words.proofs.NumberLemmas.{SparesDigits}
 use Rattle.text_words.proofs.AddressLemmas.{Lacks-address, address_again}
 use Rattle.study_words.specs.declared.audit_kind.AuditKind.{AuditKind}
 use Rattle.study_words.specs.AuditKinds.{audit_kind_text}
-use Rattle.study_words.specs.Written.{audit}
+use Rattle.study_words.specs.declared.failure_kind.FailureKind.{FailureKind}
+use Rattle.study_words.specs.FailureKinds.{failure_kind_text}
+use Rattle.study_words.specs.Written.{audit, failure}
 use Rattle.study_words.proofs.TextLemmas.{word_found}
 use Rattle.study_arguments.specs.Arguments.{Read}
 use Rattle.study_arguments.specs.Positions.{At}
-use Rattle.study_arguments.specs.Values.{Lookup, addr, audit_kind, prefix, router_id}
+use Rattle.study_arguments.specs.Values.{Lookup, addr, area_id, audit_kind, failure_kind, prefix, router_id}
 use Rattle.study_arguments.specs.Lists.{each, neighbors, one_or_more}
 use Rattle.study_arguments.specs.Spelling.{neighbors_text, router_text}
 
@@ -29,11 +32,17 @@ addr_again names address h = simp (address_again address.0 h)
 pub router_again : (names : Lookup) (id : RouterId) → id.0 < 2 ^ 32 → router_id names (router_text id) ≡ Ok id
 router_again names id h = simp (address_again id.0 h)
 
+pub area_again : (names : Lookup) (area : AreaId) → area.0 < 2 ^ 32 → area_id names (address_text area.0) ≡ Ok area
+area_again names area h = simp (address_again area.0 h)
+
 pub net_again : (names : Lookup) (net : Net) → IsPrefix net → prefix names (prefix_text net) ≡ Ok net
 net_again names net h = simp (prefix_again net h)
 
 pub kind_again : (names : Lookup) (kind : AuditKind) → audit_kind names (audit_kind_text kind) ≡ Ok kind
 kind_again names kind = simp (word_found (audit kind))
+
+pub failure_again : (names : Lookup) (kind : FailureKind) → failure_kind names (failure_kind_text kind) ≡ Ok kind
+failure_again names kind = simp (word_found (failure kind))
 
 -- ---- lists
 

@@ -1,5 +1,6 @@
 -- What one word of a line means: a number, an address, a prefix, a link, a word of the language; or what is wrong with it.
-use Rattle.std.specs.Prelude.{ℕ, Option, Some, None, Result, Ok, Err, ok_or, bytes_eq, codes, if◌then◌else◌}
+use Rattle.std.specs.Prelude.{ℕ, ◌==◌, Bool, Option, Some, None, Result, Ok, Err, ok_or, bytes_eq, codes, if◌then◌else◌}
+use Rattle.std.specs.List.{list_any}
 use Rattle.std.specs.Option.{option_or}
 use Rattle.lsa_codec.specs.Prefix.{Net}
 use Rattle.lsa_codec.specs.declared.address.Addr.{Addr}
@@ -13,13 +14,17 @@ use Rattle.edit_script.specs.declared.edit.MetricType.{MetricType}
 use Rattle.edit_script.specs.declared.fault.ScriptFault.TheVariants.{BadAddress}
 use Rattle.study_words.specs.declared.audit_kind.AuditKind.{AuditKind}
 use Rattle.study_words.specs.declared.comparison.Comparison.{Comparison}
+use Rattle.study_words.specs.declared.failure_kind.FailureKind.{FailureKind}
 use Rattle.study_words.specs.declared.study_word.StudyWord.{StudyWord}
 use Rattle.study_words.specs.AuditKinds.{audit_kind_of}
 use Rattle.study_words.specs.Comparisons.{comparison_of}
+use Rattle.study_words.specs.FailureKinds.{failure_kind_of}
 use Rattle.study_words.specs.StudyWords.{study_word_of}
 use Rattle.study_arguments.specs.declared.addresses.Dotted.{Dotted}
 use Rattle.study_arguments.specs.declared.language.Ends.{Ends}
 use Rattle.study_arguments.specs.declared.language.Ends.TheVariants.{Both}
+use Rattle.study_arguments.specs.declared.language.Limit.{Limit}
+use Rattle.study_arguments.specs.declared.language.Limit.TheVariants.{Within}
 use Rattle.study_arguments.specs.declared.fault.FaultKind.{FaultKind}
 use Rattle.study_arguments.specs.declared.fault.FaultKind.TheVariants.{Script, BadWord}
 use Rattle.study_arguments.specs.declared.link.LinkName.{LinkName}
@@ -72,6 +77,10 @@ metric_type names word = of_script (plan.metric_type word)
 
 -- ---- prefixes and links
 
+-- a word that is meant as a prefix: it has a `/` (47)
+abbrev pub is_like_prefix : Word → Bool
+is_like_prefix word = list_any (λ byte. byte == 47) word
+
 abbrev pub prefix : Means Net
 prefix names word = of_script (plan.prefix word)
 
@@ -89,6 +98,9 @@ link names word = link_by names word (address_named names word) (prefix_of word)
 abbrev pub audit_kind : Means AuditKind
 audit_kind names word = ok_or (audit_kind_of word) BadWord
 
+abbrev pub failure_kind : Means FailureKind
+failure_kind names word = ok_or (failure_kind_of word) BadWord
+
 abbrev pub comparison : Means Comparison
 comparison names word = ok_or (comparison_of word) BadWord
 
@@ -98,3 +110,7 @@ study_word names word = ok_or (study_word_of word) BadWord
 -- the word `both`
 abbrev pub ends : Means Ends
 ends names word = if bytes_eq word (codes "both") then Ok Both else Err BadWord
+
+-- the word `within`
+abbrev pub limit : Means Limit
+limit names word = if bytes_eq word (codes "within") then Ok Within else Err BadWord

@@ -4,7 +4,7 @@ use crate::argument::Argument;
 use crate::fault::FaultKind;
 use network_names::Names;
 use std::alloc::Allocator;
-use study_words::{AuditKind, Comparison, StudyWord, Word};
+use study_words::{AuditKind, Comparison, FailureKind, StudyWord, Word};
 
 impl Argument for AuditKind {
     ghost use Rattle.study_arguments.specs.Values.{audit_kind};
@@ -13,6 +13,16 @@ impl Argument for AuditKind {
 
     fn read<A: Allocator + Copy>(_names: &Names<'_, A>, word: &[u8]) -> Result<Self, FaultKind> {
         AuditKind::of(word).ok_or(FaultKind::BadWord)
+    }
+}
+
+impl Argument for FailureKind {
+    ghost use Rattle.study_arguments.specs.Values.{failure_kind};
+
+    ghost means = { failure_kind };
+
+    fn read<A: Allocator + Copy>(_names: &Names<'_, A>, word: &[u8]) -> Result<Self, FaultKind> {
+        FailureKind::of(word).ok_or(FaultKind::BadWord)
     }
 }
 
@@ -44,6 +54,26 @@ impl Argument for Ends {
         } else {
             Err(FaultKind::BadWord)
         }
+    }
+}
+
+/// What a question is limited to, where it is not about the whole network.
+#[derive(Clone, Copy, Debug, PartialEq, Eq)]
+pub enum Limit {
+    /// `within`, which an area follows.
+    Within,
+}
+
+impl Argument for Limit {
+    ghost use Rattle.study_arguments.specs.Values.{limit};
+
+    ghost means = { limit };
+
+    fn read<A: Allocator + Copy>(_names: &Names<'_, A>, word: &[u8]) -> Result<Self, FaultKind> {
+        if word != b"within".as_slice() {
+            return Err(FaultKind::BadWord);
+        }
+        Ok(Limit::Within)
     }
 }
 

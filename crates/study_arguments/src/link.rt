@@ -1,5 +1,8 @@
 //! What a word means as a prefix, and what names a link.
 
+ghost use Rattle.std.specs.Prelude.{◌≡◌};
+ghost use Rattle.study_arguments.specs.Values.{is_like_prefix};
+
 use crate::addresses::address_named;
 use crate::argument::Argument;
 use crate::fault::FaultKind;
@@ -18,6 +21,13 @@ pub enum LinkName {
     Address(Addr),
     /// The link of type 3 to this stub network.
     Prefix(Prefix),
+}
+
+/// Whether a word is meant as a prefix: it has a `/`.
+pub fn is_like_prefix(word: &[u8]) -> bool
+    ensures { result ≡ is_like_prefix word.now }
+{
+    word.iter().any(|byte| *byte == b'/')
 }
 
 impl Argument for Prefix {

@@ -14,6 +14,9 @@ use Rattle.change_lines.specs.ChangeTexts.{ChangeLineValue, ChangesValue}
 use Rattle.change_lines.specs.PairTexts.{PairLineValue}
 use Rattle.loop_report.specs.Blackholes.{BlackholeValue}
 use Rattle.loop_report.specs.Loops.{LoopValue}
+use Rattle.sweep_report.specs.declared.outcome.FailureLine.{FailureLine}
+use Rattle.sweep_report.specs.declared.outcome.Outcome.{Outcome}
+use Rattle.sweep_report.specs.declared.outcome.Outcome.TheVariants as outcome
 use Rattle.best_ways.specs.Values.{RouteValue}
 use Rattle.routing_table.specs.Tables.{TableValue}
 use Rattle.lsa_codec.specs.Links.{stub_net}
@@ -30,6 +33,7 @@ use Rattle.study_documents.proofs.NestingLemmas.{array_shallow, option_shallow}
 use Rattle.study_json.specs.Fields.{members_by, object_of}
 use Rattle.study_json.specs.Leaves.{address_json, area_json, number_json, prefix_json, router_json}
 use Rattle.study_json.specs.Changes.{change_json, counts_json, pair_json}
+use Rattle.study_json.specs.Failures.{failure_json, outcome_fields}
 use Rattle.study_json.specs.Loops.{blackhole_json, loop_json}
 use Rattle.study_json.specs.Networks.{network_json}
 use Rattle.study_json.specs.Routers.{roles_json, router_line_json}
@@ -143,6 +147,15 @@ counts_shallow changes = omega arith
 pub pair_shallow : (line : PairLineValue) → depth (pair_json line) ≤ 5
 pair_shallow line =
     omega (arith, option_shallow route_json 4 route_shallow line.was, array_shallow router_json 0 (λ r. omega arith) line.announced)
+
+-- ---- failures
+
+outcome_shallow : (o : Outcome) → members_depth (members_by (outcome_fields o)) ≤ 1
+outcome_shallow (outcome.Counted counts) = omega arith
+outcome_shallow (outcome.Refused fault) = omega arith
+
+pub failure_shallow : (line : FailureLine) → depth (failure_json line) ≤ 2
+failure_shallow line = omega (arith, outcome_shallow line.outcome)
 
 -- ---- loops and tables
 

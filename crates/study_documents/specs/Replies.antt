@@ -1,7 +1,8 @@
 -- The members of replies to questions, after what became of the line.
 use Rattle.std.specs.Prelude.{ℕ, List, [], ◌∷◌, Option, codes}
-use Rattle.json.specs.Json.{Json}
+use Rattle.json.specs.Json.{Json, string}
 use Rattle.lsa_codec.specs.declared.address.Addr.{Addr}
+use Rattle.lsa_codec.specs.declared.address.AreaId.{AreaId}
 use Rattle.lsa_codec.specs.declared.address.RouterId.{RouterId}
 use Rattle.routing_table.specs.Tables.{TableValue}
 use Rattle.recalculate.specs.declared.counts.Info.{Info}
@@ -10,9 +11,13 @@ use Rattle.route_lines.specs.RouteLines.{RouteLineValue}
 use Rattle.change_lines.specs.ChangeTexts.{ChangeLineValue, ChangesValue}
 use Rattle.loop_report.specs.Blackholes.{BlackholeValue}
 use Rattle.loop_report.specs.Loops.{LoopValue}
+use Rattle.study_words.specs.declared.failure_kind.FailureKind.{FailureKind}
+use Rattle.study_words.specs.FailureKinds.{failure_kind_text}
+use Rattle.sweep_report.specs.declared.outcome.FailureLine.{FailureLine}
 use Rattle.study_json.specs.Changes.{change_json, counts_json}
+use Rattle.study_json.specs.Failures.{failure_json}
 use Rattle.study_json.specs.Fields.{Fields}
-use Rattle.study_json.specs.Leaves.{address_json, array_json, number_json, option_json, router_json}
+use Rattle.study_json.specs.Leaves.{address_json, area_json, array_json, number_json, option_json, router_json}
 use Rattle.study_json.specs.Loops.{blackhole_json, loop_json}
 use Rattle.study_json.specs.Routes.{route_json}
 use Rattle.study_json.specs.Steps.{end_json, step_json}
@@ -48,6 +53,11 @@ loops_reply loops blackholes =
 
 abbrev pub microloops_reply : ℕ → List LoopValue → Fields
 microloops_reply count loops = (codes "count", number_json count) ∷ (codes "loops", array_json loop_json loops) ∷ []
+
+abbrev pub sweep_reply : FailureKind → Option AreaId → List FailureLine → Fields
+sweep_reply kind within lines =
+    (codes "kind", string (failure_kind_text kind)) ∷ (codes "within", option_json area_json within)
+    ∷ (codes "failures", array_json failure_json lines) ∷ []
 
 -- ---- questions of `ospf-plan`
 

@@ -2,6 +2,7 @@
 
 ghost use Rattle.std.specs.Prelude.{◌≡◌, ◌++◌, ◌<◌, ℕ, List, Option, Some, codes};
 ghost use Rattle.lsa_codec.specs.declared.address.Addr.{Addr as AnyAddr};
+ghost use Rattle.lsa_codec.specs.declared.address.AreaId.{AreaId as AnyArea};
 ghost use Rattle.lsa_codec.specs.declared.address.RouterId.{RouterId as AnyRouter};
 ghost use Rattle.link_report.specs.Links.{LinkValue};
 ghost use Rattle.link_report.specs.Networks.{NetworkValue};
@@ -12,6 +13,8 @@ ghost use Rattle.change_lines.specs.ChangeTexts.{ChangeLineValue, ChangesValue};
 ghost use Rattle.change_lines.specs.PairTexts.{PairLineValue};
 ghost use Rattle.loop_report.specs.Blackholes.{BlackholeValue};
 ghost use Rattle.loop_report.specs.Loops.{LoopValue};
+ghost use Rattle.study_words.specs.declared.failure_kind.FailureKind.{FailureKind as AnyFailureKind};
+ghost use Rattle.sweep_report.specs.declared.outcome.FailureLine.{FailureLine as AnyFailure};
 ghost use Rattle.routing_table.specs.Tables.{TableValue};
 ghost use Rattle.study_json.specs.Changes.{pair_json};
 ghost use Rattle.study_json.specs.Links.{link_json};
@@ -20,7 +23,7 @@ ghost use Rattle.study_json.specs.Routers.{router_line_json};
 ghost use Rattle.study_json.specs.Tables.{table_json};
 ghost use Rattle.study_documents.specs.Compared.{RouteChangeValue, compare_reply};
 ghost use Rattle.study_documents.specs.Outcomes.{cost_reply, fault_reply, fault_text, hint_reply};
-ghost use Rattle.study_documents.specs.Replies.{changes_reply, listing, loops_reply, microloops_reply, path_reply, routes_reply, table_reply};
+ghost use Rattle.study_documents.specs.Replies.{changes_reply, listing, loops_reply, microloops_reply, path_reply, routes_reply, sweep_reply, table_reply};
 ghost use Rattle.json.specs.Json.{document, max_depth, string};
 ghost use Rattle.study_json.specs.Fields.{Fields, HaveNumbers, more_text};
 ghost use Rattle.study_json.specs.JsonText.{json_text};
@@ -79,6 +82,8 @@ pub fn replies_nest_little()
         → fields_depth (loops_reply loops blackholes) < max_depth }
     ensures microloops { (count : ℕ) (loops : List LoopValue)
         → fields_depth (microloops_reply count loops) < max_depth }
+    ensures failures { (kind : AnyFailureKind) (within : Option AnyArea) (lines : List AnyFailure)
+        → fields_depth (sweep_reply kind within lines) < max_depth }
     ensures table { (table : TableValue) → fields_depth (table_reply table) < max_depth }
     ensures tables { (key : List ℕ) (tables : List TableValue)
         → fields_depth (listing key table_json tables) < max_depth }

@@ -17,6 +17,7 @@ mod listing;
 mod loops;
 mod plan;
 mod routes;
+mod sweep;
 
 // Edits, expectations, and lines that are not carried out.
 mod edits;
@@ -41,3 +42,4 @@ pub use plan::{push_info, push_table};
 pub use refusal::{push_fault, push_hint};
 pub use routes::{push_path, push_routes};
 pub use summary::{Counted, push_summary};
+pub use sweep::push_sweep;

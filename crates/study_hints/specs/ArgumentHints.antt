@@ -9,7 +9,7 @@ use Rattle.text_words.specs.Words.{Word}
 use Rattle.text_words.specs.Numbers.{number_up_to}
 use Rattle.text_words.specs.Addresses.{address_of}
 use Rattle.edit_script.specs.Arguments.{two_parts}
-use Rattle.study_arguments.specs.Values.{Lookup}
+use Rattle.study_arguments.specs.Values.{Lookup, is_like_prefix}
 use Rattle.study_words.specs.AuditKinds.{audit_kind_text, audit_kinds}
 use Rattle.study_hints.specs.declared.role.Role.{Role}
 use Rattle.study_hints.specs.declared.role.Role.TheVariants as role
@@ -106,6 +106,12 @@ link_hint known word =
     else if begins_with_digit word then link_range
     else known_name known word link_range
 
+-- ---- neighbors and networks
+
+-- in place of a word that is neither a neighbor nor the prefix of a network
+abbrev pub far_end_hint : List Word → Word → List ℕ
+far_end_hint known word = if is_like_prefix word then prefix_hint word else name_hint known word
+
 -- ---- a word in its role
 
 unfoldable pub argument_hint : List Word → Role → Word → List ℕ
@@ -117,6 +123,7 @@ argument_hint known role.Address word = name_hint known word
 argument_hint known role.Prefix word = prefix_hint word
 argument_hint known role.Word word = or_near (near word command_texts) (codes "see help")
 argument_hint known role.Kind word = kind_hint word
+argument_hint known role.FarEnd word = far_end_hint known word
 argument_hint known role.Link word = link_hint known word
 argument_hint known role.Cost word = range_hint role.Cost
 argument_hint known role.Metric word = range_hint role.Metric
@@ -125,6 +132,8 @@ argument_hint known role.Tag word = range_hint role.Tag
 argument_hint known role.Count word = range_hint role.Count
 argument_hint known role.Number word = range_hint role.Number
 argument_hint known role.Both word = codes "both"
+argument_hint known role.Failures word = codes "one of links networks routers all"
+argument_hint known role.Within word = codes "within"
 
 -- of words in their roles, from left to right, the hint for the first that does not fit
 unfoldable pub first_hint : Lookup → List Word → List Role → List Word → List ℕ

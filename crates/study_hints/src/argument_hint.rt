@@ -5,7 +5,7 @@ ghost use Rattle.std.specs.List.{slice_split};
 ghost use Rattle.edit_script.specs.Arguments.{two_parts};
 ghost use Rattle.edit_script.specs.Words.{words};
 ghost use Rattle.network_names.specs.Names.{stands_for};
-ghost use Rattle.study_hints.specs.ArgumentHints.{argument_hint, begins_with_digit, first_hint, has_byte, is_like_address, kind_hint, known_name, link_hint, name_hint, or_near, prefix_hint, range_hint, range_of, without_host_bits};
+ghost use Rattle.study_hints.specs.ArgumentHints.{argument_hint, begins_with_digit, far_end_hint, first_hint, has_byte, is_like_address, kind_hint, known_name, link_hint, name_hint, or_near, prefix_hint, range_hint, range_of, without_host_bits};
 ghost use Rattle.study_hints.specs.Near.{near};
 
 use crate::help::commands;
@@ -14,7 +14,7 @@ use crate::role::Role;
 use lsa_codec::{Addr, Prefix};
 use network_names::Names;
 use std::alloc::{AllocError, Allocator};
-use study_arguments::first_word;
+use study_arguments::{first_word, is_like_prefix};
 use study_text::{push_number, push_prefix};
 use study_words::{AuditKind, Word};
 use text_words::{address_of, cut_at, number_up_to};
@@ -210,6 +210,21 @@ fn push_link_hint<A: Allocator + Copy>(
     }
 }
 
+/// Adds what would have been right in place of a word that names neither a neighbor nor a network.
+fn push_far_end_hint<A: Allocator + Copy>(
+    text: &mut Vec<u8, A>,
+    known: &[&[u8]],
+    word: &[u8],
+) -> Result<(), AllocError>
+    ensures { OnOk result (text.new.items ≡ text.old.items
+        ++ far_end_hint (map (λ name. name.now) known.now) word.now) }
+{
+    if is_like_prefix(word) {
+        return push_prefix_hint(text, word);
+    }
+    push_name_hint(text, known, word)
+}
+
 /// Adds what would have been right in place of a word that does not fit its role.
 #[tactic(auto, unfolding(crate::specs::ArgumentHints::argument_hint))]
 fn push_argument_hint<A: Allocator + Copy>(
@@ -224,11 +239,14 @@ fn push_argument_hint<A: Allocator + Copy>(
     match role {
         Role::Area | Role::Forward => push_address_form(text),
         Role::Router | Role::Neighbor | Role::Address => push_name_hint(text, known, word),
+        Role::FarEnd => push_far_end_hint(text, known, word),
         Role::Link => push_link_hint(text, known, word),
         Role::Prefix => push_prefix_hint(text, word),
         Role::Word => push_near(text, word, commands(), "see help"),
         Role::Kind => push_kind_hint(text, word),
         Role::Both => text.extend_from_slice(b"both"),
+        Role::Failures => text.extend_from_slice(b"one of links networks routers all"),
+        Role::Within => text.extend_from_slice(b"within"),
         _ => push_range(text, role),
     }
 }

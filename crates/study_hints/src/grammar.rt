@@ -51,6 +51,7 @@ fn see_command_text(word: SeeWord) -> &'static str
         SeeWord::Gone => "gone",
         SeeWord::Loops => "loops",
         SeeWord::Microloops => "microloops [COUNT]",
+        SeeWord::Sweep => "sweep (links | networks | routers | all) [within AREA]",
         SeeWord::Audit => "audit [KIND]",
         SeeWord::Log => "log",
         SeeWord::Help => "help [WORD]",
@@ -63,9 +64,10 @@ fn event_command_text(word: EventWord) -> &'static str
     ensures { result.now ≡ command_text (Event word) }
 {
     match word {
-        EventWord::Cut => "cut ROUTER NEIGHBOR [ADDRESS]",
+        EventWord::Cut => "cut ROUTER (NEIGHBOR [ADDRESS] | PREFIX)",
         EventWord::SetCost => "set-cost ROUTER NEIGHBOR METRIC [both]",
         EventWord::Drain => "drain ROUTER",
+        EventWord::Fail => "fail ROUTER",
         EventWord::Back => "back COUNT",
     }
 }
@@ -134,6 +136,7 @@ fn see_roles_of(word: SeeWord) -> &'static [Role]
         SeeWord::Gone => &[],
         SeeWord::Loops => &[],
         SeeWord::Microloops => &[Role::Count],
+        SeeWord::Sweep => &[Role::Failures, Role::Within, Role::Area],
         SeeWord::Audit => &[Role::Kind],
         SeeWord::Log => &[],
         SeeWord::Help => &[Role::Word],
@@ -146,9 +149,10 @@ fn event_roles_of(word: EventWord) -> &'static [Role]
     ensures { result.now ≡ roles_of (Event word) }
 {
     match word {
-        EventWord::Cut => &[Role::Router, Role::Neighbor, Role::Address],
+        EventWord::Cut => &[Role::Router, Role::FarEnd, Role::Address],
         EventWord::SetCost => &[Role::Router, Role::Neighbor, Role::Cost, Role::Both],
         EventWord::Drain => &[Role::Router],
+        EventWord::Fail => &[Role::Router],
         EventWord::Back => &[Role::Count],
     }
 }

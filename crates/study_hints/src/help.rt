@@ -34,6 +34,7 @@ pub fn commands() -> &'static [StudyWord]
         StudyWord::Event(EventWord::Cut),
         StudyWord::Event(EventWord::SetCost),
         StudyWord::Event(EventWord::Drain),
+        StudyWord::Event(EventWord::Fail),
         StudyWord::Event(EventWord::Back),
         StudyWord::See(SeeWord::Routers),
         StudyWord::See(SeeWord::Links),
@@ -47,6 +48,7 @@ pub fn commands() -> &'static [StudyWord]
         StudyWord::See(SeeWord::Gone),
         StudyWord::See(SeeWord::Loops),
         StudyWord::See(SeeWord::Microloops),
+        StudyWord::See(SeeWord::Sweep),
         StudyWord::See(SeeWord::Audit),
         StudyWord::See(SeeWord::Log),
         StudyWord::See(SeeWord::Help),
@@ -98,6 +100,9 @@ fn see_command_meaning(word: SeeWord) -> &'static str
         SeeWord::Gone => "routes that are gone because nobody announces their prefix",
         SeeWord::Loops => "forwarding loops, and blackholes that the baseline does not have",
         SeeWord::Microloops => "what may loop while routers change over the last edits",
+        SeeWord::Sweep => {
+            "what each single failure takes away: its lost, gone and changed routes, and loops"
+        }
         SeeWord::Audit => "what the answers may not be trusted for; with a kind each place",
         SeeWord::Log => "the edits that are done, as lines",
         SeeWord::Help => "the words, or what one means",
@@ -111,12 +116,13 @@ fn event_command_meaning(word: EventWord) -> &'static str
 {
     match word {
         EventWord::Cut => {
-            "the links of two routers go at both ends, with their stubs; one, by an address"
+            "links of two routers go with their stubs, one by an address; a router leaves a network"
         }
         EventWord::SetCost => {
             "sets the cost of the interfaces to a neighbor, or of that with an address"
         }
         EventWord::Drain => "the links of a router to routers and networks cost 65535",
+        EventWord::Fail => "a router goes, with the links to it; others become Designated Router",
         EventWord::Back => "takes the last edits and events back",
     }
 }

@@ -2,14 +2,14 @@
 
 ghost use Rattle.std.specs.Prelude.{◌≡◌};
 ghost use Rattle.network_names.specs.Names.{stands_for};
-ghost use Rattle.study_hints.specs.Roles.{fits};
+ghost use Rattle.study_hints.specs.Roles.{fits, is_far_end};
 
 use edit_script::MetricType;
 use lsa_codec::{Addr, AreaId, Metric, Prefix, RouterId};
 use network_names::Names;
 use std::alloc::Allocator;
-use study_arguments::{Argument, Dotted, Ends, LinkName};
-use study_words::{AuditKind, StudyWord};
+use study_arguments::{Argument, Dotted, Ends, Limit, LinkName, is_like_prefix};
+use study_words::{AuditKind, FailureKind, StudyWord};
 
 /// What a word of a line is to be.
 #[derive(Clone, Copy, Debug, PartialEq, Eq)]
@@ -20,6 +20,8 @@ pub(crate) enum Role {
     Router,
     /// A router at the far end of a link.
     Neighbor,
+    /// What a router is cut from: one at the far end of a link, or the prefix of a network.
+    FarEnd,
     /// A link, by its number or by what names it.
     Link,
     /// An address.
@@ -46,6 +48,20 @@ pub(crate) enum Role {
     Kind,
     /// The word `both`.
     Both,
+    /// A kind of failures.
+    Failures,
+    /// The word `within`.
+    Within,
+}
+
+/// Whether a word names what a router may be cut from.
+fn is_far_end<A: Allocator + Copy>(names: &Names<'_, A>, word: &[u8]) -> bool
+    ensures { result ≡ is_far_end (stands_for names.now) word.now }
+{
+    if is_like_prefix(word) {
+        return Prefix::read(names, word).is_ok();
+    }
+    RouterId::read(names, word).is_ok()
 }
 
 impl Role {
@@ -56,6 +72,7 @@ impl Role {
         match self {
             Role::Area => AreaId::read(names, word).is_ok(),
             Role::Router | Role::Neighbor => RouterId::read(names, word).is_ok(),
+            Role::FarEnd => is_far_end(names, word),
             Role::Link => LinkName::read(names, word).is_ok(),
             Role::Address => Addr::read(names, word).is_ok(),
             Role::Prefix => Prefix::read(names, word).is_ok(),
@@ -67,6 +84,8 @@ impl Role {
             Role::Word => StudyWord::read(names, word).is_ok(),
             Role::Kind => AuditKind::read(names, word).is_ok(),
             Role::Both => Ends::read(names, word).is_ok(),
+            Role::Failures => FailureKind::read(names, word).is_ok(),
+            Role::Within => Limit::read(names, word).is_ok(),
         }
     }
 }

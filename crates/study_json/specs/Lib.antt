@@ -9,4 +9,5 @@ pub mod Routes
 pub mod Steps
 pub mod Changes
 pub mod Loops
+pub mod Failures
 pub mod Tables

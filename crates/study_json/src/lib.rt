@@ -1,9 +1,9 @@
 //! The values of studies as JSON (RFC 8259).
 //!
 //! A [`Document`] is what has a JSON value: routers, links, networks, routes, steps of paths,
-//! changes, pairs, loops and blackholes, and lists of these. `push_json` adds the text of the
-//! value, which has no spaces between its parts. [`push_first`] and [`push_next`] add the members
-//! of an object. Routers stand by their Router IDs, and `null` for what is missing.
+//! changes, pairs, loops, blackholes and failures, and lists of these. `push_json` adds the text of
+//! the value, which has no spaces between its parts. [`push_first`] and [`push_next`] add the
+//! members of an object. Routers stand by their Router IDs, and `null` for what is missing.
 //! [`json_is_read_back`]: such a text is read as the value that it was made of.
 #![tactic(auto)]
 
@@ -20,6 +20,7 @@ mod unnamed;
 
 // What studies answer.
 mod change_json;
+mod failure_json;
 mod link_json;
 mod loop_json;
 mod network_json;

@@ -5,6 +5,7 @@ pub mod RouteAnswers
 pub mod ExplainAnswers
 pub mod ChangeAnswers
 pub mod LoopAnswers
+pub mod SweepAnswers
 pub mod AuditAnswers
 pub mod OwnAnswers
 pub mod Questions

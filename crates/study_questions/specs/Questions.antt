@@ -13,6 +13,7 @@ use Rattle.study_questions.specs.RouteAnswers.{IsPathAnswer, routes_answer}
 use Rattle.study_questions.specs.ExplainAnswers.{IsExplainAnswer}
 use Rattle.study_questions.specs.ChangeAnswers.{changes_answer, differences_answer, gone_answer, lost_answer}
 use Rattle.study_questions.specs.LoopAnswers.{IsLoopsAnswer, IsMicroloopsAnswer}
+use Rattle.study_questions.specs.SweepAnswers.{IsSweepAnswer}
 use Rattle.study_questions.specs.AuditAnswers.{audit_answer}
 use Rattle.study_questions.specs.OwnAnswers.{help_answer, log_answer}
 
@@ -31,6 +32,7 @@ IsQuestionAnswer called baseline branch s question.Gone answer = answer ≡ gone
 IsQuestionAnswer called baseline branch s question.Loops answer = IsLoopsAnswer called branch (state s) baseline answer
 IsQuestionAnswer called baseline branch s (question.Microloops count) answer =
     IsMicroloopsAnswer called branch (state s) (count_or_one count) (before_last (count_or_one count) s) answer
+IsQuestionAnswer called baseline branch s (question.Sweep kind within) answer = IsSweepAnswer called branch (state s) kind within answer
 IsQuestionAnswer called baseline branch s (question.Audit kind) answer = answer ≡ audit_answer called branch s.base (state s) kind
 IsQuestionAnswer called baseline branch s question.Log answer = answer ≡ log_answer branch s
 IsQuestionAnswer called baseline branch s (question.Help word) answer = answer ≡ help_answer branch word

@@ -14,6 +14,7 @@ use crate::links::{links_answer, networks_answer, routers_answer};
 use crate::log::log;
 use crate::loops::{loops_answer, microloops};
 use crate::routes::{path_answer, routes_answer};
+use crate::sweep::sweep_answer;
 use branches::Branches;
 use lsdb::Database;
 use network_names::Names;
@@ -62,6 +63,9 @@ pub fn question<A: Allocator + Copy>(
         Question::Gone => missing_answer(alloc, names, branch, baseline, now, Missing::Gone),
         Question::Loops => loops_answer(alloc, names, branch, baseline, now),
         Question::Microloops(count) => microloops(alloc, branches, names, branch, count),
+        Question::Sweep { kind, within } => {
+            sweep_answer(alloc, names, branch, now, (kind, within))
+        }
         Question::Audit(kind) => audit(alloc, names, branches, branch, kind),
         Question::Log => log(alloc, branch, planner),
         Question::Help(word) => help_answer(alloc, branch, word),

@@ -1,14 +1,26 @@
 -- What a command word of a question means, and the words after it.
-use Rattle.std.specs.Prelude.{Result}
+use Rattle.std.specs.Prelude.{Bool, false, true, List, [], ◌∷◌, None, Some, Result, if◌then◌else◌}
 use Rattle.study_words.specs.declared.see_word.SeeWord.{SeeWord}
 use Rattle.study_words.specs.declared.see_word.SeeWord.TheVariants as words
 use Rattle.study_script.specs.declared.question.Question.{Question}
 use Rattle.study_script.specs.declared.question.Question.TheVariants as question
 use Rattle.study_arguments.specs.Fault.{FaultAt, made}
 use Rattle.study_arguments.specs.Positions.{At}
-use Rattle.study_arguments.specs.Values.{Lookup, addr, audit_kind, number32, prefix, router_id, study_word}
-use Rattle.study_arguments.specs.Arguments.{one_or_two_of, optional_of, two_of}
+use Rattle.study_arguments.specs.Values.{Lookup, addr, area_id, audit_kind, failure_kind, limit, number32, prefix, router_id, study_word}
+use Rattle.study_arguments.specs.Arguments.{one_of, one_or_two_of, optional_of, three_of, two_of}
 use Rattle.study_script.specs.PlanLines.{alone}
+
+-- more than one argument
+abbrev pub has_second : At → Bool
+has_second (word, []) = false
+has_second (word, first ∷ []) = false
+has_second (word, first ∷ second ∷ rest) = true
+
+-- a kind of failures, of all or within an area
+unfoldable pub sweep_of : Lookup → At → Result Question FaultAt
+sweep_of names line =
+    if has_second line then made (λ x. question.Sweep x.0 (Some x.2)) (three_of (failure_kind names) (limit names) (area_id names) line)
+    else made (λ kind. question.Sweep kind None) (one_of (failure_kind names) line)
 
 unfoldable pub question_of : Lookup → SeeWord → At → Result Question FaultAt
 question_of names words.Routers line = alone question.Routers line
@@ -23,6 +35,7 @@ question_of names words.Lost line = alone question.Lost line
 question_of names words.Gone line = alone question.Gone line
 question_of names words.Loops line = alone question.Loops line
 question_of names words.Microloops line = made question.Microloops (optional_of (number32 names) line)
+question_of names words.Sweep line = sweep_of names line
 question_of names words.Audit line = made question.Audit (optional_of (audit_kind names) line)
 question_of names words.Log line = alone question.Log line
 question_of names words.Help line = made question.Help (optional_of (study_word names) line)

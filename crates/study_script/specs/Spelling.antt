@@ -3,6 +3,7 @@ use Rattle.std.specs.Prelude.{◌≡◌, ℕ, ◌<◌, ◌^◌, ◌⊎◌, Bool,
 use Rattle.std.specs.List.{AllByRecursion}
 use Rattle.lsa_codec.specs.Spelling.{address_text, prefix_text}
 use Rattle.lsa_codec.specs.declared.address.Addr.{Addr}
+use Rattle.lsa_codec.specs.declared.address.AreaId.{AreaId}
 use Rattle.lsa_codec.specs.declared.address.RouterId.{RouterId}
 use Rattle.text_words.specs.Words.{Word}
 use Rattle.edit_script.specs.Spelling.{IsPrefix, branch_word}
@@ -13,6 +14,7 @@ use Rattle.study_words.specs.declared.see_word.SeeWord.TheVariants as see_words
 use Rattle.study_words.specs.AuditKinds.{audit_kind_text}
 use Rattle.study_words.specs.Comparisons.{comparison_text}
 use Rattle.study_words.specs.ConditionWords.{condition_text}
+use Rattle.study_words.specs.FailureKinds.{failure_kind_text}
 use Rattle.study_words.specs.RouteKinds.{route_kind_text}
 use Rattle.study_words.specs.SeeWords.{see_text}
 use Rattle.study_words.specs.StudyWords.{study_text}
@@ -44,9 +46,15 @@ word_of question.Lost = see_words.Lost
 word_of question.Gone = see_words.Gone
 word_of question.Loops = see_words.Loops
 word_of (question.Microloops count) = see_words.Microloops
+word_of (question.Sweep kind within) = see_words.Sweep
 word_of (question.Audit kind) = see_words.Audit
 word_of question.Log = see_words.Log
 word_of (question.Help word) = see_words.Help
+
+-- the area that failures are within, if one is named
+abbrev pub within_words : Option AreaId → List Word
+within_words None = []
+within_words (Some area) = codes "within" ∷ address_text area.0 ∷ []
 
 -- the words after the command word
 abbrev pub question_rest : Question → List Word
@@ -62,6 +70,7 @@ question_rest question.Lost = []
 question_rest question.Gone = []
 question_rest question.Loops = []
 question_rest (question.Microloops count) = if_given decimal count
+question_rest (question.Sweep kind within) = failure_kind_text kind ∷ within_words within
 question_rest (question.Audit kind) = if_given audit_kind_text kind
 question_rest question.Log = []
 question_rest (question.Help word) = if_given study_text word
@@ -76,6 +85,10 @@ RouterInRange (Some router) = router.0 < 2 ^ 32
 abbrev pub AddrInRange : Option Addr → Type 0
 AddrInRange None = Unit
 AddrInRange (Some addr) = addr.0 < 2 ^ 32
+
+abbrev pub AreaInRange : Option AreaId → Type 0
+AreaInRange None = Unit
+AreaInRange (Some area) = area.0 < 2 ^ 32
 
 abbrev pub CountInRange : Option ℕ → Type 0
 CountInRange None = Unit
@@ -95,6 +108,7 @@ IsQuestionInRange question.Lost = Unit
 IsQuestionInRange question.Gone = Unit
 IsQuestionInRange question.Loops = Unit
 IsQuestionInRange (question.Microloops count) = CountInRange count
+IsQuestionInRange (question.Sweep kind within) = AreaInRange within
 IsQuestionInRange (question.Audit kind) = Unit
 IsQuestionInRange question.Log = Unit
 IsQuestionInRange (question.Help word) = Unit

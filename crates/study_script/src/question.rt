@@ -1,7 +1,7 @@
 //! Questions that only studies have.
 
-use lsa_codec::{Addr, Prefix, RouterId};
-use study_words::{AuditKind, StudyWord};
+use lsa_codec::{Addr, AreaId, Prefix, RouterId};
+use study_words::{AuditKind, FailureKind, StudyWord};
 
 /// A question about the database of a branch, or about the language.
 #[derive(Clone, Copy, Debug, PartialEq, Eq)]
@@ -46,6 +46,14 @@ pub enum Question {
     /// `microloops [COUNT]`: what may loop while routers change over the last edits; 1 where COUNT,
     /// which is 0 to 4294967295, is left out.
     Microloops(Option<u32>),
+    /// `sweep (links | networks | routers | all) [within AREA]`: what each single failure takes
+    /// away.
+    Sweep {
+        /// What fails.
+        kind: FailureKind,
+        /// The area that it is within, if one is given.
+        within: Option<AreaId>,
+    },
     /// `audit [KIND]`: what the answers may not be trusted for, or each place of a kind.
     Audit(Option<AuditKind>),
     /// `log`: the edits that are done, as lines.

@@ -4,14 +4,43 @@ ghost use Rattle.std.specs.Prelude.{◌≡◌};
 ghost use Rattle.network_names.specs.Names.{stands_for};
 ghost use Rattle.study_arguments.specs.Fault.{Is};
 ghost use Rattle.study_arguments.specs.Positions.{words_at};
-ghost use Rattle.study_script.specs.Questions.{question_of};
+ghost use Rattle.study_script.specs.Questions.{has_second, question_of, sweep_of};
 
 use crate::plan_lines::alone;
 use crate::question::Question;
 use network_names::Names;
 use std::alloc::Allocator;
-use study_arguments::{Fault, Position, one_or_two, optional, two};
+use study_arguments::{Fault, Limit, Position, first_word, one, one_or_two, optional, three, two};
 use study_words::SeeWord;
+
+/// Whether a command has more than one argument.
+fn has_second(line: Position<'_>) -> bool
+    ensures { result ≡ has_second (words_at line.entry) }
+{
+    match first_word(line.rest) {
+        Some(first) => first_word(first.rest).is_some(),
+        None => false,
+    }
+}
+
+/// What `sweep` and the words after it mean: a kind of failures, of all or within an area.
+#[tactic(auto, unfolding(crate::specs::Questions::sweep_of))]
+fn sweep_line<'a, A: Allocator + Copy>(
+    names: &Names<'_, A>,
+    line: Position<'a>,
+) -> Result<Question, Fault<'a>>
+    ensures { Is result (sweep_of (stands_for names.now) (words_at line.entry)) }
+{
+    if !has_second(line) {
+        let kind = one(names, line)?;
+        return Ok(Question::Sweep { kind, within: None });
+    }
+    let (kind, _, area): (_, Limit, _) = three(names, line)?;
+    Ok(Question::Sweep {
+        kind,
+        within: Some(area),
+    })
+}
 
 /// What a command word of a question and the words after it mean.
 #[tactic(auto, unfolding(crate::specs::Questions::question_of))]
@@ -44,6 +73,7 @@ pub(crate) fn question<'a, A: Allocator + Copy>(
         SeeWord::Gone => alone(Question::Gone, line),
         SeeWord::Loops => alone(Question::Loops, line),
         SeeWord::Microloops => Ok(Question::Microloops(optional(names, line)?)),
+        SeeWord::Sweep => sweep_line(names, line),
         SeeWord::Audit => Ok(Question::Audit(optional(names, line)?)),
         SeeWord::Log => alone(Question::Log, line),
         SeeWord::Help => Ok(Question::Help(optional(names, line)?)),

@@ -99,6 +99,7 @@ fn documented_answer<A: Allocator + Copy>(
         }
         Documented::NoRouter => refused(branches, context, asked, ("N1", "NoRouter")),
         Documented::TooFewDone => refused(branches, context, asked, ("U1", "NothingToUndo")),
+        Documented::NoArea => refused(branches, context, asked, ("E1", "NoArea")),
     }
 }
 

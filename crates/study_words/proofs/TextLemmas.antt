@@ -6,11 +6,12 @@ use Rattle.study_words.specs.declared.event_word.EventWord.TheVariants as event_
 use Rattle.study_words.specs.declared.condition_word.ConditionWord.TheVariants as condition_word
 use Rattle.study_words.specs.declared.route_kind.RouteKind.TheVariants as route_kind
 use Rattle.study_words.specs.declared.audit_kind.AuditKind.TheVariants as audit_kind
+use Rattle.study_words.specs.declared.failure_kind.FailureKind.TheVariants as failure_kind
 use Rattle.study_words.specs.declared.comparison.Comparison.TheVariants as comparison
 use Rattle.study_words.specs.declared.study_word.StudyWord.{StudyWord}
 use Rattle.study_words.specs.declared.study_word.StudyWord.TheVariants as study_word
 use Rattle.study_words.specs.Named.{named}
-use Rattle.study_words.specs.Written.{Word, plan, see, event, condition, route, audit, compare, written}
+use Rattle.study_words.specs.Written.{Word, plan, see, event, condition, route, audit, failure, compare, written}
 use Rattle.study_words.specs.StudyWords.{study_text, study_word_of}
 use Rattle.study_words.specs.PlanWords.{plan_text, plan_word_of}
 use Rattle.study_words.specs.SeeWords.{see_text, see_word_of}
@@ -18,6 +19,7 @@ use Rattle.study_words.specs.EventWords.{event_text, event_word_of}
 use Rattle.study_words.specs.ConditionWords.{condition_text, condition_word_of}
 use Rattle.study_words.specs.RouteKinds.{route_kind_text, route_kind_of}
 use Rattle.study_words.specs.AuditKinds.{audit_kind_text, audit_kind_of}
+use Rattle.study_words.specs.FailureKinds.{failure_kind_text, failure_kind_of}
 use Rattle.study_words.specs.Comparisons.{comparison_text, comparison_of}
 
 -- the word is the one that its text names
@@ -28,6 +30,7 @@ IsFound (event w) = event_word_of (event_text w) ≡ Some w
 IsFound (condition w) = condition_word_of (condition_text w) ≡ Some w
 IsFound (route kind) = route_kind_of (route_kind_text kind) ≡ Some kind
 IsFound (audit kind) = audit_kind_of (audit_kind_text kind) ≡ Some kind
+IsFound (failure kind) = failure_kind_of (failure_kind_text kind) ≡ Some kind
 IsFound (compare comparison) = comparison_of (comparison_text comparison) ≡ Some comparison
 
 -- of each kind, the first clause is for one word, so that the second is tried at each of the others
@@ -45,6 +48,10 @@ word_found (route route_kind.Intra) = refl
 word_found (route kind) = refl
 word_found (audit audit_kind.Nssa) = refl
 word_found (audit kind) = refl
+word_found (failure failure_kind.Links) = refl
+word_found (failure failure_kind.Networks) = refl
+word_found (failure failure_kind.Routers) = refl
+word_found (failure failure_kind.All) = refl
 word_found (compare comparison.Equal) = refl
 word_found (compare comparison) = refl
 

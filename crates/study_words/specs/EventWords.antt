@@ -10,7 +10,7 @@ abbrev pub event_text : EventWord → List ℕ
 event_text w = written (event w)
 
 abbrev pub event_words : List EventWord
-event_words = of.Cut ∷ of.SetCost ∷ of.Drain ∷ of.Back ∷ []
+event_words = of.Cut ∷ of.SetCost ∷ of.Drain ∷ of.Fail ∷ of.Back ∷ []
 
 -- the one that a word is, if it is one
 abbrev pub event_word_of : List ℕ → Option EventWord

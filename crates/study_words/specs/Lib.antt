@@ -7,5 +7,6 @@ pub mod StudyWords
 pub mod ConditionWords
 pub mod RouteKinds
 pub mod AuditKinds
+pub mod FailureKinds
 pub mod Comparisons
 pub mod Reserved

@@ -12,7 +12,7 @@ see_text w = written (see w)
 abbrev pub see_words : List SeeWord
 see_words =
     of.Routers ∷ of.Links ∷ of.Networks ∷ of.Routes ∷ of.Path ∷ of.Explain ∷ of.Changes ∷ of.Differences
-    ∷ of.Lost ∷ of.Gone ∷ of.Loops ∷ of.Microloops ∷ of.Audit ∷ of.Log ∷ of.Help ∷ []
+    ∷ of.Lost ∷ of.Gone ∷ of.Loops ∷ of.Microloops ∷ of.Sweep ∷ of.Audit ∷ of.Log ∷ of.Help ∷ []
 
 -- the one that a word is, if it is one
 abbrev pub see_word_of : List ℕ → Option SeeWord

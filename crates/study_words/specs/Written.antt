@@ -12,6 +12,8 @@ use Rattle.study_words.specs.declared.route_kind.RouteKind.{RouteKind}
 use Rattle.study_words.specs.declared.route_kind.RouteKind.TheVariants as route_kind
 use Rattle.study_words.specs.declared.audit_kind.AuditKind.{AuditKind}
 use Rattle.study_words.specs.declared.audit_kind.AuditKind.TheVariants as audit_kind
+use Rattle.study_words.specs.declared.failure_kind.FailureKind.{FailureKind}
+use Rattle.study_words.specs.declared.failure_kind.FailureKind.TheVariants as failure_kind
 use Rattle.study_words.specs.declared.comparison.Comparison.{Comparison}
 use Rattle.study_words.specs.declared.comparison.Comparison.TheVariants as comparison
 
@@ -23,6 +25,7 @@ pub data Word : Type 0 where
   condition : ConditionWord → Word
   route : RouteKind → Word
   audit : AuditKind → Word
+  failure : FailureKind → Word
   compare : Comparison → Word
 
 unfoldable pub written : Word → List ℕ
@@ -55,12 +58,14 @@ written (see see_word.Lost) = codes "lost"
 written (see see_word.Gone) = codes "gone"
 written (see see_word.Loops) = codes "loops"
 written (see see_word.Microloops) = codes "microloops"
+written (see see_word.Sweep) = codes "sweep"
 written (see see_word.Audit) = codes "audit"
 written (see see_word.Log) = codes "log"
 written (see see_word.Help) = codes "help"
 written (event event_word.Cut) = codes "cut"
 written (event event_word.SetCost) = codes "set-cost"
 written (event event_word.Drain) = codes "drain"
+written (event event_word.Fail) = codes "fail"
 written (event event_word.Back) = codes "back"
 written (condition condition_word.Route) = codes "route"
 written (condition condition_word.NoRoute) = codes "no-route"
@@ -104,6 +109,10 @@ written (audit audit_kind.UnreachedRouter) = codes "unreached-router"
 written (audit audit_kind.OrphanLsa) = codes "orphan-lsa"
 written (audit audit_kind.Opaque) = codes "opaque"
 written (audit audit_kind.MaxAge) = codes "max-age"
+written (failure failure_kind.Links) = codes "links"
+written (failure failure_kind.Networks) = codes "networks"
+written (failure failure_kind.Routers) = codes "routers"
+written (failure failure_kind.All) = codes "all"
 written (compare comparison.AtMost) = codes "<="
 written (compare comparison.Equal) = codes "="
 written (compare comparison.AtLeast) = codes ">="

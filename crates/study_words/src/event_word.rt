@@ -7,13 +7,15 @@ use crate::word::{Word, list_of, text_of};
 #[derive(Clone, Copy, Debug, PartialEq, Eq)]
 pub enum EventWord {
     /// `cut ROUTER NEIGHBOR [ADDRESS]`: the point-to-point links of two routers go, or one of them,
-    /// with the stubs of their interfaces.
+    /// with the stubs of their interfaces; `cut ROUTER PREFIX`: a router leaves a transit network.
     Cut,
     /// `set-cost ROUTER FAR METRIC [both]`: sets the cost of interfaces to a neighbor, or of the
     /// one with an address.
     SetCost,
     /// `drain ROUTER`: links of a router to routers and networks cost 65535.
     Drain,
+    /// `fail ROUTER`: a router fails.
+    Fail,
     /// `back COUNT`: takes the last edits and events back.
     Back,
 }
@@ -25,6 +27,7 @@ macro_rules! event_words {
             Cut "cut"
             SetCost "set-cost"
             Drain "drain"
+            Fail "fail"
             Back "back"
         )
     };

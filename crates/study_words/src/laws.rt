@@ -7,6 +7,7 @@ ghost use Rattle.study_words.specs.declared.event_word.EventWord.{EventWord as A
 ghost use Rattle.study_words.specs.declared.condition_word.ConditionWord.{ConditionWord as AnyConditionWord};
 ghost use Rattle.study_words.specs.declared.route_kind.RouteKind.{RouteKind as AnyRouteKind};
 ghost use Rattle.study_words.specs.declared.audit_kind.AuditKind.{AuditKind as AnyAuditKind};
+ghost use Rattle.study_words.specs.declared.failure_kind.FailureKind.{FailureKind as AnyFailureKind};
 ghost use Rattle.study_words.specs.declared.comparison.Comparison.{Comparison as AnyComparison};
 ghost use Rattle.study_words.specs.PlanWords.{plan_text, plan_word_of};
 ghost use Rattle.study_words.specs.SeeWords.{see_text, see_word_of};
@@ -14,6 +15,7 @@ ghost use Rattle.study_words.specs.EventWords.{event_text, event_word_of};
 ghost use Rattle.study_words.specs.ConditionWords.{condition_text, condition_word_of};
 ghost use Rattle.study_words.specs.RouteKinds.{route_kind_text, route_kind_of};
 ghost use Rattle.study_words.specs.AuditKinds.{audit_kind_text, audit_kind_of};
+ghost use Rattle.study_words.specs.FailureKinds.{failure_kind_text, failure_kind_of};
 ghost use Rattle.study_words.specs.Comparisons.{comparison_text, comparison_of};
 ghost use Rattle.study_words.specs.declared.study_word.StudyWord.{StudyWord as AnyStudyWord};
 ghost use Rattle.study_words.specs.StudyWords.{study_text, study_word_of};
@@ -29,5 +31,6 @@ pub fn texts_are_found()
     ensures condition { (w : AnyConditionWord) → condition_word_of (condition_text w) ≡ Some w }
     ensures route { (w : AnyRouteKind) → route_kind_of (route_kind_text w) ≡ Some w }
     ensures audit { (w : AnyAuditKind) → audit_kind_of (audit_kind_text w) ≡ Some w }
+    ensures failure { (w : AnyFailureKind) → failure_kind_of (failure_kind_text w) ≡ Some w }
     ensures comparison { (w : AnyComparison) → comparison_of (comparison_text w) ≡ Some w }
 {}

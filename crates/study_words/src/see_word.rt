@@ -31,6 +31,9 @@ pub enum SeeWord {
     Loops,
     /// `microloops [COUNT]`: what may loop while routers change over the last edits.
     Microloops,
+    /// `sweep (links | networks | routers | all) [within AREA]`: what each single failure takes
+    /// away.
+    Sweep,
     /// `audit [KIND]`: what the answers may not be trusted for; with a kind each place.
     Audit,
     /// `log`: the edits that are done, as lines.
@@ -55,6 +58,7 @@ macro_rules! see_words {
             Gone "gone"
             Loops "loops"
             Microloops "microloops"
+            Sweep "sweep"
             Audit "audit"
             Log "log"
             Help "help"

@@ -11,11 +11,11 @@ use Rattle.area_routes.specs.Attached.{is_attached}
 use Rattle.routing_table.specs.Routers.{attached_routers}
 use Rattle.link_report.specs.Links.{LinkValue, links_of_routers, neighbor_of}
 use Rattle.link_report.specs.Networks.{NetworkValue, network_values}
+use Rattle.study_words.specs.declared.failure_kind.FailureKind.{FailureKind}
+use Rattle.study_words.specs.declared.failure_kind.FailureKind.TheVariants as kinds
 use Rattle.edit_script.specs.declared.edit.Edit.{Edit}
-use Rattle.edit_script.specs.declared.edit.Edit.TheVariants.{FailNet, FailRouter, Event as of_event}
-use Rattle.edit_script.specs.declared.event.Event.TheVariants.{Cut}
-use Rattle.sweep_report.specs.declared.kind.FailureKind.{FailureKind}
-use Rattle.sweep_report.specs.declared.kind.FailureKind.TheVariants as kinds
+use Rattle.edit_script.specs.declared.edit.Edit.TheVariants.{FailNet, Event as of_event}
+use Rattle.edit_script.specs.declared.event.Event.TheVariants.{Cut, Fail}
 use Rattle.sweep_report.specs.declared.links.UsedLink.{UsedLink}
 
 -- the area is the one that is named; each is where none is
@@ -67,12 +67,12 @@ link_failures within db = cuts within (used_links db)
 abbrev pub network_failure : NetworkValue → Edit
 network_failure network = FailNet network.area network.place.address
 
-abbrev pub failures_among : Option AreaId → List NetworkValue → List Edit
-failures_among within networks = map network_failure (filter (λ network. is_within within network.area) networks)
+abbrev pub network_failures_among : Option AreaId → List NetworkValue → List Edit
+network_failures_among within networks = map network_failure (filter (λ network. is_within within network.area) networks)
 
 -- those of the networks that `networks` shows, by area, prefix and Link State ID
 abbrev pub network_failures : Option AreaId → Lists → List Edit
-network_failures within db = failures_among within (network_values db)
+network_failures within db = network_failures_among within (network_values db)
 
 -- ---- routers
 
@@ -83,7 +83,7 @@ is_in db (Some area) router = is_attached db area router
 
 -- the failure of a router
 abbrev pub router_failure : RouterId → Edit
-router_failure router = FailRouter router
+router_failure router = of_event (Fail router)
 
 abbrev pub router_failures_of : Lists → Option AreaId → List RouterId → List Edit
 router_failures_of db within routers = map router_failure (filter (is_in db within) routers)

@@ -4,7 +4,8 @@
 //! each router. Each is an [`Edit`](edit_script::Edit), whose line carries it out. [`sweep`]
 //! answers for each what the database after that edit alone has lost, and how many loops it has,
 //! beside the database before it. [`lines_of`] does so for any edits, so that a sweep may be done
-//! in parts.
+//! in parts. [`push_totals`] adds how many lines have each effect; a line is a
+//! [`Line`](study_text::Line) of a reply.
 #![tactic(auto)]
 
 // The failures of each kind.
@@ -21,11 +22,16 @@ mod outcome;
 // All failures of a kind.
 mod sweeping;
 
+// Texts.
+mod effect;
+mod text;
+
 // What holds of the definitions.
 mod laws;
 
 pub use counts::FailureCounts;
-pub use kind::{FailureKind, failures};
+pub use kind::failures;
 pub use laws::{lines_are_determined, lines_join};
 pub use outcome::{FailureLine, Outcome};
 pub use sweeping::{lines_of, sweep};
+pub use text::push_totals;

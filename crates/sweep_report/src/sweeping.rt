@@ -5,13 +5,14 @@ ghost use Rattle.lsdb.specs.Slots.{lists_of};
 ghost use Rattle.sweep_report.specs.Failures.{failures};
 ghost use Rattle.sweep_report.specs.Sweeps.{AreLines};
 
-use crate::kind::{FailureKind, failures};
+use crate::kind::failures;
 use crate::outcome::{FailureLine, outcome_of};
 use edit_script::Edit;
 use lsa_codec::AreaId;
 use lsdb::Database;
 use spf::Meter;
 use std::alloc::{AllocError, Allocator};
+use study_words::FailureKind;
 
 /// What each of some failures does to a database by itself, in their order. The meter counts the
 /// trees of four tables for each router and each failure that is not refused.

@@ -1,5 +1,5 @@
 -- What a plan finds before anything is exchanged, and the swaps that carry fates out.
-use Rattle.std.specs.Prelude.{◌≡◌, ℕ, suc, Bool, false, List, [], ◌∷◌, ◌++◌, Option, Some, None, MatchOption, Result, Ok, Err}
+use Rattle.std.specs.Prelude.{◌≡◌, ℕ, suc, Bool, false, List, [], ◌∷◌, ◌++◌, Option, Some, None, MatchOption, Result, Ok, Err, unwrap_or}
 use Rattle.std.specs.List.{find, cons_option}
 use Rattle.lsa_codec.specs.Fields.{kind_of}
 use Rattle.lsdb.specs.declared.section.Section.{Section}
@@ -10,7 +10,7 @@ use Rattle.edit_script.specs.declared.edit.Edit.{Edit}
 use Rattle.edit_history.specs.declared.fault.EditFault.{EditFault}
 use Rattle.edit_history.specs.declared.lookup.Wanted.{Wanted}
 use Rattle.edit_history.specs.declared.lookup.Wanted.TheVariants as wanted
-use Rattle.edit_history.specs.Rules.{Fate, stays, removed, rewritten, Fates, section_name}
+use Rattle.edit_history.specs.Rules.{Change, Fate, stays, removed, rewritten, Fates, section_name}
 use Rattle.edit_history.specs.Effect.{is_originated_for}
 use Rattle.edit_history.specs.Exchange.{SwapData}
 use Rattle.edit_history.specs.Applied.{Planned, IsRefused}
@@ -64,6 +64,10 @@ section_swaps fate section name i (Some lsa ∷ ps) = cons_option (swap_for (slo
 abbrev pub swaps_from : Fates → ℕ → Slots → List SwapData
 swaps_from fates section [] = []
 swaps_from fates section (s ∷ ss) = section_swaps (fates s.area) section (section_name s.area) 0 s.slots ++ swaps_from fates (suc section) ss
+
+-- the change that a swap is, before it is done
+abbrev pub planned_change : Slots → SwapData → Change
+planned_change d s = record { section = s.section; kind = s.kind; old = unwrap_or (slot_at d s.slot) None; new = s.other }
 
 -- the swap that carries a fate out at a slot
 abbrev pub slot_swap : (List ℕ → Fate) → SlotId → Section → Option Slot → Option SwapData

@@ -1,7 +1,7 @@
 //! Edits, read from lines and printed as them.
 
 use super::nets::edit_of;
-use edit_script::print;
+use edit_script::{Edit, Event, print};
 use std::alloc::Global;
 use std::test::*;
 
@@ -81,22 +81,31 @@ const EDITS: &[(&str, &str)] = &[
     ("refresh", "Refresh"),
 ];
 
-/// What the edit of a line says.
-fn meaning(alloc: Global, line: &str) -> Result<String, Fail> {
-    let edit = edit_of(line)?;
+/// What an edit says.
+fn said(alloc: Global, edit: &Edit) -> Result<String, Fail> {
     Ok(format!(in alloc; "{edit:?}")?)
 }
 
-/// The line that is printed of the edit of a line.
-fn printed(alloc: Global, line: &str) -> Result<String, Fail> {
-    Ok(print(alloc, &edit_of(line)?)?)
+/// The line that is printed of an edit.
+fn printed(alloc: Global, edit: &Edit) -> Result<String, Fail> {
+    Ok(print(alloc, edit)?)
+}
+
+/// The event that an edit is, if it is one.
+fn event_of(edit: &Edit) -> Option<&Event> {
+    match edit {
+        Edit::Event(event) => Some(event),
+        _ => None,
+    }
 }
 
 #[test]
 fn reads_edits_and_prints_them(rt: HostRuntime) -> Result<(), Fail> {
-    for (line, said) in EDITS {
-        assert_eq!(rt; meaning(rt.alloc(), line)?.as_str(), *said, "{line}");
-        assert_eq!(rt; printed(rt.alloc(), line)?.as_str(), *line, "{line}");
+    for (line, meaning) in EDITS {
+        let edit = edit_of(line)?;
+        assert!(rt; event_of(&edit).is_none(), "{line}");
+        assert_eq!(rt; said(rt.alloc(), &edit)?.as_str(), *meaning, "{line}");
+        assert_eq!(rt; printed(rt.alloc(), &edit)?.as_str(), *line, "{line}");
     }
     Ok(())
 }

@@ -2,7 +2,7 @@
 
 use super::calls::{Question, ask, edit, on_session, redo, undo};
 use area_routes::Route;
-use edit_script::{Command, parse};
+use edit_script::{Command, Edit, Event, parse};
 use lsa_codec::RouterId;
 use recalculate::{Planner, Table};
 use std::test::*;
@@ -74,6 +74,14 @@ fn is_table_refused(
     }
 }
 
+/// The event that an edit is, if it is one.
+fn event_of(edit: &Edit) -> Option<&Event> {
+    match edit {
+        Edit::Event(event) => Some(event),
+        _ => None,
+    }
+}
+
 /// Carries a line of a script out, and returns whether it is refused. `tables` asks for the routers
 /// alone, and `compare` for a table of the database of the beginning.
 pub(super) fn is_refused(
@@ -83,7 +91,12 @@ pub(super) fn is_refused(
 ) -> Result<bool, Fail> {
     let (_, command) = parse(line.as_bytes())?;
     Ok(match command {
-        Command::Edit(command) => edit(planner, &command).is_err(),
+        Command::Edit(command) => {
+            if event_of(&command).is_some() {
+                return Err("no line of a script is an event".into());
+            }
+            edit(planner, &command).is_err()
+        }
         Command::Undo(count) => undo(planner, count).is_err(),
         Command::Redo(count) => redo(planner, count).is_err(),
         Command::Table(router) => is_table_refused(planner, failing, router)?,

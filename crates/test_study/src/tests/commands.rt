@@ -78,6 +78,35 @@ const COMMANDS: &[(&str, &str)] = &[
     ),
 ];
 
+/// Events, and what each means.
+const EVENTS: &[(&str, &str)] = &[
+    (
+        "cut r1 2.2.2.2",
+        "0 Named(Command(Edit(Event(Cut { router: RouterId(16843009), \
+        neighbor: RouterId(33686018), address: None }))))",
+    ),
+    (
+        "cut 1.1.1.1 r2 lan-1",
+        "0 Named(Command(Edit(Event(Cut { router: RouterId(16843009), \
+        neighbor: RouterId(33686018), address: Some(Addr(167772161)) }))))",
+    ),
+    (
+        "cut r1 10.7.0.0/16",
+        "0 Named(Command(Edit(Event(Leave { router: RouterId(16843009), \
+        prefix: Prefix { addr: Addr(168230912), len: 16 } }))))",
+    ),
+    (
+        "@3 cut 2.2.2.2 0.0.0.0/0",
+        "3 Named(Command(Edit(Event(Leave { router: RouterId(33686018), \
+        prefix: Prefix { addr: Addr(0), len: 0 } }))))",
+    ),
+    (
+        "@2 fail r3",
+        "2 Named(Command(Edit(Event(Fail { router: RouterId(50529027) }))))",
+    ),
+    ("back 2", "0 Named(Command(Undo(2)))"),
+];
+
 /// Questions, and what each means.
 const QUESTIONS: &[(&str, &str)] = &[
     ("routers", "0 See(Routers)"),
@@ -109,6 +138,11 @@ const QUESTIONS: &[(&str, &str)] = &[
     ("loops", "0 See(Loops)"),
     ("microloops", "0 See(Microloops(None))"),
     ("microloops 2", "0 See(Microloops(Some(2)))"),
+    ("sweep links", "0 See(Sweep { kind: Links, within: None })"),
+    (
+        "@1 sweep all within 0.0.0.1",
+        "1 See(Sweep { kind: All, within: Some(AreaId(1)) })",
+    ),
     ("audit", "0 See(Audit(None))"),
     ("audit area-kind", "0 See(Audit(Some(AreaKind)))"),
     ("log", "0 See(Log)"),
@@ -125,6 +159,14 @@ const QUESTIONS: &[(&str, &str)] = &[
 #[test]
 fn reads_commands_with_names(rt: HostRuntime) -> Result<(), Fail> {
     for (line, said) in COMMANDS {
+        assert_eq!(rt; meaning(rt.alloc(), line)?.as_str(), *said);
+    }
+    Ok(())
+}
+
+#[test]
+fn reads_events(rt: HostRuntime) -> Result<(), Fail> {
+    for (line, said) in EVENTS {
         assert_eq!(rt; meaning(rt.alloc(), line)?.as_str(), *said);
     }
     Ok(())

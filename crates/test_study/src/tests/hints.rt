@@ -127,8 +127,43 @@ const LINES: &[(&str, &str)] = &[
         "drop-external r1 10.4.0.1/16/1",
         "script S7 BadPrefix 10.4.0.1/16/1 (a prefix is an address, / and a length 0 to 32)",
     ),
+    (
+        "cut r1 10.4.0.0/16 r2",
+        "script S4 ExtraWord r2 (cut ROUTER (NEIGHBOR [ADDRESS] | PREFIX))",
+    ),
+    (
+        "cut r1 10.4.0.1/16",
+        "script S7 BadPrefix 10.4.0.1/16 (without host bits 10.4.0.0/16)",
+    ),
+    (
+        "cut r1 r2/x",
+        "script S7 BadPrefix r2/x (a prefix is an address, / and a length 0 to 32)",
+    ),
+    (
+        "cut r9 10.4.0.1/16",
+        "script S6 BadAddress r9 (names have r1)",
+    ),
+    ("cut r1 r9", "script S6 BadAddress r9 (names have r1)"),
+    ("fail", "script S3 MissingWord fail (fail ROUTER)"),
     ("help rout", "script S9 BadWord rout (did you mean routers)"),
     ("help 1", "script S9 BadWord 1 (see help)"),
+    (
+        "sweep nets",
+        "script S9 BadWord nets (one of links networks routers all)",
+    ),
+    (
+        "sweep nets in r1",
+        "script S9 BadWord nets (one of links networks routers all)",
+    ),
+    ("sweep all in r1", "script S9 BadWord in (within)"),
+    (
+        "sweep all within r1",
+        "script S6 BadAddress r1 (an address is four numbers, 0 to 255)",
+    ),
+    (
+        "sweep all within",
+        "script S3 MissingWord sweep (sweep (links | networks | routers | all) [within AREA])",
+    ),
     ("audit nasa", "script S9 BadWord nasa (did you mean nssa)"),
     ("audit 1", "script S9 BadWord 1 (see help)"),
     (

@@ -5,7 +5,8 @@ use lsdb::Database;
 use spf::Meter;
 use std::alloc::Global;
 use std::test::*;
-use sweep_report::{FailureKind, FailureLine, Outcome, failures, sweep};
+use study_words::FailureKind;
+use sweep_report::{FailureLine, Outcome, failures, sweep};
 use test_support::dump_of_text;
 
 /// Three routers in a ring, and 4.4.4.4 beside 3.3.3.3.
@@ -77,10 +78,10 @@ cut 3.3.3.3 4.4.4.4 lost 5 gone 0 dearer 0 moved 0 loops 0
         "routers of a ring",
         RING,
         FailureKind::Routers,
-        "fail-router 1.1.1.1 lost 0 gone 0 dearer 0 moved 0 loops 0
-fail-router 2.2.2.2 lost 0 gone 3 dearer 0 moved 0 loops 0
-fail-router 3.3.3.3 lost 3 gone 3 dearer 0 moved 0 loops 0
-fail-router 4.4.4.4 lost 0 gone 3 dearer 0 moved 0 loops 0
+        "fail 1.1.1.1 lost 0 gone 0 dearer 0 moved 0 loops 0
+fail 2.2.2.2 lost 0 gone 3 dearer 0 moved 0 loops 0
+fail 3.3.3.3 lost 3 gone 3 dearer 0 moved 0 loops 0
+fail 4.4.4.4 lost 0 gone 3 dearer 0 moved 0 loops 0
 ",
     ),
     (
@@ -126,27 +127,27 @@ const FAILURES: &[(&str, Option<AreaId>, &str)] = &[
         None,
         "cut 1.1.1.1 2.2.2.2
 cut 1.1.1.1 3.3.3.3
-fail-router 1.1.1.1
-fail-router 2.2.2.2
-fail-router 3.3.3.3
-fail-router 4.4.4.4
+fail 1.1.1.1
+fail 2.2.2.2
+fail 3.3.3.3
+fail 4.4.4.4
 ",
     ),
     (
         TWO_AREAS,
         Some(AreaId(1)),
         "cut 1.1.1.1 3.3.3.3
-fail-router 1.1.1.1
-fail-router 3.3.3.3
+fail 1.1.1.1
+fail 3.3.3.3
 ",
     ),
     (
         LAN,
         None,
         "fail-net 0.0.0.0 10.0.0.1
-fail-router 1.1.1.1
-fail-router 2.2.2.2
-fail-router 3.3.3.3
+fail 1.1.1.1
+fail 2.2.2.2
+fail 3.3.3.3
 ",
     ),
     (LAN, Some(AreaId(1)), ""),

@@ -15,6 +15,7 @@ use Rattle.document_answers.specs.LoopDocuments.{IsLoopsDocument, IsMicroloopsDo
 use Rattle.document_answers.specs.OwnDocuments.{IsLogDocument}
 use Rattle.document_answers.specs.Questions.{IsQuestionDocument}
 use Rattle.document_answers.specs.RouteDocuments.{IsPathDocument, IsRoutesDocument}
+use Rattle.document_answers.specs.SweepDocuments.{IsSweepDocument}
 use Rattle.document_answers.proofs.Asked.{asked, by_database}
 use Rattle.document_answers.proofs.questions.question_document.Goals as goal
 
@@ -120,3 +121,10 @@ returns-in-Log-clause-document g c =
     (sessions_of c.args.branches.now c.args.branch) c.args.question.now question.Log c.planner-planner.result.now.session _
     (λ (session : Session) d. IsLogDocument session.done d) c.in-Log.is
     (c.planner-planner.ensures ∙ ap (λ (all : Sessions). all c.args.branch) c.in_ok-prepare.ensures.kept) (λ d is. is) c.log_document.ensures
+
+pub returns-in-Sweep-clause-document : goal.returns-in-Sweep-clause-document
+unfolding IsQuestionDocument
+returns-in-Sweep-clause-document g c =
+    by_database (called c.args.names.now) (lists_of c.args.baseline.now) (λ given. documented given) c.sweep_document.result
+    (λ db d. IsSweepDocument db c.in-Sweep.kind c.in-Sweep.within d) c.in-Sweep.is c.database-now.ensures.state
+    (c.planner-planner.ensures ∙ ap (λ (all : Sessions). all c.args.branch) c.in_ok-prepare.ensures.kept) (λ d is. is) c.sweep_document.ensures

@@ -1,6 +1,7 @@
 use Rattle.std.proofs.Common.{arith}
 use Rattle.study_json.specs.Changes.{change_json, pair_json}
-use Rattle.study_json.specs.Leaves.{address_json, array_json, router_json}
+use Rattle.study_json.specs.Failures.{failure_json}
+use Rattle.study_json.specs.Leaves.{address_json, area_json, array_json, router_json}
 use Rattle.study_json.specs.Links.{link_json}
 use Rattle.study_json.specs.Loops.{blackhole_json, loop_json}
 use Rattle.study_json.specs.Networks.{network_json}
@@ -10,7 +11,7 @@ use Rattle.study_json.specs.Steps.{end_json, step_json}
 use Rattle.study_json.specs.Tables.{table_json, table_route_json}
 use Rattle.study_documents.specs.Compared.{route_change_json}
 use Rattle.study_documents.proofs.NestingLemmas.{array_shallow, option_shallow}
-use Rattle.study_documents.proofs.Nesting.{blackhole_shallow, change_shallow, counts_shallow, link_shallow, loop_shallow, network_shallow, pair_shallow, route_change_shallow, route_shallow, router_shallow, step_shallow, table_route_shallow, table_shallow}
+use Rattle.study_documents.proofs.Nesting.{blackhole_shallow, change_shallow, counts_shallow, failure_shallow, link_shallow, loop_shallow, network_shallow, pair_shallow, route_change_shallow, route_shallow, router_shallow, step_shallow, table_route_shallow, table_shallow}
 use Rattle.study_documents.proofs.laws.replies_nest_little.Goals as goal
 
 pub returns-clause-routers : goal.returns-clause-routers
@@ -55,6 +56,10 @@ returns-clause-loops c loops blackholes =
 
 pub returns-clause-microloops : goal.returns-clause-microloops
 returns-clause-microloops c count loops = omega (arith, array_shallow loop_json 2 loop_shallow loops)
+
+pub returns-clause-failures : goal.returns-clause-failures
+returns-clause-failures c kind within lines =
+    omega (arith, option_shallow area_json 0 (λ a. omega arith) within, array_shallow failure_json 2 failure_shallow lines)
 
 pub returns-clause-table : goal.returns-clause-table
 returns-clause-table c table = omega (arith, array_shallow table_route_json 2 table_route_shallow table.routes)

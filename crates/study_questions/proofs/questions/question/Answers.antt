@@ -14,6 +14,7 @@ use Rattle.study_questions.specs.LoopAnswers.{IsLoopsAnswer, IsMicroloopsAnswer}
 use Rattle.study_questions.specs.OwnAnswers.{log_answer}
 use Rattle.study_questions.specs.Questions.{IsQuestionAnswer}
 use Rattle.study_questions.specs.RouteAnswers.{IsPathAnswer, routes_answer}
+use Rattle.study_questions.specs.SweepAnswers.{IsSweepAnswer}
 use Rattle.study_questions.specs.steps.Missing.{missing_answer}
 use Rattle.study_questions.proofs.Asked.{asked, by_database}
 use Rattle.study_questions.proofs.questions.question.Goals as goal
@@ -88,6 +89,12 @@ returns-in-Microloops-clause-answer g c =
     (question.Microloops c.in-Microloops.count) _ _
     (λ (session : Session) answer. IsMicroloopsAnswer called branch (state session) count (before_last count session) answer) c.in-Microloops.is
     (ap (λ (all : Sessions). all branch) c.in_ok-prepare.ensures.kept) (λ answer is. is) c.microloops.ensures.answer
+
+pub returns-in-Sweep-clause-answer : goal.returns-in-Sweep-clause-answer
+unfolding IsQuestionAnswer
+returns-in-Sweep-clause-answer g c = by_database (called c.args.names.now) (lists_of c.args.baseline.now) c.args.branch
+    c.sweep_answer.result (λ called branch db answer. IsSweepAnswer called branch db c.in-Sweep.kind c.in-Sweep.within answer)
+    c.in-Sweep.is c.database-now.ensures.state c.planner-planner.ensures c.in_ok-prepare.ensures.kept (λ answer is. is) c.sweep_answer.ensures
 
 pub returns-in-Audit-clause-answer : goal.returns-in-Audit-clause-answer
 unfolding IsQuestionAnswer

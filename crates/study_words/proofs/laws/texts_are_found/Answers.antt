@@ -1,4 +1,4 @@
-use Rattle.study_words.specs.Written.{plan, see, event, condition, route, audit, compare}
+use Rattle.study_words.specs.Written.{plan, see, event, condition, route, audit, failure, compare}
 use Rattle.study_words.proofs.TextLemmas.{study_word_found, word_found}
 use Rattle.study_words.proofs.laws.texts_are_found.Goals as goal
 
@@ -11,5 +11,6 @@ returns c = record {
   condition = λ w. word_found (condition w);
   route = λ w. word_found (route w);
   audit = λ w. word_found (audit w);
+  failure = λ w. word_found (failure w);
   comparison = λ w. word_found (compare w);
 }

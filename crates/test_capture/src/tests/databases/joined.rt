@@ -32,6 +32,14 @@ const FLUSH: &[Seen] = &[
     (Scope::AsWide, None, FLUSHED),
 ];
 
+/// When the newer instance was seen, in nanoseconds since 1970.
+const SEEN: Option<u64> = Some(1_795_401_300_018_396_000);
+
+/// When copies of the older one were seen, at age 3: one that began then, and one that began later.
+const THEN: Option<u64> = Some(1_795_401_303_018_396_000);
+
+const LATER: Option<u64> = Some(1_795_401_303_018_396_001);
+
 /// What is joined, and the parts of the dump: `OSWP`, version 1, the number of areas, each with its
 /// ID, kind and number of LSAs, and the LSAs of AS scope.
 const JOINED: &[(&str, FlushedLsas, &[Seen], &[AreaReport], &[&[u8]])] = &[
@@ -64,6 +72,20 @@ const JOINED: &[(&str, FlushedLsas, &[Seen], &[AreaReport], &[&[u8]])] = &[
         FLUSH,
         &[],
         &[b"OSWP\x01\0\0\0"],
+    ),
+    (
+        "a newer instance that is forgotten",
+        FlushedLsas::LeftOut,
+        &[(BACKBONE, LATER, OLDER), (BACKBONE, SEEN, NEWER)],
+        &[],
+        &[b"OSWP\x01\x01\0\0\0\0\0\0\x01", OLDER, b"\0\0"],
+    ),
+    (
+        "an older instance that did not begin later",
+        FlushedLsas::LeftOut,
+        &[(BACKBONE, THEN, OLDER), (BACKBONE, SEEN, NEWER)],
+        &[],
+        &[b"OSWP\x01\x01\0\0\0\0\0\0\x01", NEWER, b"\0\0"],
     ),
 ];
 

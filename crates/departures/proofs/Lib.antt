@@ -1,0 +1,7 @@
+mod AreaIds
+mod SlotWalks
+mod Sections
+mod Refusals
+mod LinksOfRouters
+mod RouterLsas
+mod AreaLsas
