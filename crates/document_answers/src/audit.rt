@@ -72,10 +72,10 @@ pub(crate) fn audit_document<A: Allocator + Copy>(
     kind: Option<AuditKind>,
 ) -> Result<Documented<A>, AllocError>
     requires { branch < 8 }
+    ensures kept { sessions_of branches.new ≡ sessions_of branches.old }
     ensures document { IfOk result (λ given. IsAuditDocument
         (sessions_of branches.old branch).base (state (sessions_of branches.old branch)) kind
         (documented given)) }
-    ensures kept { sessions_of branches.new ≡ sessions_of branches.old }
 {
     let loaded = loaded_of(branches, branch)?;
     branches.prepare(branch)?;

@@ -67,12 +67,12 @@ link_failures within db = cuts within (used_links db)
 abbrev pub network_failure : NetworkValue → Edit
 network_failure network = FailNet network.area network.place.address
 
-abbrev pub failures_among : Option AreaId → List NetworkValue → List Edit
-failures_among within networks = map network_failure (filter (λ network. is_within within network.area) networks)
+abbrev pub network_failures_among : Option AreaId → List NetworkValue → List Edit
+network_failures_among within networks = map network_failure (filter (λ network. is_within within network.area) networks)
 
 -- those of the networks that `networks` shows, by area, prefix and Link State ID
 abbrev pub network_failures : Option AreaId → Lists → List Edit
-network_failures within db = failures_among within (network_values db)
+network_failures within db = network_failures_among within (network_values db)
 
 -- ---- routers
 

@@ -5,11 +5,13 @@ ghost use Rattle.lsdb.specs.Slots.{lists_of};
 ghost use Rattle.sweep_report.specs.Failures.{all_failures, failures};
 
 use crate::links::link_failures;
-use crate::networks::network_failures;
-use crate::routers::router_failures;
+use crate::networks::network_failures_among;
+use crate::routers::router_failures_of;
 use edit_script::Edit;
+use link_report::network_lines;
 use lsa_codec::AreaId;
 use lsdb::Database;
+use routing_table::routers;
 use std::alloc::{AllocError, Allocator};
 use study_words::FailureKind;
 
@@ -22,9 +24,11 @@ fn all_failures<A: Allocator + Copy>(
     ensures { IfOk result
         (λ edits. edits.items ≡ all_failures within (lists_of database.now)) }
 {
+    let lines = network_lines(alloc, database)?;
+    let attached = routers(alloc, database)?;
+    let mut networks = network_failures_among(alloc, &lines, within)?;
+    let mut routers = router_failures_of(alloc, database, &attached, within)?;
     let mut edits = link_failures(alloc, database, within)?;
-    let mut networks = network_failures(alloc, database, within)?;
-    let mut routers = router_failures(alloc, database, within)?;
     networks.append(&mut routers)?;
     edits.append(&mut networks)?;
     Ok(edits)
@@ -52,8 +56,14 @@ pub fn failures<A: Allocator + Copy>(
 {
     match kind {
         FailureKind::Links => link_failures(alloc, database, within),
-        FailureKind::Networks => network_failures(alloc, database, within),
-        FailureKind::Routers => router_failures(alloc, database, within),
+        FailureKind::Networks => {
+            let networks = network_lines(alloc, database)?;
+            network_failures_among(alloc, &networks, within)
+        }
+        FailureKind::Routers => {
+            let attached = routers(alloc, database)?;
+            router_failures_of(alloc, database, &attached, within)
+        }
         FailureKind::All => all_failures(alloc, database, within),
     }
 }

@@ -1,7 +1,6 @@
 //! Links between two routers, each of which fails alone.
 
 ghost use Rattle.std.specs.Prelude.{◌≡◌, IfOk};
-ghost use Rattle.std.specs.List.{filter_map};
 ghost use Rattle.lsdb.specs.Slots.{lists_of};
 ghost use Rattle.sweep_report.specs.Failures.{cut_of, cuts, is_lower_end, is_only, joins_same, link_failures, used_link, used_links};
 
@@ -50,19 +49,6 @@ fn used_link<A: Allocator>(line: &LinkLine<A>) -> Option<UsedLink>
     })
 }
 
-/// Those of some links that routers use.
-fn used_among<A: Allocator + Copy>(
-    alloc: A,
-    lines: &[LinkLine<A>],
-) -> Result<Vec<UsedLink, A>, AllocError>
-    ensures { IfOk result (λ found. found.items ≡ filter_map used_link lines.now) }
-{
-    lines
-        .iter()
-        .filter_map(|line| used_link(line))
-        .collect(alloc)
-}
-
 /// The point-to-point links that routers use, by router, area and number of the link.
 fn used_links<A: Allocator + Copy>(
     alloc: A,
@@ -72,7 +58,10 @@ fn used_links<A: Allocator + Copy>(
 {
     let attached = routers(alloc, database)?;
     let lines = link_lines(alloc, database, &attached)?;
-    used_among(alloc, &lines)
+    lines
+        .iter()
+        .filter_map(|line| used_link(line))
+        .collect(alloc)
 }
 
 /// Whether two links are between the same routers.

@@ -2,13 +2,12 @@
 
 ghost use Rattle.std.specs.Prelude.{◌≡◌, IfOk};
 ghost use Rattle.lsdb.specs.Slots.{lists_of};
-ghost use Rattle.sweep_report.specs.Failures.{is_in, router_failure, router_failures, router_failures_of};
+ghost use Rattle.sweep_report.specs.Failures.{is_in, router_failure, router_failures_of};
 
 use area_routes::is_attached;
 use edit_script::{Edit, Event};
 use lsa_codec::{AreaId, RouterId};
 use lsdb::Database;
-use routing_table::routers;
 use std::alloc::{AllocError, Allocator};
 
 /// The failure of a router.
@@ -33,7 +32,11 @@ fn is_in<A: Allocator + Copy>(
 }
 
 /// The failures of those of some routers that are within an area.
-fn failures_of<A: Allocator + Copy>(
+///
+/// # Errors
+///
+/// Memory ran out.
+pub(crate) fn router_failures_of<A: Allocator + Copy>(
     alloc: A,
     database: &Database<A>,
     attached: &[RouterId],
@@ -48,21 +51,4 @@ fn failures_of<A: Allocator + Copy>(
         .filter(|router| is_in(database, within, *router))
         .map(|router| router_failure(router))
         .collect(alloc)
-}
-
-/// The failures of routers.
-///
-/// # Errors
-///
-/// Memory ran out.
-pub(crate) fn router_failures<A: Allocator + Copy>(
-    alloc: A,
-    database: &Database<A>,
-    within: Option<AreaId>,
-) -> Result<Vec<Edit, A>, AllocError>
-    ensures { IfOk result
-        (λ edits. edits.items ≡ router_failures within (lists_of database.now)) }
-{
-    let attached = routers(alloc, database)?;
-    failures_of(alloc, database, &attached, within)
 }
