@@ -1,5 +1,5 @@
 -- What follows a command word, and the word of a condition.
-use Rattle.std.specs.Prelude.{ℕ, Bool, false, List, [], ◌∷◌, bytes_eq, codes, if◌then◌else◌}
+use Rattle.std.specs.Prelude.{ℕ, ◌&&◌, Bool, true, false, List, [], ◌∷◌, bytes_eq, codes, if◌then◌else◌}
 use Rattle.text_words.specs.Words.{Word}
 use Rattle.study_words.specs.declared.plan_word.PlanWord.TheVariants as plan
 use Rattle.study_words.specs.declared.see_word.SeeWord.TheVariants as see
@@ -95,6 +95,10 @@ roles_of (Event event.Fail) = role.Router ∷ []
 roles_of (Event event.Back) = role.Count ∷ []
 roles_of Expect = []
 
+abbrev pub is_sweep : StudyWord → Bool
+is_sweep (See see.Sweep) = true
+is_sweep command = false
+
 -- of a sweep with these words after `sweep`: the second one is `sort`
 abbrev pub sorts_all : List Word → Bool
 sorts_all [] = false
@@ -103,9 +107,8 @@ sorts_all (kind ∷ part ∷ words) = bytes_eq part (codes "sort")
 
 -- the same in a line with these words after the command word: a sweep may be sorted without an area
 abbrev pub roles_in : StudyWord → List Word → List Role
-roles_in (See see.Sweep) words =
-    if sorts_all words then role.Failures ∷ role.Sort ∷ role.Lost ∷ [] else roles_of (See see.Sweep)
-roles_in command words = roles_of command
+roles_in command words =
+    if is_sweep command && sorts_all words then role.Failures ∷ role.Sort ∷ role.Lost ∷ [] else roles_of command
 
 -- a condition after `expect`, and its words
 unfoldable pub expectation_text : ConditionWord → List ℕ

@@ -3,7 +3,7 @@
 ghost use Rattle.std.specs.Prelude.{◌≡◌};
 ghost use Rattle.study_words.specs.declared.study_word.StudyWord.TheVariants.{Event, Plan, See};
 ghost use Rattle.edit_script.specs.Words.{words};
-ghost use Rattle.study_hints.specs.Grammar.{command_text, expectation_text, roles_in, roles_of, sorts_all};
+ghost use Rattle.study_hints.specs.Grammar.{command_text, expectation_text, is_sweep, roles_in, roles_of, sorts_all};
 
 use crate::role::Role;
 use study_arguments::first_word;
@@ -175,6 +175,13 @@ pub(crate) fn roles_of(word: StudyWord) -> &'static [Role]
     }
 }
 
+/// Whether a command word is `sweep`.
+fn is_sweep(word: StudyWord) -> bool
+    ensures { result ≡ is_sweep word }
+{
+    matches!(word, StudyWord::See(SeeWord::Sweep))
+}
+
 /// Whether the second word of a line is `sort`.
 fn sorts_all(line: &[u8]) -> bool
     ensures { result ≡ sorts_all (words line.now) }
@@ -193,11 +200,10 @@ fn sorts_all(line: &[u8]) -> bool
 pub(crate) fn roles_in(word: StudyWord, line: &[u8]) -> &'static [Role]
     ensures { result.now ≡ roles_in word (words line.now) }
 {
-    match word {
-        StudyWord::See(SeeWord::Sweep) if sorts_all(line) => {
-            &[Role::Failures, Role::Sort, Role::Lost]
-        }
-        _ => roles_of(word),
+    if is_sweep(word) && sorts_all(line) {
+        &[Role::Failures, Role::Sort, Role::Lost]
+    } else {
+        roles_of(word)
     }
 }
 

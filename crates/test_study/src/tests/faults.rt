@@ -102,6 +102,10 @@ const EXPECTATIONS: &[(&str, &str)] = &[
     ("audit clean nssa", "S4 ExtraWord nssa"),
     ("audit only nssa nasa", "S9 BadWord nasa"),
     ("audit nssa", "S9 BadWord nssa"),
+    ("sweep links", "S3 MissingWord links"),
+    ("sweep links gone none", "S9 BadWord gone"),
+    ("sweep links within 0.0.0.1 lost <=", "S3 MissingWord <="),
+    ("sweep links loops none 1", "S4 ExtraWord 1"),
 ];
 
 #[test]
