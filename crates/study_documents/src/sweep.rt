@@ -27,8 +27,8 @@ fn push_sort<A: Allocator + Copy>(text: &mut Vec<u8, A>, sorted: bool) -> Result
     }
 }
 
-/// Adds the reply to `sweep`, by the kind and the area that the line names, and whether the failures
-/// that lose most stand first.
+/// Adds the reply to `sweep`, by the kind and the area that the line names, and whether the
+/// failures that lose most stand first.
 ///
 /// # Errors
 ///

@@ -56,7 +56,9 @@ const ROUTER_FORM: &str = "an address is four numbers, 0 to 255; names are those
 const LINK_RANGE: &str = "LINK is 1 to 65535";
 
 /// Adds what an address is.
-pub(crate) fn push_address_form<A: Allocator + Copy>(text: &mut Vec<u8, A>) -> Result<(), AllocError>
+pub(crate) fn push_address_form<A: Allocator + Copy>(
+    text: &mut Vec<u8, A>,
+) -> Result<(), AllocError>
     ensures { OnOk result (text.new.items
         ≡ text.old.items ++ codes "an address is four numbers, 0 to 255") }
 {
