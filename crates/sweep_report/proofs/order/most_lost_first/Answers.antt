@@ -1,15 +1,14 @@
 use Rattle.std.proofs.Common.{◌≡◌, ap, rules}
-use Rattle.std.specs.Cmp.{nat_cmp_total}
-use Rattle.std.specs.List.Sorted.{IsStrictWeakOrder}
+use Rattle.std.specs.Cmp.{IsStrictWeakOrder, nat_cmp_total}
 use Rattle.std.specs.Ordering.{is_lt, nat_cmp}
-use Rattle.std.proofs.lemmas.List.Sorted.{answers_always, backwards, ranks_by}
+use Rattle.std.proofs.lemmas.List.Sorted.{IsStrictWeakOrder-flip, answers_always, ranks_by}
 use Rattle.sweep_report.specs.declared.outcome.FailureLine.{FailureLine}
 use Rattle.sweep_report.specs.Orders.{lost_cmp, lost_of}
 use Rattle.sweep_report.proofs.order.most_lost_first.Goals as goal
 
 -- that more is lost orders failures
 ranked : IsStrictWeakOrder (λ (one other : FailureLine). is_lt (lost_cmp one other))
-ranked = backwards (λ (one other : FailureLine). is_lt (nat_cmp (lost_of one) (lost_of other))) (ranks_by nat_cmp_total lost_of)
+ranked = IsStrictWeakOrder-flip (λ (one other : FailureLine). is_lt (nat_cmp (lost_of one) (lost_of other))) (ranks_by nat_cmp_total lost_of)
 
 pub returns : goal.returns
 returns g c =
