@@ -1,7 +1,8 @@
 #!/usr/bin/env python3
-"""Says in plain steps what each single failure takes away, and compares it with what `ospf-study` answers to `sweep all`.
+"""Says in plain steps what each single failure takes away, and compares it with what `ospf-study` answers to `sweep all`, to
+`sweep all sort lost`, and to expectations that each failure loses nothing, or leaves no loop.
 
-It was written from docs/STUDY.md, sections 4 and 5, alone; events and tables are those of plain_events.py and plain_routes.py.
+It was written from docs/STUDY.md, sections 4, 5 and 7, alone; events and tables are those of plain_events.py and plain_routes.py.
 
 usage: tests/generated/plain_sweeps.py PROGRAM DUMP..
 
@@ -17,6 +18,7 @@ from plain_reader import number
 from plain_routes import INFINITY, Graph, is_live, links, net_of, table
 
 COUNTS = "lost", "gone", "dearer", "moved", "loops"
+QUESTIONS = b"sweep all\nsweep all sort lost\nexpect sweep all lost none\nexpect sweep all loops none\n"
 CODES = {"UnclearEnd": "E15", "KeyTaken": "E9"}
 Net = tuple[int, int]
 
@@ -203,15 +205,35 @@ def outcome(db: State, line: str) -> str:
     return f"{line}: " + " ".join(f"{name} {counts[name]}" for name in COUNTS)
 
 
+def count_of(name: str, line: str) -> int | None:
+    """A number of a line, or nothing where the failure is refused."""
+    words = line.partition(": ")[2].split()
+    return None if words[0] == "refused" else int(words[words.index(name) + 1])
+
+
+def expected(name: str, lines: list[str]) -> str:
+    """What is answered where each failure is expected to have 0 of something."""
+    those = [line for line in lines if count_of(name, line) != 0]
+    shown = ": " + ", ".join(those[:3]) if those else ""
+    more = f" and {len(those) - 3} more" if len(those) > 3 else ""
+    return f"@0 failed sweep {len(those)}{shown}{more}" if those else "@0 ok"
+
+
+def answers(lines: list[str]) -> list[str]:
+    """The answers to the lines of QUESTIONS without the first line of a sweep."""
+    worst_first = sorted(lines, key=lambda line: -(count_of("lost", line) or 0))
+    return [*lines, *worst_first, expected("lost", lines), expected("loops", lines)]
+
+
 def main(arguments: list[str]) -> int:
     program, *dumps = arguments
     passed = failed = 0
     for dump in dumps:
         data = pathlib.Path(dump).read_bytes()
         db = state_of(data)[0]
-        wanted = [outcome(db, line) for line in failures(db)]
-        run = subprocess.run([program, "--dump", dump], input=b"sweep all\n", capture_output=True, check=False)
-        found = run.stdout.decode().splitlines()[1:-1]
+        wanted = answers([outcome(db, line) for line in failures(db)])
+        run = subprocess.run([program, "--dump", dump, "--keep-going"], input=QUESTIONS, capture_output=True, check=False)
+        found = [line for line in run.stdout.decode().splitlines()[:-1] if not line.startswith("@0 sweep ")]
         for line in sorted({*wanted} ^ {*found}):
             print(f"{dump}: {'wanted' if line in wanted else 'found'}: {line}")
         passed, failed = passed + (wanted == found), failed + (wanted != found)

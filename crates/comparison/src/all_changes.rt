@@ -5,6 +5,7 @@ ghost use Rattle.forwarding.specs.Matches.{RouterValue};
 ghost use Rattle.comparison.specs.Compared.{routers_of_both};
 ghost use Rattle.comparison.specs.Named.{all_changes, changes_for, names_of, unchanged_of};
 
+use crate::beside::Beside;
 use crate::changes::push_changes;
 use crate::comparison::Comparison;
 use change_lines::{ChangeName, Changes};
@@ -16,7 +17,7 @@ use std::alloc::{AllocError, Allocator};
 fn push_changes_of<A: Allocator + Copy>(
     names: &mut Vec<ChangeName, A>,
     alloc: A,
-    comparison: &Comparison<'_, A>,
+    comparison: &Beside<'_, '_, A>,
     router: RouterId,
 ) -> Result<u64, AllocError>
     ensures names { OnOk result
@@ -39,7 +40,7 @@ fn sum_of(count: u64, more: u64) -> Result<u64, AllocError>
 /// What differs for some routers, by group, then in their order.
 fn changes_for<A: Allocator + Copy>(
     alloc: A,
-    comparison: &Comparison<'_, A>,
+    comparison: &Beside<'_, '_, A>,
     routers: &[RouterId],
 ) -> Result<Changes<A>, AllocError>
     ensures { IfOk result (λ changes. changes ≡ changes_for comparison.now routers.now) }
@@ -67,7 +68,7 @@ fn ids_of<A: Allocator + Copy>(
 /// The routers that are attached in one database or both, in order.
 fn routers_of_both<A: Allocator + Copy>(
     alloc: A,
-    comparison: &Comparison<'_, A>,
+    comparison: &Beside<'_, '_, A>,
 ) -> Result<Vec<RouterId, A>, AllocError>
     ensures { IfOk result (λ routers. routers.items ≡ routers_of_both comparison.now) }
 {
@@ -80,7 +81,7 @@ fn routers_of_both<A: Allocator + Copy>(
     Ok(routers)
 }
 
-impl<'a, A: Allocator + Copy> Comparison<'a, A> {
+impl<'c, 'a, A: Allocator + Copy> Beside<'c, 'a, A> {
     /// What differs for all routers, by group, then by router and prefix.
     ///
     /// # Errors
@@ -91,5 +92,19 @@ impl<'a, A: Allocator + Copy> Comparison<'a, A> {
     {
         let routers = routers_of_both(alloc, self)?;
         changes_for(alloc, self, &routers)
+    }
+}
+
+impl<'a, A: Allocator + Copy> Comparison<'a, A> {
+    /// What differs for all routers, by group, then by router and prefix.
+    ///
+    /// # Errors
+    ///
+    /// Memory ran out.
+    pub fn changes(&self, alloc: A) -> Result<Changes<A>, AllocError>
+        ensures { IfOk result (λ changes. changes ≡ all_changes self.now) }
+    {
+        let both = self.beside();
+        both.changes(alloc)
     }
 }

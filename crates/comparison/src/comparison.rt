@@ -4,9 +4,9 @@ ghost use Rattle.std.specs.Prelude.{◌≡◌, ◌||◌, is_some, IfOk};
 ghost use Rattle.lsdb.specs.Slots.{lists_of};
 ghost use Rattle.forwarding.specs.Graphs.{IsForwardingOf, routers_of, routes_at};
 ghost use Rattle.lost_routes.specs.Announced.{announced_in};
-ghost use Rattle.comparison.specs.Compared.{IsCalculated};
 
-use crate::databases::Databases;
+use crate::basis::Basis;
+use crate::beside::Beside;
 use forwarding::Forwarding;
 use lost_routes::Announced;
 use lsa_codec::RouterId;
@@ -19,27 +19,16 @@ use std::marker::Model;
 /// as the two databases.
 #[derive(Drop)]
 pub struct Comparison<'a, A: Allocator = Global> {
-    baseline: &'a Database<A>,
-    present: &'a Database<A>,
-    were: Forwarding<'a, A>,
-    are: Forwarding<'a, A>,
-    was_announced: Announced<A>,
-    is_announced: Announced<A>,
+    baseline: Basis<'a, A>,
+    present: Basis<'a, A>,
 }
 
 impl<'a, A: Allocator> Model for Comparison<'a, A> {
-    ghost use Rattle.lsdb.specs.Slots.{lists_of};
-    ghost use Rattle.comparison.specs.Compared.{Compared, IsCalculated};
+    ghost use Rattle.comparison.specs.Compared.{Compared};
 
     ghost Value = { Compared };
 
-    ghost view = { λ c. record {
-      baseline = lists_of c.baseline.now;
-      present = lists_of c.present.now;
-    } };
-
-    ghost invariant = { λ c. IsCalculated (lists_of c.baseline.now) c.were c.was_announced
-        × IsCalculated (lists_of c.present.now) c.are c.is_announced };
+    ghost view = { λ c. record { baseline = c.baseline; present = c.present } };
 }
 
 impl<'a, A: Allocator + Copy> Comparison<'a, A> {
@@ -58,17 +47,11 @@ impl<'a, A: Allocator + Copy> Comparison<'a, A> {
         ensures { IfOk result (λ found. found
             ≡ record { baseline = lists_of baseline.now; present = lists_of present.now }) }
     {
-        let were = Forwarding::of(alloc, baseline, meter)?;
-        let are = Forwarding::of(alloc, present, meter)?;
-        let was_announced = Announced::of(alloc, baseline)?;
-        let is_announced = Announced::of(alloc, present)?;
+        let was = Basis::of(alloc, baseline, meter)?;
+        let now = Basis::of(alloc, present, meter)?;
         Ok(Comparison {
-            baseline,
-            present,
-            were,
-            are,
-            was_announced,
-            is_announced,
+            baseline: was,
+            present: now,
         })
     }
 
@@ -76,54 +59,49 @@ impl<'a, A: Allocator + Copy> Comparison<'a, A> {
     pub fn baseline(&self) -> &Database<A>
         ensures { lists_of result.now ≡ self.now.baseline }
     {
-        self.baseline
+        self.baseline.database()
     }
 
     /// The present database.
     pub fn present(&self) -> &Database<A>
         ensures { lists_of result.now ≡ self.now.present }
     {
-        self.present
+        self.present.database()
     }
 
     /// Where packets went in the baseline.
     pub fn were(&self) -> &Forwarding<'a, A>
         ensures { IsForwardingOf self.now.baseline result.now }
     {
-        &self.were
+        self.baseline.forwarding()
     }
 
     /// Where packets go.
     pub fn are(&self) -> &Forwarding<'a, A>
         ensures { IsForwardingOf self.now.present result.now }
     {
-        &self.are
+        self.present.forwarding()
     }
 
     /// The prefixes that were announced in the baseline.
     pub fn was_announced(&self) -> &Announced<A>
         ensures { result.now ≡ announced_in self.now.baseline }
     {
-        &self.was_announced
+        self.baseline.announced()
     }
 
     /// The prefixes that are announced.
     pub fn is_announced(&self) -> &Announced<A>
         ensures { result.now ≡ announced_in self.now.present }
     {
-        &self.is_announced
+        self.present.announced()
     }
 
-    /// The two databases without their tables.
-    pub(crate) fn databases(&self) -> Databases<'_, 'a, A>
+    /// What is calculated of the two databases, by reference.
+    pub(crate) fn beside(&self) -> Beside<'_, 'a, A>
         ensures { result ≡ self.now }
     {
-        Databases::of(
-            self.were.graphs(),
-            self.are.graphs(),
-            &self.was_announced,
-            &self.is_announced,
-        )
+        Beside::of(&self.baseline, &self.present)
     }
 
     /// Whether a router is attached to an area, in the baseline or now. It takes no memory.

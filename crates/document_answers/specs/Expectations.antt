@@ -7,6 +7,7 @@ use Rattle.study_script.specs.Spelling.{condition_word}
 use Rattle.study_text.specs.Shown.{Called}
 use Rattle.study_json.specs.Unnamed.{no_names}
 use Rattle.study_documents.specs.Outcomes.{expectation_reply}
+use Rattle.study_answers.specs.Areas.{no_area}
 use Rattle.study_answers.specs.Known.{no_router, too_few_done}
 use Rattle.study_expectations.specs.Expectations.{IsVerdict}
 use Rattle.study_expectations.specs.Verdicts.{VerdictValue, unknown, found}
@@ -24,6 +25,7 @@ pub data JudgedValue : Type 0 where
 abbrev pub judged : {A : Type 0} → Judged A → JudgedValue
 judged judgement.NoRouter = refused no_router
 judged judgement.TooFewDone = refused too_few_done
+judged judgement.NoArea = refused no_area
 judged (judgement.Held members) = held members.items
 judged (judgement.Failed members shown) = failed members.items shown.items
 

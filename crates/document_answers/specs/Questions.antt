@@ -33,7 +33,7 @@ module _ (called : Called) (baseline : Lists) (s : Session) where
   IsQuestionDocument question.Loops given = IsLoopsDocument baseline (state s) given
   IsQuestionDocument (question.Microloops count) given =
       IsMicroloopsDocument (state s) (count_or_one count) (before_last (count_or_one count) s) given
-  IsQuestionDocument (question.Sweep kind within) given = IsSweepDocument (state s) kind within given
+  IsQuestionDocument (question.Sweep kind within sorted) given = IsSweepDocument (state s) kind within sorted given
   IsQuestionDocument (question.Audit kind) given = IsAuditDocument s.base (state s) kind given
   IsQuestionDocument question.Log given = IsLogDocument s.done given
   IsQuestionDocument (question.Help word) given = IsHelpDocument word given

@@ -28,6 +28,8 @@ pub enum Judged<A: Allocator = Global> {
     NoRouter,
     /// Nothing: fewer edits are done than it names.
     TooFewDone,
+    /// Nothing: it names an area that is not there.
+    NoArea,
     /// It holds.
     Held {
         /// The members of the reply, each after a comma, and the end of the object.
@@ -59,6 +61,7 @@ fn condition_of<A: Allocator>(condition: &Condition<A>) -> ConditionWord
         Condition::Same(_) => ConditionWord::Same,
         Condition::AtMostChanges(_) => ConditionWord::Changes,
         Condition::CleanAudit | Condition::OnlyFindings(_) => ConditionWord::Audit,
+        Condition::Sweep { .. } => ConditionWord::Sweep,
     }
 }
 
@@ -81,7 +84,7 @@ fn text_found<A: Allocator + Copy>(alloc: A, verdict: Verdict<A>) -> Vec<u8, A>
     ensures { result.items ≡ text_found (verdict_of verdict) }
 {
     match verdict {
-        Verdict::NoRouter | Verdict::TooFewDone => Vec::new(alloc),
+        Verdict::NoRouter | Verdict::TooFewDone | Verdict::NoArea => Vec::new(alloc),
         Verdict::Found { text, .. } => text,
     }
 }
@@ -111,6 +114,7 @@ pub fn judge<A: Allocator + Copy>(
     let (holds, text) = match verdict_on(alloc, branches, baseline, &unnamed, branch, condition)? {
         Verdict::NoRouter => return Ok(Judged::NoRouter),
         Verdict::TooFewDone => return Ok(Judged::TooFewDone),
+        Verdict::NoArea => return Ok(Judged::NoArea),
         Verdict::Found { holds, text } => (holds, text),
     };
     let members = members_of(alloc, condition, &text)?;

@@ -60,7 +60,11 @@ pub fn question_document<A: Allocator + Copy>(
         Question::Gone => missing_document(alloc, baseline, now, Missing::Gone),
         Question::Loops => loops_document(alloc, baseline, now),
         Question::Microloops(count) => microloops_document(alloc, branches, branch, count),
-        Question::Sweep { kind, within } => sweep_document(alloc, now, (kind, within)),
+        Question::Sweep {
+            kind,
+            within,
+            sorted,
+        } => sweep_document(alloc, now, (kind, within, sorted)),
         Question::Audit(kind) => audit_document(alloc, branches, branch, kind),
         Question::Log => log_document(alloc, planner),
         Question::Help(word) => help_document(alloc, word),

@@ -201,7 +201,7 @@ module _ (db : Lists) (address : Addr) where
 
 module _ {A : Type 0} (was is : Lists) (compared : Compared A) (of : IsComparedOf was is compared) (address : Addr) (net : Net)
     (hops : List RouterHopsValue) (hops_are : hops ≡ compared.hops.items)
-    (fall : (db : Lists) → All (AreHopsOf db) hops → All (Falls compared.is.routers address db) compared.is.routers) where
+    (fall : (db : Lists) → All (AreHopsOf db) hops → All (Falls compared.is.now.routers address db) compared.is.now.routers) where
   all_fall : All (Falls (routers_of is) address is) (routers_of is)
   all_fall =
       subst (λ (rs : List RouterValue). All (Falls rs address is) rs) of.now.routers

@@ -5,7 +5,7 @@ use Rattle.std.proofs.lemmas.List.{append-nil, take_more}
 use Rattle.lsa_codec.specs.Prefix.{Net}
 use Rattle.lsa_codec.specs.declared.address.Addr.{Addr}
 use Rattle.lsdb.specs.Lists.{Lists}
-use Rattle.forwarding.specs.Graphs.{StepValue, graph_of}
+use Rattle.forwarding.specs.Graphs.{ForwardingValue, IsForwardingOf, StepValue, graph_of}
 use Rattle.loop_report.specs.Atoms.{IsEmptyAtom, IsInAtom, nets_in_either}
 use Rattle.loop_report.specs.Parts.{AreAtAtoms, AreParts, IsAtAtom}
 use Rattle.loop_report.specs.steps.Comparing.{IsComparedOf}
@@ -58,3 +58,13 @@ pub at_all : {A R E Y : Type 0} (result : Result R E) (items : R → List Y) (Fo
 at_all (Ok r) items Found was is compared nets same of are =
     subst (λ (l : List Net). AreParts (IsAtAtom Found was is) l (items r)) (same ∙ of.atoms) (are was is of)
 at_all (Err e) items Found was is compared nets same of are = tt
+
+-- the same of any two databases that what is compared is of
+pub at_all_of : {A R E Y : Type 0} (result : Result R E) (items : R → List Y) (Found : Net → List StepValue → List StepValue → List Y → Type 0)
+    (was is : ForwardingValue) (compared : Compared A) (nets : List Net) → nets ≡ compared.atoms
+    → ((before now : Lists) → IsForwardingOf before was → IsForwardingOf now is → IsComparedOf before now compared)
+    → IfOk result (λ r. (before now : Lists) → IsComparedOf before now compared → AreParts (IsAtAtom Found before now) nets (items r))
+    → IfOk result (λ r. (before now : Lists) → IsForwardingOf before was → IsForwardingOf now is → AreAtAtoms Found before now (items r))
+at_all_of (Ok r) items Found was is compared nets same of are = λ before now at_before at_now.
+    at_all (Ok r) items Found before now compared nets same (of before now at_before at_now) are
+at_all_of (Err e) items Found was is compared nets same of are = tt

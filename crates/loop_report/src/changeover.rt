@@ -9,6 +9,7 @@ ghost use Rattle.loop_report.specs.steps.Comparing.{IsComparedOf};
 
 use crate::compared::Compared;
 use crate::loops::{PrefixLoop, joint_loops_at};
+use forwarding::Forwarding;
 use lsa_codec::Prefix;
 use lsdb::Database;
 use spf::Meter;
@@ -17,7 +18,7 @@ use std::alloc::{AllocError, Allocator};
 /// What may loop at the addresses of an atom.
 fn at_atom<A: Allocator + Copy>(
     alloc: A,
-    compared: &Compared<'_, A>,
+    compared: &Compared<'_, '_, A>,
     net: Prefix,
 ) -> Result<Vec<PrefixLoop<A>, A>, AllocError>
     ensures { IfOk result (λ loops. (was is : Lists) → IsComparedOf was is compared.now
@@ -34,7 +35,7 @@ fn at_atom<A: Allocator + Copy>(
 /// What may loop at the atoms of some prefixes, in their order.
 fn at_atoms<A: Allocator + Copy>(
     alloc: A,
-    compared: &Compared<'_, A>,
+    compared: &Compared<'_, '_, A>,
     nets: &[Prefix],
 ) -> Result<Vec<PrefixLoop<A>, A>, AllocError>
     ensures { IfOk result (λ loops. (was is : Lists) → IsComparedOf was is compared.now
@@ -65,7 +66,9 @@ pub fn joint_loops<A: Allocator + Copy>(
     ensures { IfOk result (λ loops.
         AreAtAtoms AreJointLoops (lists_of before.now) (lists_of now.now) loops.items) }
 {
-    let compared = Compared::of(alloc, before, now, meter)?;
+    let earlier = Forwarding::of(alloc, before, meter)?;
+    let present = Forwarding::of(alloc, now, meter)?;
+    let compared = Compared::of(alloc, &earlier, &present)?;
     let nets = compared.atoms.nets(alloc)?;
     at_atoms(alloc, &compared, &nets)
 }

@@ -3,7 +3,7 @@
 ghost use Rattle.std.specs.Prelude.{◌≡◌, ◌++◌, [], IfOk, OnOk};
 ghost use Rattle.lsdb.specs.Lists.{Lists};
 ghost use Rattle.lsdb.specs.Slots.{lists_of};
-ghost use Rattle.forwarding.specs.Graphs.{graph_of};
+ghost use Rattle.forwarding.specs.Graphs.{IsForwardingOf, graph_of};
 ghost use Rattle.loop_report.specs.Blackholes.{AreNewBlackholes, new_blackholes};
 ghost use Rattle.loop_report.specs.Loops.{AreLoopsNow, AreLoopsOf};
 ghost use Rattle.loop_report.specs.Parts.{AreAtAtoms, AreParts, IsAtAtom};
@@ -13,6 +13,7 @@ use crate::blackhole::{Blackhole, new_blackholes};
 use crate::compared::Compared;
 use crate::falling::costs_fall;
 use crate::loops::{PrefixLoop, loops_at};
+use forwarding::Forwarding;
 use lsa_codec::{Addr, Prefix};
 use lsdb::Database;
 use spf::Meter;
@@ -65,7 +66,7 @@ impl<A: Allocator + Copy> LoopReport<A> {
     /// does not have.
     fn at_address(
         alloc: A,
-        compared: &Compared<'_, A>,
+        compared: &Compared<'_, '_, A>,
         net: Prefix,
         address: Addr,
     ) -> Result<LoopReport<A>, AllocError>
@@ -75,7 +76,7 @@ impl<A: Allocator + Copy> LoopReport<A> {
             (λ report. (was is : Lists) → IsComparedOf was is compared.now
             → report.blackholes ≡ new_blackholes net (graph_of was address) (graph_of is address)) }
     {
-        if costs_fall(&compared.is, &compared.hops, address) {
+        if costs_fall(compared.is, &compared.hops, address) {
             return Ok(LoopReport::empty(alloc));
         }
         let earlier = compared.was.graph(alloc, address)?;
@@ -88,7 +89,7 @@ impl<A: Allocator + Copy> LoopReport<A> {
     /// The loops and new blackholes of the addresses of an atom.
     fn at_atom(
         alloc: A,
-        compared: &Compared<'_, A>,
+        compared: &Compared<'_, '_, A>,
         net: Prefix,
     ) -> Result<LoopReport<A>, AllocError>
         ensures loops { IfOk result (λ report. (was is : Lists) → IsComparedOf was is compared.now
@@ -106,7 +107,7 @@ impl<A: Allocator + Copy> LoopReport<A> {
     /// The loops and new blackholes of the atoms of some prefixes, in their order.
     fn at_atoms(
         alloc: A,
-        compared: &Compared<'_, A>,
+        compared: &Compared<'_, '_, A>,
         nets: &[Prefix],
     ) -> Result<LoopReport<A>, AllocError>
         ensures loops { IfOk result (λ report. (was is : Lists) → IsComparedOf was is compared.now
@@ -120,6 +121,30 @@ impl<A: Allocator + Copy> LoopReport<A> {
             report.append(LoopReport::at_atom(alloc, compared, *net)?)?;
         }
         Ok(report)
+    }
+
+    /// The loops of a database, and the blackholes that a baseline does not have, by what the
+    /// forwarding graphs of both come from: at all addresses that an entry of a router covers in
+    /// either.
+    ///
+    /// # Errors
+    ///
+    /// Memory ran out.
+    pub fn of<'c, 'a>(
+        alloc: A,
+        was: &'c Forwarding<'a, A>,
+        is: &'c Forwarding<'a, A>,
+    ) -> Result<LoopReport<A>, AllocError>
+        ensures loops { IfOk result (λ report. (before now : Lists)
+            → IsForwardingOf before was.now → IsForwardingOf now is.now
+            → AreAtAtoms AreLoopsNow before now report.loops) }
+        ensures blackholes { IfOk result (λ report. (before now : Lists)
+            → IsForwardingOf before was.now → IsForwardingOf now is.now
+            → AreAtAtoms AreNewBlackholes before now report.blackholes) }
+    {
+        let compared = Compared::of(alloc, was, is)?;
+        let nets = compared.atoms.nets(alloc)?;
+        LoopReport::at_atoms(alloc, &compared, &nets)
     }
 
     /// The loops of a database, and the blackholes that a baseline does not have: at all addresses
@@ -140,9 +165,9 @@ impl<A: Allocator + Copy> LoopReport<A> {
         ensures blackholes { IfOk result (λ report. AreAtAtoms AreNewBlackholes
             (lists_of baseline.now) (lists_of now.now) report.blackholes) }
     {
-        let compared = Compared::of(alloc, baseline, now, meter)?;
-        let nets = compared.atoms.nets(alloc)?;
-        LoopReport::at_atoms(alloc, &compared, &nets)
+        let was = Forwarding::of(alloc, baseline, meter)?;
+        let present = Forwarding::of(alloc, now, meter)?;
+        LoopReport::of(alloc, &was, &present)
     }
 
     /// The loops, by prefix and routers. `loops none` holds where there is none.

@@ -7,11 +7,11 @@ use Rattle.lsa_codec.specs.declared.address.RouterId.{RouterId}
 use Rattle.text_words.specs.Words.{Word}
 use Rattle.study_arguments.specs.Values.{Lookup}
 use Rattle.study_hints.specs.ConditionHints.{condition_at}
-use Rattle.study_script.specs.Expected.{Expected, hops, no_microloops, no_route, path, route, same}
+use Rattle.study_script.specs.Expected.{Expected, hops, no_microloops, no_route, path, route, same, sweep}
 use Rattle.study_script.specs.declared.condition.Passing.{Passing}
 use Rattle.study_script.specs.declared.condition.Passing.TheVariants as passing
 use Rattle.refusal_hints.specs.Advice.{HintValue, hint_in, no_advice}
-use Rattle.refusal_hints.specs.QuestionHints.{count_advice}
+use Rattle.refusal_hints.specs.QuestionHints.{count_advice, within_advice}
 use Rattle.refusal_hints.specs.RouterHints.{unattached_hint}
 use Rattle.refusal_hints.specs.RouterWord.{naming}
 use Rattle.refusal_hints.specs.Situation.{SituationValue, is_attached, is_known}
@@ -50,4 +50,5 @@ missed_hint s names words (Some router) = record { word = naming names router wo
 -- in a line with these words from `expect` on
 abbrev pub expectation_hint : SituationValue → Lookup → List Word → Expected → HintValue
 expectation_hint s names words (no_microloops count) = hint_in (condition_at (drop 1 words)) (count_advice s count)
+expectation_hint s names words (sweep kind within limit) = hint_in (condition_at (drop 1 words)) (within_advice s within)
 expectation_hint s names words what = missed_hint s names words (router_missed s what)

@@ -24,7 +24,7 @@ abbrev pub named_advice : SituationValue → Option RouterId → AdviceValue
 named_advice s None = no_advice
 named_advice s (Some router) = advice 1 (unattached_hint s router)
 
--- E1
+-- E1, where KIND within AREA stand after the word
 abbrev pub within_advice : SituationValue → Option AreaId → AdviceValue
 within_advice s None = no_advice
 within_advice s (Some area) = advice 3 (area_hint s.database area)
@@ -36,7 +36,7 @@ question_advice s (question.Path router address) = named_advice s (Some router)
 question_advice s (question.Explain router net) = named_advice s (Some router)
 question_advice s (question.Changes router) = named_advice s router
 question_advice s (question.Microloops count) = count_advice s count
-question_advice s (question.Sweep kind within) = within_advice s within
+question_advice s (question.Sweep kind within sorted) = within_advice s within
 question_advice s _ = no_advice
 
 -- in a line with these words from the command word on

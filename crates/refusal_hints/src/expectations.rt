@@ -11,7 +11,7 @@ ghost use Rattle.refusal_hints.specs.ExpectationHints.{expectation_hint, first_u
 ghost use Rattle.refusal_hints.specs.Situation.{is_among};
 
 use crate::advice::{Advice, Hint, from_command};
-use crate::questions::count_advice;
+use crate::questions::{count_advice, within_advice};
 use crate::router_word::naming;
 use crate::routers::unattached_hint;
 use crate::situation::{Situation, is_among};
@@ -157,6 +157,10 @@ pub fn expectation_hint<'l, A: Allocator + Copy>(
     match condition {
         Condition::NoMicroloops(count) => {
             let advice = count_advice(alloc, situation, *count)?;
+            Ok(advice.hint(from_condition(after_first(text))))
+        }
+        Condition::Sweep { within, .. } => {
+            let advice = within_advice(alloc, situation, *within)?;
             Ok(advice.hint(from_condition(after_first(text))))
         }
         _ => {

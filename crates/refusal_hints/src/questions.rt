@@ -49,8 +49,8 @@ fn named_advice<A: Allocator + Copy>(
     }
 }
 
-/// Of a question about an area that the database does not have.
-fn within_advice<A: Allocator + Copy>(
+/// Of a line about failures within an area that the database does not have.
+pub(crate) fn within_advice<A: Allocator + Copy>(
     alloc: A,
     situation: &Situation<'_, A>,
     within: Option<AreaId>,

@@ -23,8 +23,6 @@ use Rattle.study_words.specs.StudyWords.{study_word_of}
 use Rattle.study_arguments.specs.declared.addresses.Dotted.{Dotted}
 use Rattle.study_arguments.specs.declared.language.Ends.{Ends}
 use Rattle.study_arguments.specs.declared.language.Ends.TheVariants.{Both}
-use Rattle.study_arguments.specs.declared.language.Limit.{Limit}
-use Rattle.study_arguments.specs.declared.language.Limit.TheVariants.{Within}
 use Rattle.study_arguments.specs.declared.fault.FaultKind.{FaultKind}
 use Rattle.study_arguments.specs.declared.fault.FaultKind.TheVariants.{Script, BadWord}
 use Rattle.study_arguments.specs.declared.link.LinkName.{LinkName}
@@ -110,7 +108,3 @@ study_word names word = ok_or (study_word_of word) BadWord
 -- the word `both`
 abbrev pub ends : Means Ends
 ends names word = if bytes_eq word (codes "both") then Ok Both else Err BadWord
-
--- the word `within`
-abbrev pub limit : Means Limit
-limit names word = if bytes_eq word (codes "within") then Ok Within else Err BadWord

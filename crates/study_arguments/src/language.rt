@@ -57,26 +57,6 @@ impl Argument for Ends {
     }
 }
 
-/// What a question is limited to, where it is not about the whole network.
-#[derive(Clone, Copy, Debug, PartialEq, Eq)]
-pub enum Limit {
-    /// `within`, which an area follows.
-    Within,
-}
-
-impl Argument for Limit {
-    ghost use Rattle.study_arguments.specs.Values.{limit};
-
-    ghost means = { limit };
-
-    fn read<A: Allocator + Copy>(_names: &Names<'_, A>, word: &[u8]) -> Result<Self, FaultKind> {
-        if word != b"within".as_slice() {
-            return Err(FaultKind::BadWord);
-        }
-        Ok(Limit::Within)
-    }
-}
-
 impl Argument for StudyWord {
     ghost use Rattle.study_arguments.specs.Values.{study_word};
 

@@ -28,7 +28,7 @@ pub use arguments::{
     four, one, one_or_two, optional, six, three, three_or_four, two, two_or_three,
 };
 pub use fault::{Fault, FaultKind, ParseError};
-pub use language::{Ends, Limit};
+pub use language::Ends;
 pub use link::{LinkName, is_like_prefix};
 pub use lists::{neighbors, one_or_more};
 pub use position::{Position, end, first_word, next};

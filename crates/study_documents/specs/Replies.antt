@@ -1,6 +1,6 @@
 -- The members of replies to questions, after what became of the line.
-use Rattle.std.specs.Prelude.{ℕ, List, [], ◌∷◌, Option, codes}
-use Rattle.json.specs.Json.{Json, string}
+use Rattle.std.specs.Prelude.{ℕ, Bool, true, false, List, [], ◌∷◌, Option, codes}
+use Rattle.json.specs.Json.{Json, null, string}
 use Rattle.lsa_codec.specs.declared.address.Addr.{Addr}
 use Rattle.lsa_codec.specs.declared.address.AreaId.{AreaId}
 use Rattle.lsa_codec.specs.declared.address.RouterId.{RouterId}
@@ -54,10 +54,15 @@ loops_reply loops blackholes =
 abbrev pub microloops_reply : ℕ → List LoopValue → Fields
 microloops_reply count loops = (codes "count", number_json count) ∷ (codes "loops", array_json loop_json loops) ∷ []
 
-abbrev pub sweep_reply : FailureKind → Option AreaId → List FailureLine → Fields
-sweep_reply kind within lines =
+-- by what the failures are sorted, if they are
+abbrev pub sort_json : Bool → Json
+sort_json false = null
+sort_json true = string (codes "lost")
+
+abbrev pub sweep_reply : FailureKind → Option AreaId → Bool → List FailureLine → Fields
+sweep_reply kind within sorted lines =
     (codes "kind", string (failure_kind_text kind)) ∷ (codes "within", option_json area_json within)
-    ∷ (codes "failures", array_json failure_json lines) ∷ []
+    ∷ (codes "sort", sort_json sorted) ∷ (codes "failures", array_json failure_json lines) ∷ []
 
 -- ---- questions of `ospf-plan`
 

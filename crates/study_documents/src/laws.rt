@@ -1,6 +1,6 @@
 //! What holds of documents.
 
-ghost use Rattle.std.specs.Prelude.{◌≡◌, ◌++◌, ◌<◌, ℕ, List, Option, Some, codes};
+ghost use Rattle.std.specs.Prelude.{◌≡◌, ◌++◌, ◌<◌, ℕ, Bool, List, Option, Some, codes};
 ghost use Rattle.lsa_codec.specs.declared.address.Addr.{Addr as AnyAddr};
 ghost use Rattle.lsa_codec.specs.declared.address.AreaId.{AreaId as AnyArea};
 ghost use Rattle.lsa_codec.specs.declared.address.RouterId.{RouterId as AnyRouter};
@@ -82,8 +82,9 @@ pub fn replies_nest_little()
         → fields_depth (loops_reply loops blackholes) < max_depth }
     ensures microloops { (count : ℕ) (loops : List LoopValue)
         → fields_depth (microloops_reply count loops) < max_depth }
-    ensures failures { (kind : AnyFailureKind) (within : Option AnyArea) (lines : List AnyFailure)
-        → fields_depth (sweep_reply kind within lines) < max_depth }
+    ensures failures { (kind : AnyFailureKind) (within : Option AnyArea) (sorted : Bool)
+        (lines : List AnyFailure)
+        → fields_depth (sweep_reply kind within sorted lines) < max_depth }
     ensures table { (table : TableValue) → fields_depth (table_reply table) < max_depth }
     ensures tables { (key : List ℕ) (tables : List TableValue)
         → fields_depth (listing key table_json tables) < max_depth }

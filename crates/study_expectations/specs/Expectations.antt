@@ -3,7 +3,7 @@ use Rattle.std.specs.Prelude.{◌≡◌, ℕ, Bool, codes}
 use Rattle.lsdb.specs.Lists.{Lists}
 use Rattle.edit_history.specs.Session.{Session, state}
 use Rattle.branches.specs.Branches.{before_last}
-use Rattle.study_script.specs.Expected.{Expected, clean_audit, few_changes, gone, hops, lost, no_blackholes, no_loops, no_microloops, no_route, only_findings, path, route, same}
+use Rattle.study_script.specs.Expected.{Expected, clean_audit, few_changes, gone, hops, lost, no_blackholes, no_loops, no_microloops, no_route, only_findings, path, route, same, sweep}
 use Rattle.study_text.specs.Shown.{Called}
 use Rattle.comparison.specs.Named.{gone as gone_pairs, lost as lost_pairs}
 use Rattle.study_answers.specs.Answers.{AnswerValue}
@@ -13,6 +13,7 @@ use Rattle.study_expectations.specs.Verdicts.{VerdictValue, verdict_answer}
 use Rattle.study_expectations.specs.RouteVerdicts.{IsPathVerdict, hops_verdict, no_route_verdict, route_verdict}
 use Rattle.study_expectations.specs.LoopVerdicts.{IsBlackholesVerdict, IsLoopsVerdict, IsMicroloopsVerdict}
 use Rattle.study_expectations.specs.AuditVerdicts.{clean_verdict, listed_verdict}
+use Rattle.study_expectations.specs.SweepVerdicts.{IsSweepVerdict}
 use Rattle.study_expectations.specs.ChangeVerdicts.{few_verdict, pairs_verdict, same_verdict}
 
 -- what is found of a condition in a branch with this session
@@ -30,6 +31,7 @@ IsVerdict called baseline s (same router) verdict = verdict ≡ same_verdict cal
 IsVerdict called baseline s (few_changes most) verdict = verdict ≡ few_verdict called baseline (state s) most
 IsVerdict called baseline s clean_audit verdict = verdict ≡ clean_verdict s.base (state s)
 IsVerdict called baseline s (only_findings kinds) verdict = verdict ≡ listed_verdict s.base (state s) kinds
+IsVerdict called baseline s (sweep kind within limit) verdict = IsSweepVerdict called (state s) kind within limit verdict
 
 -- the answer to an expectation
 unfoldable pub IsExpectationAnswer : Called → Lists → ℕ → Session → Bool → Expected → AnswerValue → Type 0

@@ -14,6 +14,7 @@ use crate::audit_conditions::{clean_audit, only_findings};
 use crate::change_conditions::{few, pairs, same};
 use crate::conditions::{hops, no_route, path, route};
 use crate::loop_conditions::{no_blackholes, no_loops, no_microloops};
+use crate::sweep_conditions::sweep;
 use crate::verdict::Verdict;
 use branches::Branches;
 use lsa_codec::RouterId;
@@ -112,6 +113,11 @@ pub fn verdict_on<A: Allocator + Copy>(
         Condition::OnlyFindings(kinds) => {
             only_findings(alloc, branches, names, branch, kinds.as_slice())
         }
+        Condition::Sweep {
+            kind,
+            within,
+            limit,
+        } => sweep(alloc, names, now, (*kind, *within), *limit),
     }
 }
 

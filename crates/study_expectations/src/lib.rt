@@ -13,6 +13,7 @@ mod audit_conditions;
 mod change_conditions;
 mod conditions;
 mod loop_conditions;
+mod sweep_conditions;
 
 // Each expectation.
 mod expectations;

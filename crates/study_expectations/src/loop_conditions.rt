@@ -23,7 +23,7 @@ use study_answers::microloops_of;
 use study_text::Shown;
 
 /// That nothing is found, and what is.
-fn none<T: Shown, A: Allocator + Copy>(
+pub(crate) fn none<T: Shown, A: Allocator + Copy>(
     alloc: A,
     names: &Names<'_, A>,
     word: &str,

@@ -5,7 +5,7 @@ ghost use Rattle.study_expectations.specs.Verdicts.{verdict_answer};
 ghost use Rattle.study_expectations.specs.steps.Verdicts.{verdict_of};
 
 use std::alloc::{AllocError, Allocator, Global};
-use study_answers::{Answer, no_router};
+use study_answers::{Answer, no_area, no_router};
 
 /// What is found of a condition.
 #[derive(Drop)]
@@ -14,6 +14,8 @@ pub enum Verdict<A: Allocator = Global> {
     NoRouter,
     /// Nothing: fewer edits are done than it names.
     TooFewDone,
+    /// Nothing: it names an area that is not there.
+    NoArea,
     /// Whether it holds, and what was found.
     Found {
         /// Whether the condition holds.
@@ -34,6 +36,7 @@ impl<A: Allocator + Copy> Verdict<A> {
         match self {
             Verdict::NoRouter => no_router(alloc, branch),
             Verdict::TooFewDone => Answer::refused(alloc, branch, "U1", "NothingToUndo"),
+            Verdict::NoArea => no_area(alloc, branch),
             Verdict::Found { holds, text } => {
                 if *holds == is_not {
                     Answer::failed(alloc, branch, text.as_slice())

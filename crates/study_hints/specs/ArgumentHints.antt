@@ -133,7 +133,9 @@ argument_hint known role.Count word = range_hint role.Count
 argument_hint known role.Number word = range_hint role.Number
 argument_hint known role.Both word = codes "both"
 argument_hint known role.Failures word = codes "one of links networks routers all"
-argument_hint known role.Within word = codes "within"
+argument_hint known role.Within word = codes "one of within sort"
+argument_hint known role.Sort word = codes "sort"
+argument_hint known role.Lost word = codes "lost"
 
 -- of words in their roles, from left to right, the hint for the first that does not fit
 unfoldable pub first_hint : Lookup → List Word → List Role → List Word → List ℕ

@@ -12,10 +12,11 @@ use Rattle.study_words.specs.declared.condition_word.ConditionWord.{ConditionWor
 use Rattle.study_words.specs.declared.condition_word.ConditionWord.TheVariants as condition
 use Rattle.study_words.specs.declared.study_word.StudyWord.TheVariants.{Expect}
 use Rattle.study_words.specs.ConditionWords.{condition_text, condition_word_of, condition_words}
+use Rattle.study_words.specs.FailureKinds.{failure_kind_of}
 use Rattle.study_words.specs.RouteKinds.{route_kind_of}
 use Rattle.study_hints.specs.declared.role.Role.{Role}
 use Rattle.study_hints.specs.declared.role.Role.TheVariants as role
-use Rattle.study_hints.specs.ArgumentHints.{kind_hint, name_hint, or_near, prefix_hint, range_hint}
+use Rattle.study_hints.specs.ArgumentHints.{address_hint, kind_hint, name_hint, or_near, prefix_hint, range_hint}
 use Rattle.study_hints.specs.Grammar.{command_text, expectation_text}
 use Rattle.study_hints.specs.Near.{near}
 
@@ -61,6 +62,29 @@ abbrev pub at_kind : List Word → List Word
 at_kind [] = after_prefix
 at_kind (word ∷ words) = if is_some (route_kind_of word) then at_via after_kind words else at_via after_prefix (word ∷ words)
 
+-- what failures may do, and in its place one of these words: those that may stand where the first word that is none is
+abbrev pub at_limit : List Word → List Word → List Word
+at_limit those [] = those
+at_limit those (word ∷ words) =
+    if bytes_eq word (codes "lost") then codes "none" ∷ codes "<=" ∷ []
+    else if bytes_eq word (codes "loops") then codes "none" ∷ []
+    else those
+
+abbrev pub limit_words : List Word
+limit_words = codes "lost" ∷ codes "loops" ∷ []
+
+-- the same where [within AREA] may stand before
+abbrev pub at_within : List Word → List Word
+at_within [] = codes "within" ∷ limit_words
+at_within (word ∷ words) =
+    if bytes_eq word (codes "within") then at_limit limit_words (drop 1 words) else at_limit (codes "within" ∷ limit_words) (word ∷ words)
+
+-- the same where the kind of failures stands before
+abbrev pub at_failures : List Word → List Word
+at_failures [] = codes "links" ∷ codes "networks" ∷ codes "routers" ∷ codes "all" ∷ []
+at_failures (word ∷ words) =
+    if is_some (failure_kind_of word) then at_within words else codes "links" ∷ codes "networks" ∷ codes "routers" ∷ codes "all" ∷ []
+
 -- after the word of a condition: the words that may stand where the first word that does not fit is
 abbrev pub allowed : ConditionWord → List Word → List Word
 allowed condition.Route words = at_kind (drop 1 (drop 1 words))
@@ -75,6 +99,7 @@ allowed condition.Blackholes words = codes "none" ∷ []
 allowed condition.Same words = []
 allowed condition.Changes words = codes "<=" ∷ []
 allowed condition.Audit words = codes "clean" ∷ codes "only" ∷ []
+allowed condition.Sweep words = at_failures words
 
 abbrev pub begins_with_only : List Word → Bool
 begins_with_only [] = false
@@ -92,6 +117,11 @@ abbrev pub number_role : ConditionWord → Role
 number_role condition.Microloops = role.Count
 number_role _ = role.Number
 
+-- a word that is no address; areas have no names
+abbrev pub address_hint_of : List Word → ConditionWord → Word → List ℕ
+address_hint_of known condition.Sweep word = address_hint
+address_hint_of known _ word = name_hint known word
+
 -- a word that is none of those that may stand at its place
 abbrev pub word_hint : ConditionWord → List Word → Word → List ℕ
 word_hint what words word = if wants_kind what words then kind_hint word else one_of (allowed what words)
@@ -99,7 +129,7 @@ word_hint what words word = if wants_kind what words then kind_hint word else on
 -- the words after that of a condition, and what is wrong with the word at fault
 unfoldable pub condition_hint : List Word → ConditionWord → List Word → FaultKind → Word → List ℕ
 condition_hint known what words (Script script.BadNumber) word = range_hint (number_role what)
-condition_hint known what words (Script script.BadAddress) word = name_hint known word
+condition_hint known what words (Script script.BadAddress) word = address_hint_of known what word
 condition_hint known what words (Script script.BadPrefix) word = prefix_hint word
 condition_hint known what words BadWord word = word_hint what words word
 condition_hint known what words _ word = expectation_text what

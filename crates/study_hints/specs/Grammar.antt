@@ -1,5 +1,6 @@
 -- What follows a command word, and the word of a condition.
-use Rattle.std.specs.Prelude.{ℕ, List, [], ◌∷◌, codes}
+use Rattle.std.specs.Prelude.{ℕ, ◌&&◌, Bool, true, false, List, [], ◌∷◌, bytes_eq, codes, if◌then◌else◌}
+use Rattle.text_words.specs.Words.{Word}
 use Rattle.study_words.specs.declared.plan_word.PlanWord.TheVariants as plan
 use Rattle.study_words.specs.declared.see_word.SeeWord.TheVariants as see
 use Rattle.study_words.specs.declared.event_word.EventWord.TheVariants as event
@@ -41,7 +42,7 @@ command_text (See see.Lost) = codes "lost"
 command_text (See see.Gone) = codes "gone"
 command_text (See see.Loops) = codes "loops"
 command_text (See see.Microloops) = codes "microloops [COUNT]"
-command_text (See see.Sweep) = codes "sweep (links | networks | routers | all) [within AREA]"
+command_text (See see.Sweep) = codes "sweep (links | networks | routers | all) [within AREA] [sort lost]"
 command_text (See see.Audit) = codes "audit [KIND]"
 command_text (See see.Log) = codes "log"
 command_text (See see.Help) = codes "help [WORD]"
@@ -83,7 +84,7 @@ roles_of (See see.Lost) = []
 roles_of (See see.Gone) = []
 roles_of (See see.Loops) = []
 roles_of (See see.Microloops) = role.Count ∷ []
-roles_of (See see.Sweep) = role.Failures ∷ role.Within ∷ role.Area ∷ []
+roles_of (See see.Sweep) = role.Failures ∷ role.Within ∷ role.Area ∷ role.Sort ∷ role.Lost ∷ []
 roles_of (See see.Audit) = role.Kind ∷ []
 roles_of (See see.Log) = []
 roles_of (See see.Help) = role.Word ∷ []
@@ -93,6 +94,21 @@ roles_of (Event event.Drain) = role.Router ∷ []
 roles_of (Event event.Fail) = role.Router ∷ []
 roles_of (Event event.Back) = role.Count ∷ []
 roles_of Expect = []
+
+abbrev pub is_sweep : StudyWord → Bool
+is_sweep (See see.Sweep) = true
+is_sweep command = false
+
+-- of a sweep with these words after `sweep`: the second one is `sort`
+abbrev pub sorts_all : List Word → Bool
+sorts_all [] = false
+sorts_all (kind ∷ []) = false
+sorts_all (kind ∷ part ∷ words) = bytes_eq part (codes "sort")
+
+-- the same in a line with these words after the command word: a sweep may be sorted without an area
+abbrev pub roles_in : StudyWord → List Word → List Role
+roles_in command words =
+    if is_sweep command && sorts_all words then role.Failures ∷ role.Sort ∷ role.Lost ∷ [] else roles_of command
 
 -- a condition after `expect`, and its words
 unfoldable pub expectation_text : ConditionWord → List ℕ
@@ -108,3 +124,4 @@ expectation_text condition.Blackholes = codes "expect blackholes none"
 expectation_text condition.Same = codes "expect same [ROUTER]"
 expectation_text condition.Changes = codes "expect changes <= NUMBER"
 expectation_text condition.Audit = codes "expect audit clean | only KIND.."
+expectation_text condition.Sweep = codes "expect sweep KIND [within AREA] lost none | lost <= NUMBER | loops none"

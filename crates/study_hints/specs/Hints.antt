@@ -12,7 +12,7 @@ use Rattle.study_words.specs.StudyWords.{study_word_of}
 use Rattle.study_hints.specs.ArgumentHints.{first_hint, or_near}
 use Rattle.study_hints.specs.ConditionHints.{expectation_hint}
 use Rattle.study_hints.specs.Escaped.{escaped}
-use Rattle.study_hints.specs.Grammar.{command_text, roles_of}
+use Rattle.study_hints.specs.Grammar.{command_text, roles_in}
 use Rattle.study_hints.specs.Help.{command_texts}
 use Rattle.study_hints.specs.Near.{near}
 
@@ -25,7 +25,7 @@ command_at (first ∷ rest) = if slice_index first 0 == 64 then rest else first 
 abbrev pub arguments_hint : Lookup → List Word → StudyWord → List Word → FaultKind → List ℕ
 arguments_hint names known command words (Script script.MissingWord) = command_text command
 arguments_hint names known command words (Script script.ExtraWord) = command_text command
-arguments_hint names known command words _ = first_hint names known (roles_of command) words
+arguments_hint names known command words _ = first_hint names known (roles_in command words) words
 
 abbrev pub command_hint : Lookup → List Word → Option StudyWord → List Word → FaultKind → Word → List ℕ
 command_hint names known None words kind word = or_near (near word command_texts) (codes "see help")

@@ -1,8 +1,8 @@
 -- What a word of a line is to be: its role, and whether it fits.
-use Rattle.std.specs.Prelude.{Bool, if◌then◌else◌}
+use Rattle.std.specs.Prelude.{Bool, bytes_eq, codes, if◌then◌else◌}
 use Rattle.std.specs.Result.{is_ok}
 use Rattle.text_words.specs.Words.{Word}
-use Rattle.study_arguments.specs.Values.{Lookup, addr, area_id, audit_kind, dotted, ends, failure_kind, is_like_prefix, limit, link, metric24, metric_type, number16, number32, prefix, router_id, study_word}
+use Rattle.study_arguments.specs.Values.{Lookup, addr, area_id, audit_kind, dotted, ends, failure_kind, is_like_prefix, link, metric24, metric_type, number16, number32, prefix, router_id, study_word}
 use Rattle.study_hints.specs.declared.role.Role.{Role}
 use Rattle.study_hints.specs.declared.role.Role.TheVariants as role
 
@@ -30,4 +30,6 @@ fits names role.Word word = is_ok (study_word names word)
 fits names role.Kind word = is_ok (audit_kind names word)
 fits names role.Both word = is_ok (ends names word)
 fits names role.Failures word = is_ok (failure_kind names word)
-fits names role.Within word = is_ok (limit names word)
+fits names role.Within word = bytes_eq word (codes "within")
+fits names role.Sort word = bytes_eq word (codes "sort")
+fits names role.Lost word = bytes_eq word (codes "lost")

@@ -56,7 +56,9 @@ const ROUTER_FORM: &str = "an address is four numbers, 0 to 255; names are those
 const LINK_RANGE: &str = "LINK is 1 to 65535";
 
 /// Adds what an address is.
-fn push_address_form<A: Allocator + Copy>(text: &mut Vec<u8, A>) -> Result<(), AllocError>
+pub(crate) fn push_address_form<A: Allocator + Copy>(
+    text: &mut Vec<u8, A>,
+) -> Result<(), AllocError>
     ensures { OnOk result (text.new.items
         ≡ text.old.items ++ codes "an address is four numbers, 0 to 255") }
 {
@@ -246,7 +248,9 @@ fn push_argument_hint<A: Allocator + Copy>(
         Role::Kind => push_kind_hint(text, word),
         Role::Both => text.extend_from_slice(b"both"),
         Role::Failures => text.extend_from_slice(b"one of links networks routers all"),
-        Role::Within => text.extend_from_slice(b"within"),
+        Role::Within => text.extend_from_slice(b"one of within sort"),
+        Role::Sort => text.extend_from_slice(b"sort"),
+        Role::Lost => text.extend_from_slice(b"lost"),
         _ => push_range(text, role),
     }
 }

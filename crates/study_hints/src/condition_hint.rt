@@ -3,18 +3,20 @@
 ghost use Rattle.std.specs.Prelude.{◌≡◌, ◌++◌, OnOk, drop, flat_map, map};
 ghost use Rattle.edit_script.specs.Words.{words};
 ghost use Rattle.study_arguments.specs.Fault.{fault_at};
-ghost use Rattle.study_hints.specs.ConditionHints.{after_space, allowed, at_cost, at_kind, at_via, begins_with_only, condition_at, condition_hint, condition_texts, expectation_hint, number_role, one_of, texts, wants_kind, word_hint, words_from};
+ghost use Rattle.study_hints.specs.ConditionHints.{address_hint_of, after_space, allowed, at_cost, at_failures, at_kind, at_limit, at_via, at_within, begins_with_only, condition_at, condition_hint, condition_texts, expectation_hint, number_role, one_of, texts, wants_kind, word_hint, words_from};
 ghost use Rattle.study_hints.specs.ArgumentHints.{or_near};
 ghost use Rattle.study_hints.specs.Near.{near};
 
-use crate::argument_hint::{push_kind_hint, push_name_hint, push_prefix_hint, push_range};
+use crate::argument_hint::{
+    push_address_form, push_kind_hint, push_name_hint, push_prefix_hint, push_range,
+};
 use crate::grammar::{command_text, expectation_text};
 use crate::near::{Candidate, nearest};
 use crate::role::Role;
 use edit_script::ScriptFault;
 use std::alloc::{AllocError, Allocator};
 use study_arguments::{Fault, FaultKind, Position, first_word};
-use study_words::{ConditionWord, RouteKind, StudyWord, Word};
+use study_words::{ConditionWord, FailureKind, RouteKind, StudyWord, Word};
 
 // ---- the words that may stand at a place
 
@@ -26,6 +28,15 @@ const AFTER_KIND: &[&str] = &["via", "cost"];
 
 /// The words that may stand after the prefix of a route.
 const AFTER_PREFIX: &[&str] = &["intra", "inter", "ext1", "ext2", "own", "via", "cost"];
+
+/// What may fail.
+const FAILURES: &[&str] = &["links", "networks", "routers", "all"];
+
+/// What failures may do.
+const LIMITS: &[&str] = &["lost", "loops"];
+
+/// The words that may stand after the kind of failures.
+const AFTER_FAILURES: &[&str] = &["within", "lost", "loops"];
 
 /// What follows the first word.
 fn after_first(line: &[u8]) -> &[u8]
@@ -68,6 +79,38 @@ fn at_kind(line: &[u8]) -> &'static [&'static str]
     }
 }
 
+/// The words that may stand where the first word is that does not fit, where it is said what a
+/// failure may do, and else one of these.
+fn at_limit(those: &'static [&'static str], line: &[u8]) -> &'static [&'static str]
+    ensures { texts result.now ≡ at_limit (texts those.now) (words line.now) }
+{
+    match first_word(line) {
+        Some(at) if at.word == b"lost".as_slice() => &["none", "<="],
+        Some(at) if at.word == b"loops".as_slice() => &["none"],
+        _ => those,
+    }
+}
+
+/// The same where the area may stand before that failures are within.
+fn at_within(line: &[u8]) -> &'static [&'static str]
+    ensures { texts result.now ≡ at_within (words line.now) }
+{
+    match first_word(line) {
+        Some(at) if at.word == b"within".as_slice() => at_limit(LIMITS, after_first(at.rest)),
+        _ => at_limit(AFTER_FAILURES, line),
+    }
+}
+
+/// The same where the kind of failures stands before.
+fn at_failures(line: &[u8]) -> &'static [&'static str]
+    ensures { texts result.now ≡ at_failures (words line.now) }
+{
+    match first_word(line) {
+        Some(at) if FailureKind::of(at.word).is_some() => at_within(at.rest),
+        _ => FAILURES,
+    }
+}
+
 /// The words that may stand where the first word after that of a condition is that does not fit.
 fn allowed(word: ConditionWord, line: &[u8]) -> &'static [&'static str]
     ensures { texts result.now ≡ allowed word (words line.now) }
@@ -81,6 +124,7 @@ fn allowed(word: ConditionWord, line: &[u8]) -> &'static [&'static str]
         ConditionWord::Loops | ConditionWord::Microloops | ConditionWord::Blackholes => &["none"],
         ConditionWord::Changes => &["<="],
         ConditionWord::Audit => &["clean", "only"],
+        ConditionWord::Sweep => at_failures(line),
     }
 }
 
@@ -146,6 +190,22 @@ fn number_role(word: ConditionWord) -> Role
     }
 }
 
+/// Adds the hint for a word that is no address: only those of areas have no names.
+fn push_address_hint<A: Allocator + Copy>(
+    text: &mut Vec<u8, A>,
+    known: &[&[u8]],
+    word: ConditionWord,
+    found: &[u8],
+) -> Result<(), AllocError>
+    ensures { OnOk result (text.new.items ≡ text.old.items
+        ++ address_hint_of (map (λ name. name.now) known.now) word found.now) }
+{
+    match word {
+        ConditionWord::Sweep => push_address_form(text),
+        _ => push_name_hint(text, known, found),
+    }
+}
+
 /// Adds the hint for a word that is none of those that may stand at its place.
 fn push_word_hint<A: Allocator + Copy>(
     text: &mut Vec<u8, A>,
@@ -178,7 +238,9 @@ fn push_condition_hint<A: Allocator + Copy>(
 {
     match fault.kind {
         FaultKind::Script(ScriptFault::BadNumber) => push_range(text, number_role(word)),
-        FaultKind::Script(ScriptFault::BadAddress) => push_name_hint(text, known, fault.word),
+        FaultKind::Script(ScriptFault::BadAddress) => {
+            push_address_hint(text, known, word, fault.word)
+        }
         FaultKind::Script(ScriptFault::BadPrefix) => push_prefix_hint(text, fault.word),
         FaultKind::BadWord => push_word_hint(text, word, line, fault.word),
         _ => text.extend_from_slice(expectation_text(word).as_bytes()),

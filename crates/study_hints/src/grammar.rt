@@ -2,9 +2,11 @@
 
 ghost use Rattle.std.specs.Prelude.{◌≡◌};
 ghost use Rattle.study_words.specs.declared.study_word.StudyWord.TheVariants.{Event, Plan, See};
-ghost use Rattle.study_hints.specs.Grammar.{command_text, expectation_text, roles_of};
+ghost use Rattle.edit_script.specs.Words.{words};
+ghost use Rattle.study_hints.specs.Grammar.{command_text, expectation_text, is_sweep, roles_in, roles_of, sorts_all};
 
 use crate::role::Role;
+use study_arguments::first_word;
 use study_words::{ConditionWord, EventWord, PlanWord, SeeWord, StudyWord};
 
 /// The same of a word that `ospf-plan` has, too.
@@ -51,7 +53,9 @@ fn see_command_text(word: SeeWord) -> &'static str
         SeeWord::Gone => "gone",
         SeeWord::Loops => "loops",
         SeeWord::Microloops => "microloops [COUNT]",
-        SeeWord::Sweep => "sweep (links | networks | routers | all) [within AREA]",
+        SeeWord::Sweep => {
+            "sweep (links | networks | routers | all) [within AREA] [sort lost]"
+        }
         SeeWord::Audit => "audit [KIND]",
         SeeWord::Log => "log",
         SeeWord::Help => "help [WORD]",
@@ -136,7 +140,7 @@ fn see_roles_of(word: SeeWord) -> &'static [Role]
         SeeWord::Gone => &[],
         SeeWord::Loops => &[],
         SeeWord::Microloops => &[Role::Count],
-        SeeWord::Sweep => &[Role::Failures, Role::Within, Role::Area],
+        SeeWord::Sweep => &[Role::Failures, Role::Within, Role::Area, Role::Sort, Role::Lost],
         SeeWord::Audit => &[Role::Kind],
         SeeWord::Log => &[],
         SeeWord::Help => &[Role::Word],
@@ -171,6 +175,38 @@ pub(crate) fn roles_of(word: StudyWord) -> &'static [Role]
     }
 }
 
+/// Whether a command word is `sweep`.
+fn is_sweep(word: StudyWord) -> bool
+    ensures { result ≡ is_sweep word }
+{
+    matches!(word, StudyWord::See(SeeWord::Sweep))
+}
+
+/// Whether the second word of a line is `sort`.
+fn sorts_all(line: &[u8]) -> bool
+    ensures { result ≡ sorts_all (words line.now) }
+{
+    let Some(kind) = first_word(line) else {
+        return false;
+    };
+    match first_word(kind.rest) {
+        Some(part) => part.word == b"sort".as_slice(),
+        None => false,
+    }
+}
+
+/// The roles of the arguments of a command in a line with these words after the command word: a
+/// sweep may be sorted without an area.
+pub(crate) fn roles_in(word: StudyWord, line: &[u8]) -> &'static [Role]
+    ensures { result.now ≡ roles_in word (words line.now) }
+{
+    if is_sweep(word) && sorts_all(line) {
+        &[Role::Failures, Role::Sort, Role::Lost]
+    } else {
+        roles_of(word)
+    }
+}
+
 /// A condition after `expect`, and its words.
 #[tactic(auto, unfolding(crate::specs::Grammar::expectation_text))]
 pub fn expectation_text(word: ConditionWord) -> &'static str
@@ -190,5 +226,8 @@ pub fn expectation_text(word: ConditionWord) -> &'static str
         ConditionWord::Same => "expect same [ROUTER]",
         ConditionWord::Changes => "expect changes <= NUMBER",
         ConditionWord::Audit => "expect audit clean | only KIND..",
+        ConditionWord::Sweep => {
+            "expect sweep KIND [within AREA] lost none | lost <= NUMBER | loops none"
+        }
     }
 }

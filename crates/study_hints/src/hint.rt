@@ -10,7 +10,7 @@ ghost use Rattle.study_hints.specs.Hints.{arguments_hint, command_at, command_hi
 use crate::argument_hint::{push_first_hint, push_near};
 use crate::condition_hint::push_expectation_hint;
 use crate::escape::push_escaped;
-use crate::grammar::{command_text, roles_of};
+use crate::grammar::{command_text, roles_in};
 use crate::help::commands;
 use edit_script::ScriptFault;
 use network_names::Names;
@@ -47,7 +47,7 @@ fn push_arguments_hint<A: Allocator + Copy>(
         FaultKind::Script(ScriptFault::MissingWord) | FaultKind::Script(ScriptFault::ExtraWord) => {
             text.extend_from_slice(command_text(word).as_bytes())
         }
-        _ => push_first_hint(text, names, known, roles_of(word), line),
+        _ => push_first_hint(text, names, known, roles_in(word, line), line),
     }
 }
 

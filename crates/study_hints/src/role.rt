@@ -8,7 +8,7 @@ use edit_script::MetricType;
 use lsa_codec::{Addr, AreaId, Metric, Prefix, RouterId};
 use network_names::Names;
 use std::alloc::Allocator;
-use study_arguments::{Argument, Dotted, Ends, Limit, LinkName, is_like_prefix};
+use study_arguments::{Argument, Dotted, Ends, LinkName, is_like_prefix};
 use study_words::{AuditKind, FailureKind, StudyWord};
 
 /// What a word of a line is to be.
@@ -50,8 +50,12 @@ pub(crate) enum Role {
     Both,
     /// A kind of failures.
     Failures,
-    /// The word `within`.
+    /// The word `within`, in place of which `sort` may stand.
     Within,
+    /// The word `sort`.
+    Sort,
+    /// The word `lost`.
+    Lost,
 }
 
 /// Whether a word names what a router may be cut from.
@@ -85,7 +89,9 @@ impl Role {
             Role::Kind => AuditKind::read(names, word).is_ok(),
             Role::Both => Ends::read(names, word).is_ok(),
             Role::Failures => FailureKind::read(names, word).is_ok(),
-            Role::Within => Limit::read(names, word).is_ok(),
+            Role::Within => word == b"within".as_slice(),
+            Role::Sort => word == b"sort".as_slice(),
+            Role::Lost => word == b"lost".as_slice(),
         }
     }
 }

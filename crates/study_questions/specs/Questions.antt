@@ -32,7 +32,7 @@ IsQuestionAnswer called baseline branch s question.Gone answer = answer ≡ gone
 IsQuestionAnswer called baseline branch s question.Loops answer = IsLoopsAnswer called branch (state s) baseline answer
 IsQuestionAnswer called baseline branch s (question.Microloops count) answer =
     IsMicroloopsAnswer called branch (state s) (count_or_one count) (before_last (count_or_one count) s) answer
-IsQuestionAnswer called baseline branch s (question.Sweep kind within) answer = IsSweepAnswer called branch (state s) kind within answer
+IsQuestionAnswer called baseline branch s (question.Sweep kind within sorted) answer = IsSweepAnswer called branch (state s) kind within sorted answer
 IsQuestionAnswer called baseline branch s (question.Audit kind) answer = answer ≡ audit_answer called branch s.base (state s) kind
 IsQuestionAnswer called baseline branch s question.Log answer = answer ≡ log_answer branch s
 IsQuestionAnswer called baseline branch s (question.Help word) answer = answer ≡ help_answer branch word

@@ -63,9 +63,11 @@ pub fn question<A: Allocator + Copy>(
         Question::Gone => missing_answer(alloc, names, branch, baseline, now, Missing::Gone),
         Question::Loops => loops_answer(alloc, names, branch, baseline, now),
         Question::Microloops(count) => microloops(alloc, branches, names, branch, count),
-        Question::Sweep { kind, within } => {
-            sweep_answer(alloc, names, branch, now, (kind, within))
-        }
+        Question::Sweep {
+            kind,
+            within,
+            sorted,
+        } => sweep_answer(alloc, names, branch, now, (kind, within, sorted)),
         Question::Audit(kind) => audit(alloc, names, branches, branch, kind),
         Question::Log => log(alloc, branch, planner),
         Question::Help(word) => help_answer(alloc, branch, word),

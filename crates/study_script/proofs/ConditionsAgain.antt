@@ -7,7 +7,8 @@ use Rattle.std.specs.Str.{all_ascii_digits}
 use Rattle.std.proofs.lemmas.Bool.{and_parts}
 use Rattle.std.proofs.lemmas.Fmt.{decimal_nonempty, digits_decimal}
 use Rattle.lsa_codec.specs.Prefix.{Net}
-use Rattle.lsa_codec.specs.Spelling.{prefix_text}
+use Rattle.lsa_codec.specs.Spelling.{address_text, prefix_text}
+use Rattle.lsa_codec.specs.declared.address.AreaId.{AreaId}
 use Rattle.lsa_codec.specs.declared.address.RouterId.{RouterId}
 use Rattle.edit_script.specs.Spelling.{IsPrefix}
 use Rattle.text_words.specs.Words.{Word}
@@ -17,10 +18,12 @@ use Rattle.study_words.specs.Written.{compare, condition, route as route_kind, w
 use Rattle.study_words.specs.declared.audit_kind.AuditKind.{AuditKind}
 use Rattle.study_words.specs.AuditKinds.{audit_kind_text}
 use Rattle.study_words.specs.ConditionWords.{condition_text}
+use Rattle.study_words.specs.FailureKinds.{failure_kind_text}
 use Rattle.study_words.specs.RouteKinds.{route_kind_text}
 use Rattle.study_words.specs.StudyWords.{study_word_of}
 use Rattle.study_words.specs.declared.condition_word.ConditionWord.{ConditionWord}
 use Rattle.study_words.specs.declared.condition_word.ConditionWord.TheVariants as words
+use Rattle.study_words.specs.declared.failure_kind.FailureKind.{FailureKind}
 use Rattle.study_words.specs.declared.route_kind.RouteKind.{RouteKind}
 use Rattle.study_words.proofs.TextLemmas.{word_found}
 use Rattle.study_arguments.specs.Arguments.{next_as}
@@ -28,15 +31,18 @@ use Rattle.study_arguments.specs.Fault.{◌>>=◌}
 use Rattle.study_arguments.specs.Positions.{next}
 use Rattle.study_arguments.specs.Values.{Lookup, audit_kind, prefix}
 use Rattle.study_arguments.specs.Spelling.{neighbors_text, router_text}
-use Rattle.study_arguments.proofs.ArgumentLemmas.{addr_again, kind_again, neighbors_again, net_again, one_or_more_again, router_again}
+use Rattle.study_arguments.proofs.ArgumentLemmas.{addr_again, area_again, failure_again, kind_again, neighbors_again, net_again, one_or_more_again, router_again}
 use Rattle.study_script.specs.declared.condition.Bound.{Bound}
+use Rattle.study_script.specs.declared.condition.FailureLimit.{FailureLimit}
+use Rattle.study_script.specs.declared.condition.FailureLimit.TheVariants as limit
 use Rattle.study_script.specs.declared.condition.Passing.TheVariants as passing
-use Rattle.study_script.specs.Expected.{Expected, route, no_route, hops, path, lost, gone, no_microloops, same, few_changes, only_findings, PairsAllowed, nothing, at_most, only}
+use Rattle.study_script.specs.Expected.{Expected, route, no_route, hops, path, lost, gone, no_microloops, same, few_changes, only_findings, sweep, PairsAllowed, nothing, at_most, only}
 use Rattle.study_script.specs.Conditions.{allowed_of, audit_of, begins_with_digit, bound_of, changes_of, condition_by, condition_of, cost_part}
-use Rattle.study_script.specs.Conditions.{entry_of, expectation_of, hops_of, kind_part, last_number, microloops_of, no_route_of, none_of}
-use Rattle.study_script.specs.Conditions.{not_part, passing_of, path_of, route_of, same_of, via_part}
+use Rattle.study_script.specs.Conditions.{entry_of, expectation_of, hops_of, kind_part, last_number, limit_of, lost_limit_of, microloops_of, no_route_of, none_of}
+use Rattle.study_script.specs.Conditions.{not_part, passing_of, path_of, route_of, same_of, sweep_of, via_part}
+use Rattle.study_script.specs.Sweeps.{failures_part, within_part}
 use Rattle.study_script.specs.Line.{asked_of, expect}
-use Rattle.study_script.specs.Spelling.{AllowedInRange, BoundInRange, IsExpectedInRange, NeighborsInRange, allowed_words, bound_words, condition_rest, condition_word, cost_words, if_given, not_words, via_words}
+use Rattle.study_script.specs.Spelling.{AllowedInRange, BoundInRange, IsExpectedInRange, LimitInRange, AreaInRange, NeighborsInRange, allowed_words, bound_words, condition_rest, condition_word, cost_words, if_given, limit_words, not_words, via_words, within_words}
 
 -- ---- parts
 
@@ -119,6 +125,37 @@ all_kinds : (kinds : List AuditKind) → AllByRecursion (λ kind. Unit {0}) kind
 all_kinds [] = tt
 all_kinds (kind ∷ kinds) = (tt, all_kinds kinds)
 
+-- what each failure may do
+limit_again : (names : Lookup) (word : Word) (what : FailureLimit) → LimitInRange what → limit_of names (word, limit_words what) ≡ Ok what
+unfolding limit_of lost_limit_of none_of
+limit_again names word limit.NoneLost h = refl
+limit_again names word (limit.LostAtMost most) h = simp (number_read names (codes "<=") most h)
+limit_again names word limit.NoLoops h = refl
+
+abbrev within_last : Word → Option AreaId → Word
+within_last last None = last
+within_last last (Some area) = address_text area.0
+
+within_again : (names : Lookup) (last : Word) (within : Option AreaId) (what : FailureLimit) → AreaInRange within
+    → within_part names (last, within_words within ++ limit_words what) ≡ Ok (within, (within_last last within, limit_words what))
+unfolding within_part next_as
+within_again names last None limit.NoneLost h = refl
+within_again names last None (limit.LostAtMost most) h = refl
+within_again names last None limit.NoLoops h = refl
+within_again names last (Some area) what h = simp (area_again names area h)
+
+failures_again : (names : Lookup) (word : Word) (kind : FailureKind) (within : Option AreaId) (what : FailureLimit) → AreaInRange within
+    → failures_part names (word, failure_kind_text kind ∷ (within_words within ++ limit_words what))
+    ≡ Ok (kind, within, (within_last (failure_kind_text kind) within, limit_words what))
+unfolding failures_part next_as
+failures_again names word kind within what h = simp (failure_again names kind, within_again names (failure_kind_text kind) within what h)
+
+sweep_again : (names : Lookup) (word : Word) (kind : FailureKind) (within : Option AreaId) (what : FailureLimit)
+    → IsExpectedInRange (sweep kind within what) → sweep_of names (word, condition_rest (sweep kind within what)) ≡ Ok (sweep kind within what)
+unfolding sweep_of
+sweep_again names word kind within what h =
+    simp (failures_again names word kind within what h.0, limit_again names (within_last (failure_kind_text kind) within) what h.1)
+
 pub condition_read : (names : Lookup) (word : Word) (what : Expected) → IsExpectedInRange what
     → condition_by names (condition_word what) (word, condition_rest what) ≡ Ok what
 unfolding condition_by no_route_of hops_of path_of passing_of none_of microloops_of same_of changes_of audit_of next_as
@@ -140,6 +177,7 @@ condition_read names word (few_changes most) h = simp (number_read names (codes 
 condition_read names word (only_findings kinds) h =
     simp (one_or_more_again (audit_kind names) audit_kind_text (λ kind. Unit {0}) (λ kind given. kind_again names kind)
     (codes "only", map audit_kind_text kinds) kinds refl h (all_kinds kinds))
+condition_read names word (sweep kind within what) h = sweep_again names word kind within what h
 condition_read names word what h = refl
 
 -- ---- expectations

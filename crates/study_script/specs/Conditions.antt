@@ -15,9 +15,12 @@ use Rattle.study_arguments.specs.Positions.{At, end, next}
 use Rattle.study_arguments.specs.Values.{Lookup, addr, audit_kind, comparison, number32, prefix, router_id}
 use Rattle.study_arguments.specs.Lists.{neighbors, one_or_more}
 use Rattle.study_script.specs.declared.condition.Bound.{Bound}
+use Rattle.study_script.specs.declared.condition.FailureLimit.{FailureLimit}
+use Rattle.study_script.specs.declared.condition.FailureLimit.TheVariants as limit
 use Rattle.study_script.specs.declared.condition.Passing.{Passing}
 use Rattle.study_script.specs.declared.condition.Passing.TheVariants as passing
-use Rattle.study_script.specs.Expected.{Expected, route, no_route, hops, path, lost, gone, no_loops, no_microloops, no_blackholes, same, few_changes, clean_audit, only_findings, PairsAllowed, nothing, at_most, only}
+use Rattle.study_script.specs.Expected.{Expected, route, no_route, hops, path, lost, gone, no_loops, no_microloops, no_blackholes, same, few_changes, clean_audit, only_findings, sweep, PairsAllowed, nothing, at_most, only}
+use Rattle.study_script.specs.Sweeps.{failures_part}
 
 -- ---- parts of conditions; a part that is read goes with its last word and the words after it
 
@@ -153,6 +156,27 @@ audit_of names line = next line >>= λ first.
     else if bytes_eq first.0 (codes "only") then made only_findings (one_or_more (audit_kind names) first)
     else Err (bad_word first.0)
 
+-- none | <= NUMBER, and the end of the line
+unfoldable pub lost_limit_of : Lookup → At → Result FailureLimit FaultAt
+lost_limit_of names line = next line >>= λ first.
+    if bytes_eq first.0 (codes "none") then made (λ _. limit.NoneLost) (end first)
+    else if bytes_eq first.0 (codes "<=") then made limit.LostAtMost (last_number names first)
+    else Err (bad_word first.0)
+
+-- lost none | lost <= NUMBER | loops none
+unfoldable pub limit_of : Lookup → At → Result FailureLimit FaultAt
+limit_of names line = next line >>= λ first.
+    if bytes_eq first.0 (codes "lost") then lost_limit_of names first
+    else if bytes_eq first.0 (codes "loops") then made (λ _. limit.NoLoops) (none_of first)
+    else Err (bad_word first.0)
+
+-- sweep KIND [within AREA], and what each failure may do
+unfoldable pub sweep_of : Lookup → At → Result Expected FaultAt
+sweep_of names line = do
+  what ← failures_part names line
+  limit ← limit_of names what.2
+  Ok (sweep what.0 what.1 limit)
+
 -- ---- expectations
 
 -- the word of a condition, and the words after it
@@ -169,6 +193,7 @@ condition_by names words.Blackholes line = made (λ _. no_blackholes) (none_of l
 condition_by names words.Same line = same_of names line
 condition_by names words.Changes line = changes_of names line
 condition_by names words.Audit line = audit_of names line
+condition_by names words.Sweep line = sweep_of names line
 
 -- the word is this line's
 unfoldable pub condition_of : Lookup → At → Result Expected FaultAt

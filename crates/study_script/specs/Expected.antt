@@ -2,8 +2,10 @@
 use Rattle.std.specs.Prelude.{ℕ, Bool, List, Option, option_map}
 use Rattle.lsa_codec.specs.Prefix.{Net}
 use Rattle.lsa_codec.specs.declared.address.Addr.{Addr}
+use Rattle.lsa_codec.specs.declared.address.AreaId.{AreaId}
 use Rattle.lsa_codec.specs.declared.address.RouterId.{RouterId}
 use Rattle.study_words.specs.declared.audit_kind.AuditKind.{AuditKind}
+use Rattle.study_words.specs.declared.failure_kind.FailureKind.{FailureKind}
 use Rattle.study_words.specs.declared.route_kind.RouteKind.{RouteKind}
 use Rattle.study_script.specs.declared.condition.Allowed.{Allowed}
 use Rattle.study_script.specs.declared.condition.Allowed.TheVariants as allowed
@@ -11,6 +13,7 @@ use Rattle.study_script.specs.declared.condition.Bound.{Bound}
 use Rattle.study_script.specs.declared.condition.Condition.{Condition}
 use Rattle.study_script.specs.declared.condition.Condition.TheVariants as condition
 use Rattle.study_script.specs.declared.condition.Expectation.{Expectation}
+use Rattle.study_script.specs.declared.condition.FailureLimit.{FailureLimit}
 use Rattle.study_script.specs.declared.condition.Passing.{Passing}
 
 -- which pairs may be lost or gone
@@ -34,6 +37,7 @@ pub data Expected : Type 0 where
   few_changes : ℕ → Expected
   clean_audit : Expected
   only_findings : List AuditKind → Expected
+  sweep : FailureKind → Option AreaId → FailureLimit → Expected
 
 abbrev pub pairs_allowed : {A : Type 0} → Allowed A → PairsAllowed
 pairs_allowed allowed.Nothing = nothing
@@ -54,6 +58,7 @@ expected (condition.Same r) = same r
 expected (condition.AtMostChanges most) = few_changes most
 expected condition.CleanAudit = clean_audit
 expected (condition.OnlyFindings kinds) = only_findings kinds.items
+expected (condition.Sweep kind within limit) = sweep kind within limit
 
 -- whether the condition is turned around, and the condition
 abbrev pub expectation : {A : Type 0} → Expectation A → Bool × Expected

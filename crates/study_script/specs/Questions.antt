@@ -1,26 +1,22 @@
 -- What a command word of a question means, and the words after it.
-use Rattle.std.specs.Prelude.{Bool, false, true, List, [], ◌∷◌, None, Some, Result, if◌then◌else◌}
+use Rattle.std.specs.Prelude.{Result, Ok}
 use Rattle.study_words.specs.declared.see_word.SeeWord.{SeeWord}
 use Rattle.study_words.specs.declared.see_word.SeeWord.TheVariants as words
 use Rattle.study_script.specs.declared.question.Question.{Question}
 use Rattle.study_script.specs.declared.question.Question.TheVariants as question
-use Rattle.study_arguments.specs.Fault.{FaultAt, made}
+use Rattle.study_arguments.specs.Fault.{◌>>=◌, FaultAt, made}
 use Rattle.study_arguments.specs.Positions.{At}
-use Rattle.study_arguments.specs.Values.{Lookup, addr, area_id, audit_kind, failure_kind, limit, number32, prefix, router_id, study_word}
-use Rattle.study_arguments.specs.Arguments.{one_of, one_or_two_of, optional_of, three_of, two_of}
+use Rattle.study_arguments.specs.Values.{Lookup, addr, audit_kind, number32, prefix, router_id, study_word}
+use Rattle.study_arguments.specs.Arguments.{one_or_two_of, optional_of, two_of}
 use Rattle.study_script.specs.PlanLines.{alone}
+use Rattle.study_script.specs.Sweeps.{failures_part, sort_part}
 
--- more than one argument
-abbrev pub has_second : At → Bool
-has_second (word, []) = false
-has_second (word, first ∷ []) = false
-has_second (word, first ∷ second ∷ rest) = true
-
--- a kind of failures, of all or within an area
+-- KIND [within AREA] [sort lost]
 unfoldable pub sweep_of : Lookup → At → Result Question FaultAt
-sweep_of names line =
-    if has_second line then made (λ x. question.Sweep x.0 (Some x.2)) (three_of (failure_kind names) (limit names) (area_id names) line)
-    else made (λ kind. question.Sweep kind None) (one_of (failure_kind names) line)
+sweep_of names line = do
+  what ← failures_part names line
+  sorted ← sort_part what.2
+  Ok (question.Sweep what.0 what.1 sorted)
 
 unfoldable pub question_of : Lookup → SeeWord → At → Result Question FaultAt
 question_of names words.Routers line = alone question.Routers line

@@ -20,11 +20,13 @@ use Rattle.study_words.specs.SeeWords.{see_text}
 use Rattle.study_words.specs.StudyWords.{study_text}
 use Rattle.study_arguments.specs.Spelling.{neighbors_text, router_text}
 use Rattle.study_script.specs.declared.condition.Bound.{Bound}
+use Rattle.study_script.specs.declared.condition.FailureLimit.{FailureLimit}
+use Rattle.study_script.specs.declared.condition.FailureLimit.TheVariants as limit
 use Rattle.study_script.specs.declared.condition.Passing.{Passing}
 use Rattle.study_script.specs.declared.condition.Passing.TheVariants as passing
 use Rattle.study_script.specs.declared.question.Question.{Question}
 use Rattle.study_script.specs.declared.question.Question.TheVariants as question
-use Rattle.study_script.specs.Expected.{Expected, route, no_route, hops, path, lost, gone, no_loops, no_microloops, no_blackholes, same, few_changes, clean_audit, only_findings, PairsAllowed, nothing, at_most, only}
+use Rattle.study_script.specs.Expected.{Expected, route, no_route, hops, path, lost, gone, no_loops, no_microloops, no_blackholes, same, few_changes, clean_audit, only_findings, sweep, PairsAllowed, nothing, at_most, only}
 
 -- a word that may be left out
 abbrev pub if_given : {X : Type 0} → (X → Word) → Option X → List Word
@@ -46,7 +48,7 @@ word_of question.Lost = see_words.Lost
 word_of question.Gone = see_words.Gone
 word_of question.Loops = see_words.Loops
 word_of (question.Microloops count) = see_words.Microloops
-word_of (question.Sweep kind within) = see_words.Sweep
+word_of (question.Sweep kind within sorted) = see_words.Sweep
 word_of (question.Audit kind) = see_words.Audit
 word_of question.Log = see_words.Log
 word_of (question.Help word) = see_words.Help
@@ -55,6 +57,11 @@ word_of (question.Help word) = see_words.Help
 abbrev pub within_words : Option AreaId → List Word
 within_words None = []
 within_words (Some area) = codes "within" ∷ address_text area.0 ∷ []
+
+-- that the failures which lose most stand first
+abbrev pub sort_words : Bool → List Word
+sort_words false = []
+sort_words true = codes "sort" ∷ codes "lost" ∷ []
 
 -- the words after the command word
 abbrev pub question_rest : Question → List Word
@@ -70,7 +77,7 @@ question_rest question.Lost = []
 question_rest question.Gone = []
 question_rest question.Loops = []
 question_rest (question.Microloops count) = if_given decimal count
-question_rest (question.Sweep kind within) = failure_kind_text kind ∷ within_words within
+question_rest (question.Sweep kind within sorted) = failure_kind_text kind ∷ (within_words within ++ sort_words sorted)
 question_rest (question.Audit kind) = if_given audit_kind_text kind
 question_rest question.Log = []
 question_rest (question.Help word) = if_given study_text word
@@ -108,7 +115,7 @@ IsQuestionInRange question.Lost = Unit
 IsQuestionInRange question.Gone = Unit
 IsQuestionInRange question.Loops = Unit
 IsQuestionInRange (question.Microloops count) = CountInRange count
-IsQuestionInRange (question.Sweep kind within) = AreaInRange within
+IsQuestionInRange (question.Sweep kind within sorted) = AreaInRange within
 IsQuestionInRange (question.Audit kind) = Unit
 IsQuestionInRange question.Log = Unit
 IsQuestionInRange (question.Help word) = Unit
@@ -136,6 +143,11 @@ allowed_words nothing = codes "none" ∷ []
 allowed_words (at_most most) = codes "<=" ∷ decimal most ∷ []
 allowed_words (only nets) = codes "only" ∷ map prefix_text nets
 
+abbrev pub limit_words : FailureLimit → List Word
+limit_words limit.NoneLost = codes "lost" ∷ codes "none" ∷ []
+limit_words (limit.LostAtMost most) = codes "lost" ∷ codes "<=" ∷ decimal most ∷ []
+limit_words limit.NoLoops = codes "loops" ∷ codes "none" ∷ []
+
 abbrev pub condition_word : Expected → ConditionWord
 condition_word (route router net kind via cost) = words.Route
 condition_word (no_route router net) = words.NoRoute
@@ -150,6 +162,7 @@ condition_word (same router) = words.Same
 condition_word (few_changes most) = words.Changes
 condition_word clean_audit = words.Audit
 condition_word (only_findings kinds) = words.Audit
+condition_word (sweep kind within limit) = words.Sweep
 
 -- the words after that of the condition
 abbrev pub condition_rest : Expected → List Word
@@ -167,6 +180,7 @@ condition_rest (same router) = if_given router_text router
 condition_rest (few_changes most) = codes "<=" ∷ decimal most ∷ []
 condition_rest clean_audit = codes "clean" ∷ []
 condition_rest (only_findings kinds) = codes "only" ∷ map audit_kind_text kinds
+condition_rest (sweep kind within limit) = failure_kind_text kind ∷ (within_words within ++ limit_words limit)
 
 abbrev pub not_words : Bool → List Word
 not_words true = codes "not" ∷ []
@@ -195,6 +209,11 @@ AllowedInRange nothing = Unit
 AllowedInRange (at_most most) = most < 2 ^ 32
 AllowedInRange (only nets) = (0 < length nets) × AllByRecursion IsPrefix nets
 
+abbrev pub LimitInRange : FailureLimit → Type 0
+LimitInRange limit.NoneLost = Unit
+LimitInRange (limit.LostAtMost most) = most < 2 ^ 32
+LimitInRange limit.NoLoops = Unit
+
 -- each number of a condition is within the range of its type, and no list is empty
 abbrev pub IsExpectedInRange : Expected → Type 0
 IsExpectedInRange (route router net kind via cost) = (router.0 < 2 ^ 32) × IsPrefix net × NeighborsInRange via × BoundInRange cost
@@ -210,6 +229,7 @@ IsExpectedInRange (same router) = RouterInRange router
 IsExpectedInRange (few_changes most) = most < 2 ^ 32
 IsExpectedInRange clean_audit = Unit
 IsExpectedInRange (only_findings kinds) = 0 < length kinds
+IsExpectedInRange (sweep kind within limit) = AreaInRange within × LimitInRange limit
 
 -- ---- lines
 

@@ -1,8 +1,8 @@
 //! Expectations, and what they say.
 
-use lsa_codec::{Addr, Prefix, RouterId};
+use lsa_codec::{Addr, AreaId, Prefix, RouterId};
 use std::alloc::{Allocator, Global};
-use study_words::{AuditKind, Comparison, RouteKind};
+use study_words::{AuditKind, Comparison, FailureKind, RouteKind};
 
 /// A comparison with a number.
 #[derive(Clone, Copy, Debug, PartialEq, Eq)]
@@ -33,6 +33,17 @@ pub enum Allowed<A: Allocator = Global> {
     AtMost(u32),
     /// Those of these prefixes, of which there is one at least.
     Only(Vec<Prefix, A>),
+}
+
+/// What each single failure may do.
+#[derive(Clone, Copy, Debug, PartialEq, Eq)]
+pub enum FailureLimit {
+    /// `lost none`: no router loses a route to a prefix that is still announced.
+    NoneLost,
+    /// `lost <= NUMBER`: this number of such routes are lost, or fewer.
+    LostAtMost(u32),
+    /// `loops none`: there is no forwarding loop.
+    NoLoops,
 }
 
 /// What has to hold.
@@ -97,6 +108,16 @@ pub enum Condition<A: Allocator = Global> {
     /// `audit only KIND..`: each finding that makes answers wrong is of one of these kinds, of
     /// which there is one at least.
     OnlyFindings(Vec<AuditKind, A>),
+    /// `sweep KIND [within AREA]` and `lost none`, `lost <= NUMBER` or `loops none`: each failure
+    /// of the kind can be carried out, and does no more than that.
+    Sweep {
+        /// What fails.
+        kind: FailureKind,
+        /// The area that it is within, if one is given.
+        within: Option<AreaId>,
+        /// What each failure may do.
+        limit: FailureLimit,
+    },
 }
 
 /// `expect [not] CONDITION`.

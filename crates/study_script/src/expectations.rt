@@ -14,6 +14,7 @@ use crate::none_conditions::{microloops, none};
 use crate::pair_conditions::allowed;
 use crate::path_condition::path;
 use crate::route_conditions::{hops, no_route, route};
+use crate::sweep_condition::sweep;
 use network_names::Names;
 use std::alloc::Allocator;
 use study_arguments::{Fault, ParseError, Position, next};
@@ -49,6 +50,7 @@ fn condition_by<'a, A: Allocator + Copy>(
         ConditionWord::Same => Ok(same(names, line)?),
         ConditionWord::Changes => Ok(changes(names, line)?),
         ConditionWord::Audit => audit(alloc, names, line),
+        ConditionWord::Sweep => Ok(sweep(names, line)?),
     }
 }
 

@@ -18,6 +18,7 @@ mod line;
 mod plan_edits;
 mod plan_lines;
 mod questions;
+mod sweep_parts;
 
 // Reading expectations.
 mod audit_condition;
@@ -27,12 +28,13 @@ mod none_conditions;
 mod pair_conditions;
 mod path_condition;
 mod route_conditions;
+mod sweep_condition;
 
 // What holds of the definitions.
 mod laws;
 
 pub use command::StudyCommand;
-pub use condition::{Allowed, Bound, Condition, Expectation, Passing};
+pub use condition::{Allowed, Bound, Condition, Expectation, FailureLimit, Passing};
 pub use laws::{new_words_are_unknown_to_plans, plan_lines_mean_the_same, reads_what_is_said};
 pub use line::parse;
 pub use named_command::NamedCommand;

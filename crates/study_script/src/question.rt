@@ -46,13 +46,15 @@ pub enum Question {
     /// `microloops [COUNT]`: what may loop while routers change over the last edits; 1 where COUNT,
     /// which is 0 to 4294967295, is left out.
     Microloops(Option<u32>),
-    /// `sweep (links | networks | routers | all) [within AREA]`: what each single failure takes
-    /// away.
+    /// `sweep (links | networks | routers | all) [within AREA] [sort lost]`: what each single
+    /// failure takes away.
     Sweep {
         /// What fails.
         kind: FailureKind,
         /// The area that it is within, if one is given.
         within: Option<AreaId>,
+        /// Whether the failures that lose most stand first.
+        sorted: bool,
     },
     /// `audit [KIND]`: what the answers may not be trusted for, or each place of a kind.
     Audit(Option<AuditKind>),

@@ -4,26 +4,18 @@ ghost use Rattle.std.specs.Prelude.{◌≡◌};
 ghost use Rattle.network_names.specs.Names.{stands_for};
 ghost use Rattle.study_arguments.specs.Fault.{Is};
 ghost use Rattle.study_arguments.specs.Positions.{words_at};
-ghost use Rattle.study_script.specs.Questions.{has_second, question_of, sweep_of};
+ghost use Rattle.study_script.specs.Questions.{question_of, sweep_of};
 
 use crate::plan_lines::alone;
 use crate::question::Question;
+use crate::sweep_parts::{failures_part, sort_part};
 use network_names::Names;
 use std::alloc::Allocator;
-use study_arguments::{Fault, Limit, Position, first_word, one, one_or_two, optional, three, two};
+use study_arguments::{Fault, Position, one_or_two, optional, two};
 use study_words::SeeWord;
 
-/// Whether a command has more than one argument.
-fn has_second(line: Position<'_>) -> bool
-    ensures { result ≡ has_second (words_at line.entry) }
-{
-    match first_word(line.rest) {
-        Some(first) => first_word(first.rest).is_some(),
-        None => false,
-    }
-}
-
-/// What `sweep` and the words after it mean: a kind of failures, of all or within an area.
+/// What `sweep` and the words after it mean: a kind of failures, of all or within an area, as they
+/// come or those first that lose most.
 #[tactic(auto, unfolding(crate::specs::Questions::sweep_of))]
 fn sweep_line<'a, A: Allocator + Copy>(
     names: &Names<'_, A>,
@@ -31,14 +23,12 @@ fn sweep_line<'a, A: Allocator + Copy>(
 ) -> Result<Question, Fault<'a>>
     ensures { Is result (sweep_of (stands_for names.now) (words_at line.entry)) }
 {
-    if !has_second(line) {
-        let kind = one(names, line)?;
-        return Ok(Question::Sweep { kind, within: None });
-    }
-    let (kind, _, area): (_, Limit, _) = three(names, line)?;
+    let (kind, within, after) = failures_part(names, line)?;
+    let sorted = sort_part(after)?;
     Ok(Question::Sweep {
         kind,
-        within: Some(area),
+        within,
+        sorted,
     })
 }
 

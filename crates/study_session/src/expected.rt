@@ -101,6 +101,7 @@ fn judged_answer<A: Allocator + Copy>(
     match given {
         Judged::NoRouter => refused(branches, context, condition, ("N1", "NoRouter")),
         Judged::TooFewDone => refused(branches, context, condition, ("U1", "NothingToUndo")),
+        Judged::NoArea => refused(branches, context, condition, ("E1", "NoArea")),
         Judged::Held { members } => {
             let mut answer = Answer::held(context.alloc, context.branch)?;
             answer.text = document(context, "ok", members)?;

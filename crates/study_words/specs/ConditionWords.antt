@@ -12,7 +12,7 @@ condition_text w = written (condition w)
 abbrev pub condition_words : List ConditionWord
 condition_words =
     of.Route ∷ of.NoRoute ∷ of.Hops ∷ of.Path ∷ of.Lost ∷ of.Gone ∷ of.Loops ∷ of.Microloops ∷ of.Blackholes
-    ∷ of.Same ∷ of.Changes ∷ of.Audit ∷ []
+    ∷ of.Same ∷ of.Changes ∷ of.Audit ∷ of.Sweep ∷ []
 
 -- the one that a word is, if it is one
 abbrev pub condition_word_of : List ℕ → Option ConditionWord

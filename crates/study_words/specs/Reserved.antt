@@ -13,7 +13,7 @@ unfoldable pub is_particle : List ℕ → Bool
 is_particle word =
     bytes_eq word (codes "not") || bytes_eq word (codes "via") || bytes_eq word (codes "avoids") || bytes_eq word (codes "delivered")
     || bytes_eq word (codes "none") || bytes_eq word (codes "only") || bytes_eq word (codes "clean") || bytes_eq word (codes "both")
-    || bytes_eq word (codes "within")
+    || bytes_eq word (codes "within") || bytes_eq word (codes "sort")
 
 -- a word of the language
 unfoldable pub is_reserved : List ℕ → Bool

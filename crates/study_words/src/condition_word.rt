@@ -34,6 +34,9 @@ pub enum ConditionWord {
     Changes,
     /// `audit clean` or `only KIND..`: which findings that make answers wrong there are.
     Audit,
+    /// `sweep KIND [within AREA]` and `lost none`, `lost <= NUMBER` or `loops none`: what single
+    /// failures may do.
+    Sweep,
 }
 
 impl Word for ConditionWord {
@@ -57,6 +60,7 @@ impl Word for ConditionWord {
             ConditionWord::Same,
             ConditionWord::Changes,
             ConditionWord::Audit,
+            ConditionWord::Sweep,
         ]
     }
 
@@ -74,6 +78,7 @@ impl Word for ConditionWord {
             ConditionWord::Same => "same",
             ConditionWord::Changes => SeeWord::Changes.text(),
             ConditionWord::Audit => SeeWord::Audit.text(),
+            ConditionWord::Sweep => SeeWord::Sweep.text(),
         }
     }
 }

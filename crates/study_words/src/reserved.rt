@@ -26,11 +26,12 @@ fn is_particle(word: &[u8]) -> bool
         || word == b"clean".as_slice()
         || word == b"both".as_slice()
         || word == b"within".as_slice()
+        || word == b"sort".as_slice()
 }
 
 /// Whether a word is one of the language of studies: a command word, the word of a condition, of a
 /// kind of routes, of audit findings or of failures, a comparison, or `not`, `via`, `avoids`,
-/// `delivered`, `none`, `only`, `clean`, `both` or `within`.
+/// `delivered`, `none`, `only`, `clean`, `both`, `within` or `sort`.
 #[tactic(auto, unfolding(crate::specs::Reserved::is_reserved))]
 pub fn is_reserved(word: &[u8]) -> bool
     ensures { result ≡ is_reserved word.now }

@@ -1,3 +1,4 @@
 pub mod Failures
 pub mod Sweeps
+pub mod Orders
 pub mod Texts

@@ -6,7 +6,7 @@ ghost use Rattle.comparison.specs.Named.{all_changes};
 ghost use Rattle.sweep_report.specs.Sweeps.{AreCounts, IsLoopCount, compared};
 
 use change_lines::{ChangeGroup, Changes, count_of};
-use comparison::Comparison;
+use comparison::{Basis, Beside};
 use loop_report::LoopReport;
 use lsdb::Database;
 use spf::Meter;
@@ -28,50 +28,49 @@ pub struct FailureCounts {
     pub loops: usize,
 }
 
-/// What differs for all routers. The comparison is dropped before the loops are looked for.
+/// What differs for all routers.
 fn changes_between<A: Allocator + Copy>(
     alloc: A,
-    baseline: &Database<A>,
-    present: &Database<A>,
-    meter: &mut Meter,
+    baseline: &Basis<'_, A>,
+    present: &Basis<'_, A>,
 ) -> Result<Changes<A>, AllocError>
-    ensures { IfOk result (λ changes. changes
-        ≡ all_changes (compared (lists_of baseline.now) (lists_of present.now))) }
+    ensures { IfOk result
+        (λ changes. changes ≡ all_changes (compared baseline.now present.now)) }
 {
-    let both = Comparison::of(alloc, baseline, present, meter)?;
+    let both = Beside::of(baseline, present);
     both.changes(alloc)
 }
 
 /// The number of loops of a database.
 fn loop_count<A: Allocator + Copy>(
     alloc: A,
-    baseline: &Database<A>,
-    present: &Database<A>,
-    meter: &mut Meter,
+    baseline: &Basis<'_, A>,
+    present: &Basis<'_, A>,
 ) -> Result<usize, AllocError>
-    ensures { IfOk result (IsLoopCount (lists_of baseline.now) (lists_of present.now)) }
+    ensures { IfOk result (IsLoopCount baseline.now present.now) }
 {
-    let report = LoopReport::between(alloc, baseline, present, meter)?;
+    let report = LoopReport::of(alloc, baseline.forwarding(), present.forwarding())?;
     Ok(report.loops().len())
 }
 
 impl FailureCounts {
-    /// What a database has lost beside its baseline, and its loops. The meter counts the trees of
-    /// four tables for each router.
+    /// What a database has lost beside its baseline, and its loops. The meter counts the trees of a
+    /// table for each router: what is calculated of the baseline is given.
     ///
     /// # Errors
     ///
     /// Memory ran out.
     pub(crate) fn between<A: Allocator + Copy>(
         alloc: A,
-        baseline: &Database<A>,
+        baseline: &Basis<'_, A>,
         present: &Database<A>,
         meter: &mut Meter,
     ) -> Result<FailureCounts, AllocError>
-        ensures { IfOk result (AreCounts (lists_of baseline.now) (lists_of present.now)) }
+        ensures { IfOk result (AreCounts baseline.now (lists_of present.now)) }
     {
-        let changes = changes_between(alloc, baseline, present, meter)?;
-        let loops = loop_count(alloc, baseline, present, meter)?;
+        let now = Basis::of(alloc, present, meter)?;
+        let changes = changes_between(alloc, baseline, &now)?;
+        let loops = loop_count(alloc, baseline, &now)?;
         Ok(FailureCounts {
             lost: count_of(&changes.names, ChangeGroup::Lost),
             gone: count_of(&changes.names, ChangeGroup::Gone),

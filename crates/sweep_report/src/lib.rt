@@ -4,8 +4,8 @@
 //! each router. Each is an [`Edit`](edit_script::Edit), whose line carries it out. [`sweep`]
 //! answers for each what the database after that edit alone has lost, and how many loops it has,
 //! beside the database before it. [`lines_of`] does so for any edits, so that a sweep may be done
-//! in parts. [`push_totals`] adds how many lines have each effect; a line is a
-//! [`Line`](study_text::Line) of a reply.
+//! in parts. [`in_order`] has those first that lose most. [`push_totals`] adds how many lines have
+//! each effect; a line is a [`Line`](study_text::Line) of a reply.
 #![tactic(auto)]
 
 // The failures of each kind.
@@ -19,7 +19,8 @@ mod within;
 mod counts;
 mod outcome;
 
-// All failures of a kind.
+// All failures of a kind, and their order.
+mod order;
 mod sweeping;
 
 // Texts.
@@ -32,6 +33,7 @@ mod laws;
 pub use counts::FailureCounts;
 pub use kind::failures;
 pub use laws::{lines_are_determined, lines_join};
+pub use order::in_order;
 pub use outcome::{FailureLine, Outcome};
 pub use sweeping::{lines_of, sweep};
 pub use text::push_totals;

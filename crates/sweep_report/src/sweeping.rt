@@ -7,6 +7,7 @@ ghost use Rattle.sweep_report.specs.Sweeps.{AreLines};
 
 use crate::kind::failures;
 use crate::outcome::{FailureLine, outcome_of};
+use comparison::Basis;
 use edit_script::Edit;
 use lsa_codec::AreaId;
 use lsdb::Database;
@@ -15,9 +16,10 @@ use std::alloc::{AllocError, Allocator};
 use study_words::FailureKind;
 
 /// What each of some failures does to a database by itself, in their order. The meter counts the
-/// trees of four tables for each router and each failure that is not refused.
+/// trees of a table for each router, before all failures and after each one that is not refused.
 ///
-/// It takes the memory of one copy of the database, and of the tables of one failure at a time.
+/// It takes the memory of one copy of the database, of its tables, and of the tables of one failure
+/// at a time.
 ///
 /// # Errors
 ///
@@ -31,10 +33,11 @@ pub fn lines_of<A: Allocator + Copy>(
     ensures { IfOk result
         (λ lines. AreLines (lists_of database.now) edits.now lines.items) }
 {
+    let baseline = Basis::of(alloc, database, meter)?;
     let mut copy = database.clone_of()?;
     let mut lines = Vec::new(alloc);
     for edit in edits {
-        let outcome = outcome_of(alloc, database, &mut copy, *edit, meter)?;
+        let outcome = outcome_of(alloc, &baseline, &mut copy, *edit, meter)?;
         lines.push(FailureLine {
             edit: *edit,
             outcome,

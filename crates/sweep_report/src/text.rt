@@ -11,7 +11,7 @@ use edit_history::EditFault;
 use edit_script::{Edit, print};
 use network_names::Names;
 use std::alloc::{AllocError, Allocator};
-use study_text::{Line, push_number_after, push_word};
+use study_text::{Line, Shown, push_number_after, push_word};
 
 /// Adds an edit as `log` spells it.
 fn push_edit<A: Allocator + Copy>(text: &mut Vec<u8, A>, edit: &Edit) -> Result<(), AllocError>
@@ -61,6 +61,22 @@ fn push_outcome<A: Allocator + Copy>(
     }
 }
 
+impl Shown for FailureLine {
+    ghost use Rattle.sweep_report.specs.Texts.{failure_line};
+
+    ghost shown_as = { failure_line };
+
+    fn push_to<A: Allocator + Copy>(
+        &self,
+        text: &mut Vec<u8, A>,
+        _names: &Names<'_, A>,
+    ) -> Result<(), AllocError> {
+        push_edit(text, &self.edit)?;
+        push_word(text, ": ")?;
+        push_outcome(text, self.outcome)
+    }
+}
+
 impl Line for FailureLine {
     ghost use Rattle.sweep_report.specs.Texts.{failure_line};
 
@@ -69,11 +85,9 @@ impl Line for FailureLine {
     fn push_line<A: Allocator + Copy>(
         &self,
         text: &mut Vec<u8, A>,
-        _names: &Names<'_, A>,
+        names: &Names<'_, A>,
     ) -> Result<(), AllocError> {
-        push_edit(text, &self.edit)?;
-        push_word(text, ": ")?;
-        push_outcome(text, self.outcome)?;
+        self.push_to(text, names)?;
         push_word(text, "\n")
     }
 }

@@ -23,7 +23,7 @@ WRONG = {
     "a-fault-in-a-branch": '{"file":"-","line":1,"branch":0,"answer":"fault","code":"S2","name":"UnknownWord","at":"x","hint":"y"}',
     "a-refusal-without-a-hint": '{"file":"-","line":1,"branch":0,"word":"undo","answer":"refused","code":"U1","name":"NothingToUndo","at":"1","hint":null}',
     "another-kind": '{"file":"-","line":1,"branch":0,"word":"audit","answer":"reply","kind":"clean","class":"note","places":[]}',
-    "a-failure-without-an-outcome": '{"file":"-","line":1,"branch":0,"word":"sweep","answer":"reply","kind":"all","within":null,'
+    "a-failure-without-an-outcome": '{"file":"-","line":1,"branch":0,"word":"sweep","answer":"reply","kind":"all","within":null,"sort":null,'
                                     '"failures":[{"edit":"fail 1.1.1.1","counts":null,"refused":null}]}',
 }
 

@@ -138,10 +138,21 @@ const QUESTIONS: &[(&str, &str)] = &[
     ("loops", "0 See(Loops)"),
     ("microloops", "0 See(Microloops(None))"),
     ("microloops 2", "0 See(Microloops(Some(2)))"),
-    ("sweep links", "0 See(Sweep { kind: Links, within: None })"),
+    (
+        "sweep links",
+        "0 See(Sweep { kind: Links, within: None, sorted: false })",
+    ),
     (
         "@1 sweep all within 0.0.0.1",
-        "1 See(Sweep { kind: All, within: Some(AreaId(1)) })",
+        "1 See(Sweep { kind: All, within: Some(AreaId(1)), sorted: false })",
+    ),
+    (
+        "sweep routers sort lost",
+        "0 See(Sweep { kind: Routers, within: None, sorted: true })",
+    ),
+    (
+        "sweep networks within 0.0.0.2 sort lost",
+        "0 See(Sweep { kind: Networks, within: Some(AreaId(2)), sorted: true })",
     ),
     ("audit", "0 See(Audit(None))"),
     ("audit area-kind", "0 See(Audit(Some(AreaKind)))"),

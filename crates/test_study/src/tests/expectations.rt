@@ -59,6 +59,18 @@ const CONDITIONS: &[(&str, &str)] = &[
     ("changes <= 0", "AtMostChanges(0)"),
     ("audit clean", "CleanAudit"),
     ("audit only nssa rfc1583", "OnlyFindings([Nssa, Rfc1583])"),
+    (
+        "sweep links lost none",
+        "Sweep { kind: Links, within: None, limit: NoneLost }",
+    ),
+    (
+        "sweep all within 0.0.0.1 lost <= 4",
+        "Sweep { kind: All, within: Some(AreaId(1)), limit: LostAtMost(4) }",
+    ),
+    (
+        "sweep routers loops none",
+        "Sweep { kind: Routers, within: None, limit: NoLoops }",
+    ),
 ];
 
 #[test]

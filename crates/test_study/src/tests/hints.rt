@@ -155,15 +155,42 @@ const LINES: &[(&str, &str)] = &[
         "sweep nets in r1",
         "script S9 BadWord nets (one of links networks routers all)",
     ),
-    ("sweep all in r1", "script S9 BadWord in (within)"),
+    ("sweep all in r1", "script S9 BadWord in (one of within sort)"),
     (
         "sweep all within r1",
         "script S6 BadAddress r1 (an address is four numbers, 0 to 255)",
     ),
     (
         "sweep all within",
-        "script S3 MissingWord sweep (sweep (links | networks | routers | all) [within AREA])",
+        "script S3 MissingWord within (sweep (links | networks | routers | all) [within AREA] \
+[sort lost])",
     ),
+    ("sweep all sort gone", "script S9 BadWord gone (lost)"),
+    (
+        "sweep all within 0.0.0.1 by lost",
+        "script S9 BadWord by (sort)",
+    ),
+    (
+        "expect sweep nets",
+        "script S9 BadWord nets (one of links networks routers all)",
+    ),
+    (
+        "expect sweep all in r1",
+        "script S9 BadWord in (one of within lost loops)",
+    ),
+    (
+        "expect sweep all within r1 lost none",
+        "script S6 BadAddress r1 (an address is four numbers, 0 to 255)",
+    ),
+    (
+        "expect sweep all within 0.0.0.1 gone none",
+        "script S9 BadWord gone (one of lost loops)",
+    ),
+    (
+        "expect sweep all lost only 10.0.0.0/8",
+        "script S9 BadWord only (one of none <=)",
+    ),
+    ("expect sweep all loops <= 1", "script S9 BadWord <= (none)"),
     ("audit nasa", "script S9 BadWord nasa (did you mean nssa)"),
     ("audit 1", "script S9 BadWord 1 (see help)"),
     (

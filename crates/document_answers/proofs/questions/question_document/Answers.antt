@@ -126,5 +126,5 @@ pub returns-in-Sweep-clause-document : goal.returns-in-Sweep-clause-document
 unfolding IsQuestionDocument
 returns-in-Sweep-clause-document g c =
     by_database (called c.args.names.now) (lists_of c.args.baseline.now) (λ given. documented given) c.sweep_document.result
-    (λ db d. IsSweepDocument db c.in-Sweep.kind c.in-Sweep.within d) c.in-Sweep.is c.database-now.ensures.state
+    (λ db d. IsSweepDocument db c.in-Sweep.kind c.in-Sweep.within c.in-Sweep.sorted d) c.in-Sweep.is c.database-now.ensures.state
     (c.planner-planner.ensures ∙ ap (λ (all : Sessions). all c.args.branch) c.in_ok-prepare.ensures.kept) (λ d is. is) c.sweep_document.ensures

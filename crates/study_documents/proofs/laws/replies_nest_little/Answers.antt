@@ -1,4 +1,5 @@
-use Rattle.std.proofs.Common.{arith}
+use Rattle.std.proofs.Common.{◌≤◌, Bool, true, false, arith}
+use Rattle.json.specs.Tree.{depth}
 use Rattle.study_json.specs.Changes.{change_json, pair_json}
 use Rattle.study_json.specs.Failures.{failure_json}
 use Rattle.study_json.specs.Leaves.{address_json, area_json, array_json, router_json}
@@ -10,6 +11,7 @@ use Rattle.study_json.specs.Routes.{route_json}
 use Rattle.study_json.specs.Steps.{end_json, step_json}
 use Rattle.study_json.specs.Tables.{table_json, table_route_json}
 use Rattle.study_documents.specs.Compared.{route_change_json}
+use Rattle.study_documents.specs.Replies.{sort_json}
 use Rattle.study_documents.proofs.NestingLemmas.{array_shallow, option_shallow}
 use Rattle.study_documents.proofs.Nesting.{blackhole_shallow, change_shallow, counts_shallow, failure_shallow, link_shallow, loop_shallow, network_shallow, pair_shallow, route_change_shallow, route_shallow, router_shallow, step_shallow, table_route_shallow, table_shallow}
 use Rattle.study_documents.proofs.laws.replies_nest_little.Goals as goal
@@ -57,9 +59,18 @@ returns-clause-loops c loops blackholes =
 pub returns-clause-microloops : goal.returns-clause-microloops
 returns-clause-microloops c count loops = omega (arith, array_shallow loop_json 2 loop_shallow loops)
 
+sort_shallow : (sorted : Bool) → depth (sort_json sorted) ≤ 0
+sort_shallow false = omega arith
+sort_shallow true = omega arith
+
 pub returns-clause-failures : goal.returns-clause-failures
-returns-clause-failures c kind within lines =
-    omega (arith, option_shallow area_json 0 (λ a. omega arith) within, array_shallow failure_json 2 failure_shallow lines)
+returns-clause-failures c kind within sorted lines =
+    omega (
+      arith,
+      option_shallow area_json 0 (λ a. omega arith) within,
+      sort_shallow sorted,
+      array_shallow failure_json 2 failure_shallow lines,
+    )
 
 pub returns-clause-table : goal.returns-clause-table
 returns-clause-table c table = omega (arith, array_shallow table_route_json 2 table_route_shallow table.routes)

@@ -16,6 +16,7 @@ use Rattle.study_expectations.specs.AuditVerdicts.{clean_verdict, listed_verdict
 use Rattle.study_expectations.specs.ChangeVerdicts.{few_verdict, pairs_verdict, same_verdict}
 use Rattle.study_expectations.specs.Expectations.{IsVerdict}
 use Rattle.study_expectations.specs.LoopVerdicts.{IsBlackholesVerdict, IsLoopsVerdict, IsMicroloopsVerdict}
+use Rattle.study_expectations.specs.SweepVerdicts.{IsSweepVerdict}
 use Rattle.study_expectations.specs.Verdicts.{VerdictValue}
 use Rattle.study_expectations.specs.steps.Conditions.{IsOfRoutes}
 use Rattle.study_expectations.specs.steps.Verdicts.{verdict_of}
@@ -102,3 +103,9 @@ returns-in-OnlyFindings-clause-verdict g c =
     (ap (λ (all : Sessions). all branch) c.in_ok-prepare.ensures.kept) (λ verdict is. is)
     (subst (λ (kinds : List AuditKind). IfOk c.only_findings.result (λ v. verdict_of v ≡ listed_verdict prepared.base (state prepared) kinds))
     c.as_slice.ensures.value c.only_findings.ensures.verdict)
+
+pub returns-in-Sweep-clause-verdict : goal.returns-in-Sweep-clause-verdict
+unfolding IsVerdict
+returns-in-Sweep-clause-verdict g c = found_in (called c.args.names.now) (lists_of c.args.baseline.now) (sessions_of c.args.branches.now c.args.branch)
+    c.sweep.result (λ called baseline db verdict. IsSweepVerdict called db c.in-Sweep.kind c.in-Sweep.within c.in-Sweep.limit verdict) c.in-Sweep.is
+    (state_of c.args.branch c.database-now.ensures.state c.planner.ensures c.in_ok-prepare.ensures.kept) (λ verdict is. is) c.sweep.ensures

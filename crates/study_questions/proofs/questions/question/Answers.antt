@@ -93,7 +93,7 @@ returns-in-Microloops-clause-answer g c =
 pub returns-in-Sweep-clause-answer : goal.returns-in-Sweep-clause-answer
 unfolding IsQuestionAnswer
 returns-in-Sweep-clause-answer g c = by_database (called c.args.names.now) (lists_of c.args.baseline.now) c.args.branch
-    c.sweep_answer.result (λ called branch db answer. IsSweepAnswer called branch db c.in-Sweep.kind c.in-Sweep.within answer)
+    c.sweep_answer.result (λ called branch db answer. IsSweepAnswer called branch db c.in-Sweep.kind c.in-Sweep.within c.in-Sweep.sorted answer)
     c.in-Sweep.is c.database-now.ensures.state c.planner-planner.ensures c.in_ok-prepare.ensures.kept (λ answer is. is) c.sweep_answer.ensures
 
 pub returns-in-Audit-clause-answer : goal.returns-in-Audit-clause-answer

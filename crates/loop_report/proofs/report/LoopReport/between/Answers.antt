@@ -1,16 +1,11 @@
-use Rattle.std.proofs.Common.{◌∙◌}
+use Rattle.std.proofs.lemmas.Result.{IfOk-weaker}
 use Rattle.lsdb.specs.Slots.{lists_of}
-use Rattle.loop_report.specs.Blackholes.{AreNewBlackholes}
-use Rattle.loop_report.specs.Loops.{AreLoopsNow}
-use Rattle.loop_report.proofs.Parted.{at_all}
 use Rattle.loop_report.proofs.report.LoopReport.between.Goals as goal
 
 pub returns-clause-loops : goal.returns-clause-loops
-returns-clause-loops g c =
-    at_all c.at_atoms.result (λ report. report.loops) AreLoopsNow (lists_of c.args.baseline.now) (lists_of c.args.now.now) c.in_ok-compared.compared
-    c.deref.result.now (c.deref.ensures.value ∙ c.in_ok-nets.ensures) c.in_ok-compared.ensures c.at_atoms.ensures.loops
+returns-clause-loops g c = IfOk-weaker c.of.result _ _
+    (λ report are. are (lists_of c.args.baseline.now) (lists_of c.args.now.now) c.in_ok-was.ensures c.in_ok-present.ensures) c.of.ensures.loops
 
 pub returns-clause-blackholes : goal.returns-clause-blackholes
-returns-clause-blackholes g c =
-    at_all c.at_atoms.result (λ report. report.blackholes) AreNewBlackholes (lists_of c.args.baseline.now) (lists_of c.args.now.now)
-    c.in_ok-compared.compared c.deref.result.now (c.deref.ensures.value ∙ c.in_ok-nets.ensures) c.in_ok-compared.ensures c.at_atoms.ensures.blackholes
+returns-clause-blackholes g c = IfOk-weaker c.of.result _ _
+    (λ report are. are (lists_of c.args.baseline.now) (lists_of c.args.now.now) c.in_ok-was.ensures c.in_ok-present.ensures) c.of.ensures.blackholes
