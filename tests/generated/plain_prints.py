@@ -479,6 +479,11 @@ def row_in(line: list[bytes], kind: int | None) -> bytes:
             + summed.to_bytes(2, "big"))
 
 
+def no_list(file: bytes) -> Refused:
+    """What is wrong with a file that is no list."""
+    return Refused("Compressed" if file[:2] == b"\x1f\x8b" else "NotAList")
+
+
 class PrintedList:
     """A list: its headers, each with its area, and its lines of what cannot be read. Raises `Refused`."""
 
@@ -488,7 +493,7 @@ class PrintedList:
         self.unreadable, is_list, heading = 0, False, None
         for line in ([word for word in BLANKS.split(line) if word] for line in file.split(b"\n")):
             if Text(line).begins(b"LS age:"):
-                raise Refused("NotAList")
+                raise no_list(file)
             if not line or any(Text(line).begins(columns) for columns in COLUMNS):
                 continue
             try:
@@ -497,7 +502,7 @@ class PrintedList:
             except Unreadable:
                 heading = self.other_line(line, heading)
         if not is_list:
-            raise Refused("NotAList")
+            raise no_list(file)
 
     def other_line(self, line: list[bytes], heading: Heading | None) -> Heading | None:
         """A line that is not a known heading; answers the heading of the next line."""
