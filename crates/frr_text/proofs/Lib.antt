@@ -1,6 +1,7 @@
 pub mod Reading
 pub mod ParsedParts
 pub mod Rows
+pub mod Domains
 pub mod PrintedNumbers
 pub mod PrintedLabels
 pub mod PrintedFields
