@@ -2,7 +2,7 @@ pub mod Reading
 pub mod ParsedParts
 pub mod Rows
 pub mod Domains
-pub mod PrintedNumbers
+pub mod PrintedNumberLemmas
 pub mod PrintedLabels
 pub mod PrintedFields
 pub mod PrintedBodies
