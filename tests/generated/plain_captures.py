@@ -52,6 +52,8 @@ class Contents:
     headers: list[Observation] = dataclasses.field(default_factory=list)
     kinds: list[tuple[int, str]] = dataclasses.field(default_factory=list)
     findings: list[str] = dataclasses.field(default_factory=list)
+    # Packets or headings of other routing domains.
+    others: int = 0
 
     def line(self) -> str:
         """What standard output has after the name of the file."""
@@ -125,13 +127,22 @@ def pcap(file: bytes) -> tuple[list[Frame], int]:
     return frames, at
 
 
+def moment_of(stamp: int, units: int | None, offset: int | None) -> int | None:
+    """A time stamp in nanoseconds since 1970, where it is known, and has 64 bits before and after the offset is added."""
+    if not units or offset is None:
+        return None
+    moment = stamp * SECOND // units
+    shifted = moment + offset * SECOND
+    return shifted if moment < 2 ** 64 and 0 <= shifted < 2 ** 64 else None
+
+
 class Pcapng:
     """A pcapng file, and how far it is read."""
 
     def __init__(self, file: bytes):
         self.file, self.at, self.order = file, 0, "big"
-        # Each with its link type, its snap length, and its units in a second.
-        self.interfaces: list[tuple[int, int, int | None]] = []
+        # Each with its link type, its snap length, its units in a second, and the seconds that are added to time stamps.
+        self.interfaces: list[tuple[int, int, int | None, int | None]] = []
         self.frames: list[Frame] = []
 
     def number(self, data: bytes) -> int:
@@ -182,8 +193,6 @@ class Pcapng:
     def units(self, options: bytes) -> int | None:
         """The units in a second, where time stamps have a known unit."""
         resolution = self.option(options, 9)
-        if self.option(options, 14) is not None:
-            return None
         if resolution is None:
             return 1_000_000
         if len(resolution) != 1:
@@ -192,29 +201,45 @@ class Pcapng:
         units = 2 ** (byte - 128) if byte >= 128 else 10 ** byte
         return units if units < 2 ** 64 else None
 
+    def offset(self, options: bytes) -> int | None:
+        """The seconds that are added to time stamps, where they are known."""
+        value = self.option(options, 14)
+        if value is None:
+            return 0
+        return int.from_bytes(value, self.order, signed=True) if len(value) == 8 else None
+
     def interface(self, block: bytes) -> None:
         if len(block) < 20:
             self.refuse("BlockLength")
-        self.interfaces.append((self.number(block[8:10]), self.number(block[12:16]), self.units(block[16:-4])))
+        link, snap, options = self.number(block[8:10]), self.number(block[12:16]), block[16:-4]
+        self.interfaces.append((link, snap, self.units(options), self.offset(options)))
 
     def enhanced(self, block: bytes) -> None:
+        self.packet(block, 4)
+
+    def earlier(self, block: bytes) -> None:
+        self.packet(block, 2)
+
+    def packet(self, block: bytes, size: int) -> None:
+        """A packet block, in which an interface has this number of bytes."""
         if len(block) < 32:
             self.refuse("BlockLength")
-        index, upper, lower, captured, original = (self.number(block[at:at + 4]) for at in range(8, 28, 4))
+        index = self.number(block[8:8 + size])
+        upper, lower, captured, original = (self.number(block[at:at + 4]) for at in range(12, 28, 4))
         if index >= len(self.interfaces):
             self.refuse("NoInterface")
         if captured > original or 32 + captured > len(block):
             self.refuse("CapturedLength")
-        link, _, units = self.interfaces[index]
-        seen = (upper * 2 ** 32 + lower) * SECOND // units if units else 2 ** 64
-        self.frames.append(Frame(link, seen if seen < 2 ** 64 else None, block[28:28 + captured], original))
+        link, _, units, offset = self.interfaces[index]
+        seen = moment_of(upper * 2 ** 32 + lower, units, offset)
+        self.frames.append(Frame(link, seen, block[28:28 + captured], original))
 
     def simple(self, block: bytes) -> None:
         if len(block) < 16:
             self.refuse("BlockLength")
         if not self.interfaces:
             self.refuse("NoInterface")
-        link, snap, _ = self.interfaces[0]
+        link, snap, *_ = self.interfaces[0]
         original = self.number(block[8:12])
         captured = min(original, snap) if snap else original
         if 16 + captured > len(block):
@@ -223,7 +248,7 @@ class Pcapng:
 
     def read(self) -> tuple[list[Frame], int]:
         """The frames, and the offset of what is no whole block."""
-        readers = {1: self.interface, 3: self.simple, 6: self.enhanced, number(SECTION_HEADER): self.section}
+        readers = {1: self.interface, 2: self.earlier, 3: self.simple, 6: self.enhanced, number(SECTION_HEADER): self.section}
         while (block := self.block()) is not None:
             reader = readers.get(self.number(block[:4]))
             if reader:
@@ -383,9 +408,10 @@ class Capture:
         if length < 24 or (whole and length > len(payload)):
             raise FrameWarning("BadLength")
         whole, data = length <= len(payload), payload[:length]
-        if whole and number(data[14:16]) < 2 and (word_sum(data[:16]) + word_sum(data[24:])) % 65535:
+        if whole and data[15] < 2 and (word_sum(data[:16]) + word_sum(data[24:])) % 65535:
             raise FrameWarning("BadChecksum")
         lack = "BadLength" if whole else "Truncated"
+        self.contents.others += data[14] != 0
         if data[1] == 1:
             self.hello(data, lack)
         elif data[1] == 4:
@@ -438,6 +464,8 @@ def contents_of_capture(file: bytes) -> Contents:
     contents = Capture(frames).read()
     if end != len(file):
         contents.findings.append(f"Cut at {end}")
+    if contents.others:
+        contents.findings.append(f"OtherDomain {contents.others}")
     return contents
 
 

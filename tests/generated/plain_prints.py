@@ -213,12 +213,20 @@ class PrintReading:
         else:
             self.found.observations.append(Observation(scope(header.kind, area), None, made))
 
+    def heading(self, area: int, kind: str | None) -> None:
+        if kind is None:
+            self.found.findings.append(f"Kind area {address(area)}")
+        else:
+            self.found.kinds.append((area, kind))
+
     def read(self) -> Contents:
         if self.unreadable:
             self.found.findings.append(f"Unreadable {self.unreadable}")
         self.found.findings += [f"{feature} {count}" for feature, count in self.left_out.items() if count]
         if self.rows:
             self.found.findings.append(f"List {self.rows} (use --against)")
+        if self.found.others:
+            self.found.findings.append(f"OtherDomain {self.found.others}")
         return self.found
 
 
@@ -237,18 +245,25 @@ def is_row(words: list[bytes]) -> bool:
     return True
 
 
+def mark_in(text: Text) -> str | None:
+    """The kind of an area that a mark shows, if it is known."""
+    return "stub" if text.begins(b"[Stub])") else "nssa" if text.begins(b"[NSSA])") else None
+
+
 def read_text(file: bytes) -> Contents:
     """What a router prints as a text."""
-    found, reading, area = [word for word in BLANKS.split(file) if word], PrintReading("printed"), None
+    found, reading, area, first = [word for word in BLANKS.split(file) if word], PrintReading("printed"), None, None
     for at in range(len(found)):
         text = Text(found, at)
         reading.rows += is_row(found[at:at + 5])
+        if found[at:at + 2] in ([b"VRF", b"Name:"], [b"OSPF", b"Instance:"]) and at + 2 < len(found):
+            first = first or found[at + 2]
+            reading.found.others += found[at + 2] != first
         if text.begins(b"(Area") and at + 1 < len(found):
             try:
                 area = number(four_bytes(found[at + 1].partition(b")")[0]))
                 text.at += 2
-                kind = "stub" if text.begins(b"[Stub])") else "nssa" if text.begins(b"[NSSA])") else "ordinary"
-                reading.found.kinds.append((area, kind))
+                reading.heading(area, "ordinary" if b")" in found[at + 1] else mark_in(text))
             except Unreadable:
                 area = None
         elif text.begins(b"LS age:"):
@@ -479,6 +494,11 @@ def row_in(line: list[bytes], kind: int | None) -> bytes:
             + summed.to_bytes(2, "big"))
 
 
+def no_list(file: bytes) -> Refused:
+    """What is wrong with a file that is no list."""
+    return Refused("Compressed" if file[:2] == b"\x1f\x8b" else "NotAList")
+
+
 class PrintedList:
     """A list: its headers, each with its area, and its lines of what cannot be read. Raises `Refused`."""
 
@@ -488,7 +508,7 @@ class PrintedList:
         self.unreadable, is_list, heading = 0, False, None
         for line in ([word for word in BLANKS.split(line) if word] for line in file.split(b"\n")):
             if Text(line).begins(b"LS age:"):
-                raise Refused("NotAList")
+                raise no_list(file)
             if not line or any(Text(line).begins(columns) for columns in COLUMNS):
                 continue
             try:
@@ -497,7 +517,7 @@ class PrintedList:
             except Unreadable:
                 heading = self.other_line(line, heading)
         if not is_list:
-            raise Refused("NotAList")
+            raise no_list(file)
 
     def other_line(self, line: list[bytes], heading: Heading | None) -> Heading | None:
         """A line that is not a known heading; answers the heading of the next line."""

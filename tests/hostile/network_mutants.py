@@ -53,7 +53,7 @@ def some(chance: random.Random, lsas: list[bytes]) -> list[bytes]:
 
 def packet(chance: random.Random, lsas: list[bytes]) -> bytes:
     """A packet with some of the LSAs or their headers, and some that are changed."""
-    area, auth = chance.choice([0, 0, 0, 1, 1, 2, 0xFFFFFFFF]), chance.choice([0, 0, 0, 1, 2])
+    area, auth = chance.choice([0, 0, 0, 1, 1, 2, 0xFFFFFFFF]), chance.choice([0, 0, 0, 0, 1, 2, 0x100, 0x101])
     found = [changed_lsa(chance, lsa, identifiers(lsas), chance.random() < 0.8) if chance.random() < 0.3 else lsa
              for lsa in some(chance, lsas)]
     found = [make.aged(lsa, chance.choice([0, 1, 3599, 3600, 0x8001, 0x8E10])) if chance.random() < 0.3 else lsa
@@ -106,7 +106,8 @@ def pcapng(chance: random.Random, frames: list[bytes], link: int, order: str) ->
 
     made = make.block(0x0A0D0D0A, numbers("IHHQ", 0x1A2B3C4D, 1, 0, 2 ** 64 - 1), order)
     options = [b"", numbers("HH", 9, 1) + bytes([chance.choice([6, 9, 0, 3, 128, 138, 191, 20])]) + b"\0\0\0",
-               numbers("HH", 14, 8) + bytes(8), numbers("HH", 2, 3) + b"en0\0", numbers("HH", 9, 2) + b"\6\0\0\0",
+               numbers("HHQ", 14, 8, chance.choice([0, 1, 2 ** 63, 2 ** 64 - 1700000000, *LIMITS])),
+               numbers("HHI", 14, 4, 1), numbers("HH", 2, 3) + b"en0\0", numbers("HH", 9, 2) + b"\6\0\0\0",
                numbers("HH", 0, 0), numbers("HH", 2, chance.choice(LIMITS))]
     for _ in range(chance.choice([0, 1, 1, 1, 2])):
         body = numbers("HHI", link, 0, chance.choice([0, 0, 64, 262144]))
@@ -115,8 +116,13 @@ def pcapng(chance: random.Random, frames: list[bytes], link: int, order: str) ->
         kind = chance.random()
         moment = (1700000000 + second) * 1000000 if kind < 0.9 else chance.choice(LIMITS) << 32
         kept = frame[:chance.randrange(len(frame) + 1)] if chance.random() < 0.05 else frame
-        head = numbers("IIIII", chance.choice([0, 0, 0, 0, 0, 1]), moment >> 32, moment, len(kept), len(frame))
-        made += make.block(6, head + kept, order) if kind < 0.8 else make.block(3, numbers("I", len(frame)) + frame, order)
+        which, head = chance.choice([0, 0, 0, 0, 0, 1]), numbers("IIII", moment >> 32, moment, len(kept), len(frame))
+        if kind < 0.7:
+            made += make.block(6, numbers("I", which) + head + kept, order)
+        elif kind < 0.8:
+            made += make.block(2, numbers("HH", which, chance.choice([0, 7])) + head + kept, order)
+        else:
+            made += make.block(3, numbers("I", len(frame)) + frame, order)
         if kind > 0.97:
             made += make.block(chance.choice([2, 4, 5, 0x0A0D0D0A]), bytes(20), order)
     return made
@@ -301,8 +307,10 @@ def placed(chance: random.Random, lsas: list[bytes]) -> list[tuple[int, bytes]]:
 def text_print(chance: random.Random, lsas: list[bytes]) -> bytes:
     """A text of headings and LSAs."""
     made, found = "\n       OSPF Router with ID (1.1.1.1)\n\n", placed(chance, lsas)
-    stubs = {area: chance.choice(["", "", " [Stub]", " [NSSA]"]) for area in (1, 2)}
+    stubs = {area: chance.choice(["", "", "", " [Stub]", " [Stub]", " [NSSA]", " [Stub", " [Other]"]) for area in (1, 2)}
     for area, lsa in found:
+        if chance.random() < 0.1:
+            made += chance.choice(["VRF Name: default\n", "VRF Name: red\n", "OSPF Instance: 1\n"])
         if lsa[3] == 5:
             made += "\n                AS External Link States \n\n"
         else:

@@ -69,7 +69,8 @@ class Call:
         try:
             texts = library.capture(self.given(self.names), self.given(self.lists), keep_flushed=self.keeps)
         except errors.FileRefused as error:
-            unpacking = f" (zcat {error.file} | ospf-capture -)" if error.name == "Compressed" else ""
+            piped = "--against - .." if error.file in self.lists else "-"
+            unpacking = f" (zcat {error.file} | ospf-capture {piped})" if error.name == "Compressed" else ""
             return {"status": 3, "stdout": b"", "stderr": f"{error}{unpacking}\n".encode(), "out": b""}
         except errors.FilesRefused as error:
             return {"status": 3, "stdout": b"", "stderr": f"dump: {error.name}\n".encode(), "out": b""}

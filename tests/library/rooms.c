@@ -398,6 +398,7 @@ static void check_captures(void)
     captures("an empty file", "", NULL, OSPF_REFUSED, "", "a: UnknownKind at 0\n");
     captures("a compressed file", "\x1f\x8b", NULL, OSPF_REFUSED, "", "a: Compressed (zcat a | ospf-capture -)\n");
     captures("no list", WALK_KIND, WALK_KIND, OSPF_REFUSED, "", "l: NotAList\n");
+    captures("a compressed list", WALK_KIND, "\x1f\x8b", OSPF_REFUSED, "", "l: Compressed (zcat l | ospf-capture --against - ..)\n");
     captures("no list, before a text of no kind", "What is this?\n", "", OSPF_REFUSED, "", "l: NotAList\n");
     char areas[65 * 64] = "";
     for (unsigned area = 0; area < 65; area++) {

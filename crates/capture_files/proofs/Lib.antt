@@ -1,3 +1,4 @@
 mod BlockWalk
 mod OptionWalk
 mod Records
+pub mod Written

@@ -52,18 +52,38 @@ abbrev pub resolution_of : Option (List ℕ) → Option ℕ
 resolution_of None = Some 1000000
 resolution_of (Some value) = if length value == 1 then units_of (slice_index value 0) else None
 
--- time stamps that are shifted by if_tsoffset are not read
-abbrev pub parsed_units : Option (List ℕ) → Option (List ℕ) → Option ℕ
-parsed_units None resolution = resolution_of resolution
-parsed_units (Some offset) resolution = None
-
 abbrev pub units_in : Order → List ℕ → Option ℕ
-units_in order options = parsed_units (option_of order 14 options) (option_of order 9 options)
+units_in order options = resolution_of (option_of order 9 options)
+
+-- how many seconds later than its time stamp a packet was seen, by the option if_tsoffset: a number of 64 bits, where those
+-- from 2 ^ 63 on are negative, in two's complement
+abbrev pub seconds_of : Order → Option (List ℕ) → Option ℕ
+seconds_of order None = Some 0
+seconds_of order (Some value) = if length value == 8 then Some (number_at order 8 0 value) else None
+
+abbrev pub seconds_in : Order → List ℕ → Option ℕ
+seconds_in order options = seconds_of order (option_of order 14 options)
 
 -- nanoseconds since 1970, of a time stamp in these units
 abbrev pub moment_of : Option ℕ → ℕ → Option ℕ
 moment_of None stamp = None
 moment_of (Some units) stamp = if units == 0 then None else if_small (stamp * 1000000000 / units)
+
+-- a moment in nanoseconds, this number of seconds later
+abbrev pub shifted : ℕ → ℕ → Option ℕ
+shifted seconds moment =
+    if nat_lt seconds (2 ^ 63) then if_small (moment + seconds * 1000000000)
+    else if nat_lt moment ((2 ^ 64 - seconds) * 1000000000) then None
+    else if_small (moment - (2 ^ 64 - seconds) * 1000000000)
+
+abbrev pub shifted_by : Option ℕ → Option ℕ → Option ℕ
+shifted_by (Some seconds) (Some moment) = shifted seconds moment
+shifted_by (Some seconds) None = None
+shifted_by None moment = None
+
+-- when a packet was seen whose block has this time stamp
+abbrev pub seen_at : Interface → ℕ → Option ℕ
+seen_at i stamp = shifted_by i.seconds (moment_of i.units stamp)
 
 abbrev pub options_of : BlockText → List ℕ
 options_of block = drop 16 (take (length block.bytes - 4) block.bytes)
@@ -74,4 +94,5 @@ interface_of block = record {
   link = record { 0 = number_at block.order 2 8 block.bytes };
   snap = number_at block.order 4 12 block.bytes;
   units = units_in block.order (options_of block);
+  seconds = seconds_in block.order (options_of block);
 }

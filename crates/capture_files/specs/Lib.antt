@@ -6,4 +6,5 @@ pub mod Interfaces
 pub mod Parts
 pub mod Pcapng
 pub mod Captures
+pub mod Writing
 pub mod steps

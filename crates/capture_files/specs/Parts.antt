@@ -6,7 +6,7 @@ use Rattle.capture_files.specs.declared.interface.Interface.{Interface}
 use Rattle.capture_files.specs.Fields.{number_at}
 use Rattle.capture_files.specs.CaptureTexts.{Packet}
 use Rattle.capture_files.specs.Blocks.{BlockText, kind_of, section_header}
-use Rattle.capture_files.specs.Interfaces.{moment_of, interface_of}
+use Rattle.capture_files.specs.Interfaces.{seen_at, interface_of}
 
 -- a new section, an interface of it, a packet, or something else
 pub data Content : Type 0 where
@@ -37,7 +37,7 @@ stamp_of block = field 4 12 block * 4294967296 + field 4 16 block
 abbrev pub enhanced_packet : Interface → BlockText → Packet
 enhanced_packet i block = record {
   link = i.link;
-  seen = moment_of i.units (stamp_of block);
+  seen = seen_at i (stamp_of block);
   bytes = take (field 4 20 block) (drop 28 block.bytes);
   original = field 4 24 block;
 }
@@ -53,6 +53,12 @@ abbrev pub parsed_enhanced : List Interface → BlockText → Result Content Fla
 parsed_enhanced interfaces block =
     if nat_lt (length block.bytes) 32 then Err BlockLength
     else enhanced_on (slice_get interfaces (field 4 8 block)) block
+
+-- the packet block of earlier versions (draft-ietf-opsawg-pcapng, A): the same, but that the interface has two bytes
+abbrev pub parsed_earlier : List Interface → BlockText → Result Content Flaw
+parsed_earlier interfaces block =
+    if nat_lt (length block.bytes) 32 then Err BlockLength
+    else enhanced_on (slice_get interfaces (field 2 8 block)) block
 
 -- 4.4: the number of bytes that there were, and no more than the first interface captures
 abbrev pub simple_captured : Interface → BlockText → ℕ
@@ -83,4 +89,5 @@ parsed_by interfaces block =
     else if kind_of block == 1 then parsed_interface block
     else if kind_of block == 6 then parsed_enhanced interfaces block
     else if kind_of block == 3 then parsed_simple interfaces block
+    else if kind_of block == 2 then parsed_earlier interfaces block
     else Ok other

@@ -27,3 +27,14 @@ pub(crate) fn u32_at(order: Order, bytes: &[u8], offset: usize) -> u32
         Order::Little => LittleEndian::read_u32(&bytes[offset..]),
     }
 }
+
+/// The number in the eight bytes from an offset on.
+pub(crate) fn u64_at(order: Order, bytes: &[u8], offset: usize) -> u64
+    requires { offset + 8 ≤ length bytes.now }
+    ensures { result ≡ number_at order 8 offset bytes.now }
+{
+    match order {
+        Order::Big => BigEndian::read_u64(&bytes[offset..]),
+        Order::Little => LittleEndian::read_u64(&bytes[offset..]),
+    }
+}

@@ -11,4 +11,7 @@ pub(crate) struct Interface {
     pub(crate) snap: u32,
     /// How many units of time a second has; `None` where time stamps are not read.
     pub(crate) units: Option<u64>,
+    /// How many seconds later than its time stamp a frame was seen, in two's complement; `None`
+    /// where time stamps are not read.
+    pub(crate) seconds: Option<u64>,
 }

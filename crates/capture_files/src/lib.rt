@@ -24,6 +24,6 @@ mod reading;
 pub use capture::read_capture;
 pub use fault::CaptureFault;
 pub use frame::{Capture, End, Frame, LinkType};
-pub use laws::{one_reading_of_pcap, one_reading_of_pcapng};
+pub use laws::{one_reading_of_pcap, one_reading_of_pcapng, written_pcaps_are_read};
 pub use pcap::read_pcap;
 pub use pcapng::read_pcapng;

@@ -2,17 +2,20 @@
 
 ghost use Rattle.std.specs.Prelude.{◌≡◌, ◌≤◌, ◌+◌, length, Ok, Err, Some, None, MatchResult, slice_get};
 ghost use Rattle.capture_files.specs.Blocks.{block_text};
-ghost use Rattle.capture_files.specs.Parts.{parsed_section, parsed_interface, stamp_of, enhanced_on, parsed_enhanced, simple_captured, simple_on, parsed_simple, parsed_by};
+ghost use Rattle.capture_files.specs.Parts.{parsed_section, parsed_interface, stamp_of, enhanced_on, parsed_enhanced, parsed_earlier, simple_captured, simple_on, parsed_simple, parsed_by};
 ghost use Rattle.capture_files.specs.steps.BlockContents.{content_of};
 
 use crate::block::{Block, Flaw, SECTION_HEADER};
 use crate::field::{u16_at, u32_at};
 use crate::frame::Frame;
 use crate::interface::Interface;
-use crate::options::{interface_of, moment_of};
+use crate::options::{interface_of, seen_at};
 
 /// The type of an Interface Description Block.
 const INTERFACE_DESCRIPTION: u32 = 1;
+
+/// The type of a Packet Block, as earlier versions of the format have it.
+const EARLIER_PACKET: u32 = 2;
 
 /// The type of a Simple Packet Block.
 const SIMPLE_PACKET: u32 = 3;
@@ -93,7 +96,7 @@ fn enhanced_on(interface: Option<Interface>, block: Block<'_>) -> Result<Part<'_
     }
     Ok(Part::Captured(Frame {
         link: interface.link,
-        seen: moment_of(interface.units, stamp_of(block)),
+        seen: seen_at(interface, stamp_of(block)),
         bytes: &block.bytes[28..28 + captured],
         original,
     }))
@@ -117,6 +120,21 @@ fn parsed_enhanced<'a>(interfaces: &[Interface], block: Block<'a>) -> Result<Par
         return Err(Flaw::BlockLength);
     }
     let number = u32_at(block.order, block.bytes, 8);
+    enhanced_on(interface_at(interfaces, number), block)
+}
+
+/// What a Packet Block contains, as earlier versions of the format have it
+/// (draft-ietf-opsawg-pcapng, A): its interface has two bytes.
+fn parsed_earlier<'a>(interfaces: &[Interface], block: Block<'a>) -> Result<Part<'a>, Flaw>
+    requires { 12 ≤ length block.bytes.now }
+    ensures { MatchResult result
+        (λ part. parsed_earlier interfaces.now (block_text block.entry) ≡ Ok (content_of part))
+        (λ flaw. parsed_earlier interfaces.now (block_text block.entry) ≡ Err flaw) }
+{
+    if block.bytes.len() < 32 {
+        return Err(Flaw::BlockLength);
+    }
+    let number = u32::from(u16_at(block.order, block.bytes, 8));
     enhanced_on(interface_at(interfaces, number), block)
 }
 
@@ -181,6 +199,7 @@ pub(crate) fn parsed_by<'a>(interfaces: &[Interface], block: Block<'a>) -> Resul
         INTERFACE_DESCRIPTION => parsed_interface(block),
         ENHANCED_PACKET => parsed_enhanced(interfaces, block),
         SIMPLE_PACKET => parsed_simple(interfaces, block),
+        EARLIER_PACKET => parsed_earlier(interfaces, block),
         _ => Ok(Part::Other),
     }
 }

@@ -1,5 +1,5 @@
 -- How a run ends after a fault: the status, and the line on standard error.
-use Rattle.std.specs.Prelude.{◌≡◌, ℕ, List, [], ◌++◌, Option, Some, None, codes, decimal}
+use Rattle.std.specs.Prelude.{◌≡◌, ℕ, List, [], ◌++◌, Option, Some, None, if◌then◌else◌, codes, decimal}
 use Rattle.std.specs.Borrow.{Bor}
 use Rattle.capture_files.specs.declared.fault.CaptureFault.{CaptureFault}
 use Rattle.capture_files.specs.declared.fault.CaptureFault.TheVariants as captures
@@ -7,6 +7,7 @@ use Rattle.capture_report.specs.declared.fault.RunFault.{RunFault}
 use Rattle.capture_report.specs.declared.fault.RunFault.TheVariants as runs
 use Rattle.lsdb_listing.specs.declared.fault.ListFault.{ListFault}
 use Rattle.lsdb_listing.specs.declared.fault.ListFault.TheVariants as lists
+use Rattle.network_files.specs.Kinds.{is_compressed}
 use Rattle.network_files.specs.declared.fault.FileFault.{FileFault}
 use Rattle.network_files.specs.declared.fault.FileFault.TheVariants as files
 use Rattle.lsdb_merge.specs.declared.fault.JoinFault.{JoinFault}
@@ -14,7 +15,7 @@ use Rattle.lsdb_merge.specs.declared.fault.JoinFault.TheVariants as joins
 use Rattle.capture_lines.specs.declared.fault.ExitFault.{ExitFault}
 use Rattle.capture_lines.specs.declared.fault.ExitFault.TheVariants.{File, Join, Output, Memory}
 use Rattle.capture_lines.specs.declared.fault.FileEnd.{FileEnd}
-use Rattle.capture_lines.specs.declared.fault.FileEnd.TheVariants.{Open, Read, Write, TooLarge, Refused, NotAList}
+use Rattle.capture_lines.specs.declared.fault.FileEnd.TheVariants.{Open, Read, Write, TooLarge, Refused, NotAList, CompressedList}
 use Rattle.host_io.specs.declared.reading.ReadFault.{ReadFault}
 use Rattle.host_io.specs.declared.reading.ReadFault.TheVariants as reads
 
@@ -45,9 +46,13 @@ unread name reads.Failed = File name Read
 unread name reads.TooLarge = File name TooLarge
 unread name reads.OutOfMemory = Memory
 
-abbrev pub unlisted : Bor (List ℕ) → ListFault → ExitFault
-unlisted name lists.NotAList = File name NotAList
-unlisted name lists.OutOfMemory = Memory
+-- what is wrong with bytes that are no list: they may be compressed
+abbrev pub no_list : List ℕ → FileEnd
+no_list bytes = if is_compressed bytes then CompressedList else NotAList
+
+abbrev pub unlisted : Bor (List ℕ) → List ℕ → ListFault → ExitFault
+unlisted name bytes lists.NotAList = File name (no_list bytes)
+unlisted name bytes lists.OutOfMemory = Memory
 
 -- ---- status
 
@@ -68,6 +73,7 @@ file_status Write = 4
 file_status TooLarge = 4
 file_status (Refused fault) = refusal_status fault
 file_status NotAList = 3
+file_status CompressedList = 3
 
 abbrev pub join_status : JoinFault → ℕ
 join_status joins.OutOfMemory = 5
@@ -141,6 +147,14 @@ abbrev pub refused_text : List ℕ → FileFault → List ℕ
 refused_text name fault =
     name ++ codes ": " ++ refusal_name fault ++ at_text (refusal_offset fault) ++ unpacking_text name fault ++ codes "\n"
 
+-- the command that unpacks the list, as ` (zcat r1.list.gz | ospf-capture --against - ..)`
+abbrev pub list_unpacking_text : List ℕ → List ℕ
+list_unpacking_text name = codes " (zcat " ++ name ++ codes " | ospf-capture --against - ..)"
+
+-- as `r1.list.gz: Compressed (zcat r1.list.gz | ospf-capture --against - ..)`
+abbrev pub compressed_list_text : List ℕ → List ℕ
+compressed_list_text name = name ++ codes ": Compressed" ++ list_unpacking_text name ++ codes "\n"
+
 abbrev pub file_text : List ℕ → FileEnd → List ℕ
 file_text name Open = name ++ codes ": Open\n"
 file_text name Read = name ++ codes ": Read\n"
@@ -148,6 +162,7 @@ file_text name Write = name ++ codes ": Write\n"
 file_text name TooLarge = name ++ codes ": TooLarge\n"
 file_text name (Refused fault) = refused_text name fault
 file_text name NotAList = name ++ codes ": NotAList\n"
+file_text name CompressedList = compressed_list_text name
 
 abbrev pub join_text : JoinFault → List ℕ
 join_text joins.MisplacedLsa = codes "dump: MisplacedLsa\n"

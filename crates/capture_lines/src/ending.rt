@@ -1,7 +1,7 @@
 //! How a run ends after a fault: its status, and its line.
 
 ghost use Rattle.std.specs.Prelude.{◌≡◌, ◌<◌, IfOk, string_bytes};
-ghost use Rattle.capture_lines.specs.Endings.{at_text, capture_name, capture_offset, exit_status, exit_text, file_status, file_text, join_status, join_text, refusal_name, refusal_offset, refusal_status, refused_text, unpacking_text};
+ghost use Rattle.capture_lines.specs.Endings.{at_text, capture_name, capture_offset, compressed_list_text, exit_status, exit_text, file_status, file_text, join_status, join_text, list_unpacking_text, refusal_name, refusal_offset, refusal_status, refused_text, unpacking_text};
 
 use crate::fault::{ExitFault, FileEnd};
 use capture_files::CaptureFault;
@@ -30,7 +30,7 @@ fn file_status(end: FileEnd) -> u8
     match end {
         FileEnd::Open | FileEnd::Read | FileEnd::Write | FileEnd::TooLarge => 4,
         FileEnd::Refused(fault) => refusal_status(fault),
-        FileEnd::NotAList => 3,
+        FileEnd::NotAList | FileEnd::CompressedList => 3,
     }
 }
 
@@ -153,6 +153,22 @@ fn refused_line<A: Allocator + Copy>(
     Ok(line)
 }
 
+/// The command that unpacks a list.
+fn list_unpacking_words<A: Allocator + Copy>(alloc: A, name: &str) -> Result<String<A>, AllocError>
+    ensures { IfOk result (λ words. string_bytes words ≡ list_unpacking_text name.now) }
+{
+    format!(in alloc; " (zcat {name} | ospf-capture --against - ..)")
+}
+
+/// The line of a list that is compressed.
+fn compressed_list_line<A: Allocator + Copy>(alloc: A, name: &str) -> Result<String<A>, AllocError>
+    ensures { IfOk result (λ line. string_bytes line ≡ compressed_list_text name.now) }
+{
+    let unpacking = list_unpacking_words(alloc, name)?;
+    let line = format!(in alloc; "{name}: Compressed{unpacking}\n")?;
+    Ok(line)
+}
+
 /// The line of a file.
 fn file_line<A: Allocator + Copy>(
     alloc: A,
@@ -168,6 +184,7 @@ fn file_line<A: Allocator + Copy>(
         FileEnd::TooLarge => format!(in alloc; "{name}: TooLarge\n"),
         FileEnd::Refused(fault) => refused_line(alloc, name, fault),
         FileEnd::NotAList => format!(in alloc; "{name}: NotAList\n"),
+        FileEnd::CompressedList => compressed_list_line(alloc, name),
     }
 }
 

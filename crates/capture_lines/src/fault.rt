@@ -1,14 +1,14 @@
 //! Why a run ends with status 3, 4 or 5.
 
 ghost use Rattle.std.specs.Prelude.{◌≡◌};
-ghost use Rattle.capture_lines.specs.Endings.{index_of, named, unlisted, unread};
+ghost use Rattle.capture_lines.specs.Endings.{index_of, named, no_list, unlisted, unread};
 ghost use Rattle.capture_lines.specs.declared.fault.ExitFault.TheVariants.{Memory};
 
 use capture_report::RunFault;
 use host_io::ReadFault;
 use lsdb_listing::ListFault;
 use lsdb_merge::JoinFault;
-use network_files::FileFault;
+use network_files::{FileFault, is_compressed};
 use std::alloc::{AllocError, AllocFailed};
 
 /// What is wrong with a file.
@@ -26,6 +26,8 @@ pub enum FileEnd {
     Refused(FileFault),
     /// It is meant to be a list of LSA headers, and is not one.
     NotAList,
+    /// The same, and it begins as a file that gzip has compressed.
+    CompressedList,
 }
 
 /// Why a run ends with status 3, 4 or 5.
@@ -82,12 +84,23 @@ pub fn unread(name: &str, fault: ReadFault) -> ExitFault<'_>
     }
 }
 
-/// Why a text is not a list, with its name.
-pub fn unlisted(name: &str, fault: ListFault) -> ExitFault<'_>
-    ensures { result ≡ unlisted name.entry fault }
+/// What is wrong with bytes that are no list: they may be compressed.
+fn no_list(bytes: &[u8]) -> FileEnd
+    ensures { result ≡ no_list bytes.now }
+{
+    if is_compressed(bytes) {
+        FileEnd::CompressedList
+    } else {
+        FileEnd::NotAList
+    }
+}
+
+/// Why a list with these bytes is not read, with its name.
+pub fn unlisted<'a>(name: &'a str, bytes: &[u8], fault: ListFault) -> ExitFault<'a>
+    ensures { result ≡ unlisted name.entry bytes.now fault }
 {
     match fault {
-        ListFault::NotAList => ExitFault::File(name, FileEnd::NotAList),
+        ListFault::NotAList => ExitFault::File(name, no_list(bytes)),
         ListFault::OutOfMemory => ExitFault::Memory,
     }
 }

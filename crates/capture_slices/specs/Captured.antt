@@ -4,11 +4,11 @@ use Rattle.std.specs.Borrow.{Bor}
 use Rattle.std.specs.List.{AllZip, slice_get, zip}
 use Rattle.std.specs.Str.{IsUtf8}
 use Rattle.std.specs.String.{string_bytes}
-use Rattle.capture_lines.specs.Endings.{index_of, named}
+use Rattle.capture_lines.specs.Endings.{index_of, named, no_list}
 use Rattle.capture_lines.specs.Reports.{AreReported}
 use Rattle.capture_lines.specs.declared.fault.ExitFault.{ExitFault}
 use Rattle.capture_lines.specs.declared.fault.ExitFault.TheVariants.{File, Memory}
-use Rattle.capture_lines.specs.declared.fault.FileEnd.TheVariants.{NotAList, TooLarge}
+use Rattle.capture_lines.specs.declared.fault.FileEnd.TheVariants.{TooLarge}
 use Rattle.capture_report.specs.Runs.{MayEndRun, longest_file}
 use Rattle.capture_report.specs.declared.fault.RunFault.{RunFault}
 use Rattle.capture_slices.specs.declared.capturing.CaptureTexts.{CaptureTexts}
@@ -73,7 +73,7 @@ pub record IsListOf {A : Type 0} (bytes : List ℕ) (list : PrintedList A) : Typ
 abbrev pub IsListFault : Bor (List ℕ) → List ℕ → ExitFault → Type 0
 IsListFault name bytes fault =
     ((fault ≡ File name TooLarge) × (longest_file < length bytes))
-    ⊎ (((fault ≡ File name NotAList) × (is_list bytes ≡ false)) ⊎ (fault ≡ Memory))
+    ⊎ (((fault ≡ File name (no_list bytes)) × (is_list bytes ≡ false)) ⊎ (fault ≡ Memory))
 
 -- the first list that is not read, after others that are
 pub record IsListEnd (A : Type 0) (names texts : List (List ℕ)) (fault : ExitFault) : Type 0 where

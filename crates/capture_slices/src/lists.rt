@@ -23,7 +23,7 @@ fn list_of<'a, A: Allocator + Copy>(
     }
     match read_list(alloc, list.bytes) {
         Ok(read) => Ok(read),
-        Err(fault) => Err(unlisted(list.name, fault)),
+        Err(fault) => Err(unlisted(list.name, list.bytes, fault)),
     }
 }
 

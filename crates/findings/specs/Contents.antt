@@ -35,6 +35,7 @@ module _ {A : Type 0} where
   observation_of parts.Unreadable = None
   observation_of (parts.NotRead feature) = None
   observation_of parts.Listed = None
+  observation_of parts.OtherDomain = None
 
   abbrev pub kind_of : Part A → Option AreaReport
   kind_of (parts.Lsa observation) = None
@@ -45,6 +46,7 @@ module _ {A : Type 0} where
   kind_of parts.Unreadable = None
   kind_of (parts.NotRead feature) = None
   kind_of parts.Listed = None
+  kind_of parts.OtherDomain = None
 
   abbrev pub header_of : Part A → Option Header
   header_of (parts.Lsa observation) = None
@@ -55,6 +57,7 @@ module _ {A : Type 0} where
   header_of parts.Unreadable = None
   header_of (parts.NotRead feature) = None
   header_of parts.Listed = None
+  header_of parts.OtherDomain = None
 
   -- what a file with these parts contains
   unfoldable pub content_of : List (Part A) → ContentLists A

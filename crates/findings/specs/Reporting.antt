@@ -4,7 +4,7 @@ use Rattle.std.specs.List.{filter_map}
 use Rattle.findings.specs.declared.finding.Finding.{Finding}
 use Rattle.findings.specs.declared.feature.Feature.{Feature}
 use Rattle.findings.specs.declared.feature.Feature.TheVariants.{Nssa, Opaque, VirtualEnd, VirtualLink}
-use Rattle.findings.specs.declared.finding.Finding.TheVariants.{Frames, Unreadable, NotRead, Listed}
+use Rattle.findings.specs.declared.finding.Finding.TheVariants.{Frames, Unreadable, NotRead, Listed, OtherDomain}
 use Rattle.findings.specs.declared.frame_warning.FrameWarning.{FrameWarning}
 use Rattle.findings.specs.declared.frame_warning.FrameWarning.TheVariants.{OtherLink, NotIpv4, NotOspf, Encapsulated, Truncated, BadLength, MissingFragment, OtherVersion, BadChecksum, OtherType, RefusedLsa}
 use Rattle.findings.specs.declared.part.Part.{Part}
@@ -79,6 +79,7 @@ module _ {A : Type 0} where
   warning_of parts.Unreadable = None
   warning_of (parts.NotRead feature) = None
   warning_of parts.Listed = None
+  warning_of parts.OtherDomain = None
 
   -- what is reported by itself
   abbrev pub finding_of : Part A → Option Finding
@@ -90,6 +91,7 @@ module _ {A : Type 0} where
   finding_of parts.Unreadable = None
   finding_of (parts.NotRead feature) = None
   finding_of parts.Listed = None
+  finding_of parts.OtherDomain = None
 
   abbrev pub is_unreadable : Part A → Bool
   is_unreadable (parts.Lsa observation) = false
@@ -100,6 +102,7 @@ module _ {A : Type 0} where
   is_unreadable parts.Unreadable = true
   is_unreadable (parts.NotRead feature) = false
   is_unreadable parts.Listed = false
+  is_unreadable parts.OtherDomain = false
 
   -- an LSA of a type that is not read, which this feature shows
   abbrev pub is_not_read : Feature → Part A → Bool
@@ -111,6 +114,7 @@ module _ {A : Type 0} where
   is_not_read feature parts.Unreadable = false
   is_not_read feature (parts.NotRead found) = is_same_feature found feature
   is_not_read feature parts.Listed = false
+  is_not_read feature parts.OtherDomain = false
 
   -- a row of a list
   abbrev pub is_listed : Part A → Bool
@@ -122,6 +126,19 @@ module _ {A : Type 0} where
   is_listed parts.Unreadable = false
   is_listed (parts.NotRead feature) = false
   is_listed parts.Listed = true
+  is_listed parts.OtherDomain = false
+
+  -- a packet or a heading of another routing domain
+  abbrev pub is_other_domain : Part A → Bool
+  is_other_domain (parts.Lsa observation) = false
+  is_other_domain (parts.Kind area) = false
+  is_other_domain (parts.Header header) = false
+  is_other_domain (parts.Warning warning) = false
+  is_other_domain (parts.Finding finding) = false
+  is_other_domain parts.Unreadable = false
+  is_other_domain (parts.NotRead feature) = false
+  is_other_domain parts.Listed = false
+  is_other_domain parts.OtherDomain = true
 
   -- the number of LSAs and rows whose fields cannot be read, unless it is 0
   abbrev pub unread : List (Part A) → List Finding
@@ -136,9 +153,14 @@ module _ {A : Type 0} where
   abbrev pub listed : List (Part A) → List Finding
   listed these = if count_by is_listed these == 0 then [] else Listed (count_by is_listed these) ∷ []
 
-  -- the numbers of what is not read
+  -- the number of packets and headings of another routing domain, unless it is 0
+  abbrev pub other_domains : List (Part A) → List Finding
+  other_domains these =
+      if count_by is_other_domain these == 0 then [] else OtherDomain (count_by is_other_domain these) ∷ []
+
+  -- the numbers of what is not read, and of what is of another routing domain
   unfoldable pub all_unread : List (Part A) → List Finding
-  all_unread these = unread these ++ not_read Nssa these ++ not_read Opaque these ++ listed these
+  all_unread these = unread these ++ not_read Nssa these ++ not_read Opaque these ++ listed these ++ other_domains these
 
   -- the warnings about frames, each reason once; what is reported one by one; and the numbers of what is not read
   unfoldable pub findings_of : List (Part A) → List Finding

@@ -79,6 +79,7 @@ finding_text (findings.Unused one reason) = reason_name reason ++ codes " " ++ r
 finding_text (findings.Unreadable count) = codes "Unreadable " ++ decimal count
 finding_text (findings.NotRead feature count) = feature_name feature ++ codes " " ++ decimal count
 finding_text (findings.Listed count) = codes "List " ++ decimal count ++ codes " (use --against)"
+finding_text (findings.OtherDomain count) = codes "OtherDomain " ++ decimal count
 finding_text (findings.Fewer counted found count) = codes "Fewer " ++ counted_text counted ++ decimal found ++ codes " of " ++ decimal count
 finding_text findings.NoSuchObject = codes "NoSuchObject"
 finding_text findings.Empty = codes "Empty"

@@ -30,6 +30,9 @@ pub enum Finding {
     NotRead(Feature, usize),
     /// This number of rows is printed of a list of LSAs, which has no bodies.
     Listed(usize),
+    /// This number of packets or headings are of another routing domain than the others: one with
+    /// another Instance ID (RFC 6549), VRF or process. One dump is of one routing domain.
+    OtherDomain(usize),
     /// A walk has this number of LSAs of an area, or, where there is none, of AS-external-LSAs, and
     /// its router counts more: the number that stands last (RFC 4750: `ospfAreaLsaCount`,
     /// `ospfExternLsaCount`).
@@ -88,6 +91,7 @@ impl fmt::Display for Finding {
             Finding::Unreadable(count) => write!(f, "Unreadable {count}"),
             Finding::NotRead(feature, count) => write!(f, "{feature} {count}"),
             Finding::Listed(count) => write!(f, "List {count} (use --against)"),
+            Finding::OtherDomain(count) => write!(f, "OtherDomain {count}"),
             Finding::Fewer(Some(area), found, count) => write!(
                 f,
                 "Fewer area {area} {found} of {count}"

@@ -34,6 +34,9 @@ pub enum Part<A: Allocator = Global> {
     /// A row of a list, which has the header of an LSA without its body. The number of these is
     /// reported.
     Listed,
+    /// A packet or a heading of another routing domain than the others. The number of these is
+    /// reported.
+    OtherDomain,
 }
 
 impl<A: Allocator + Copy> Part<A> {

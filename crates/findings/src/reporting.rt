@@ -2,7 +2,7 @@
 
 ghost use Rattle.std.specs.Prelude.{◌≡◌, ◌++◌, IfOk, OnOk};
 ghost use Rattle.std.specs.List.{filter_map};
-ghost use Rattle.findings.specs.Reporting.{all_unread, counted, finding_of, findings_of, frame_findings, is_listed, is_not_read, is_unreadable, listed, not_read, number_of, unread, warning_of};
+ghost use Rattle.findings.specs.Reporting.{all_unread, counted, finding_of, findings_of, frame_findings, is_listed, is_not_read, is_other_domain, is_unreadable, listed, not_read, number_of, other_domains, unread, warning_of};
 
 use crate::feature::{Feature, is_same_feature};
 use crate::finding::Finding;
@@ -132,6 +132,13 @@ fn is_listed<A: Allocator + Copy>(part: &Part<A>) -> bool
     matches!(part, Part::Listed)
 }
 
+/// Whether it is a packet or a heading of another routing domain.
+fn is_other_domain<A: Allocator + Copy>(part: &Part<A>) -> bool
+    ensures { result ≡ is_other_domain part.now }
+{
+    matches!(part, Part::OtherDomain)
+}
+
 /// All warnings.
 fn warnings_of<A: Allocator + Copy>(
     alloc: A,
@@ -204,8 +211,22 @@ fn put_listed<A: Allocator + Copy>(
     Ok(())
 }
 
+/// Adds the number of packets and headings of another routing domain, unless it is 0.
+fn put_other_domains<A: Allocator + Copy>(
+    findings: &mut Vec<Finding, A>,
+    parts: &[Part<A>],
+) -> Result<(), AllocError>
+    ensures { OnOk result (findings.new.items ≡ findings.old.items ++ other_domains parts.now) }
+{
+    let count = parts.iter().filter(|part| is_other_domain(*part)).count();
+    if count != 0 {
+        findings.push(Finding::OtherDomain(count))?;
+    }
+    Ok(())
+}
+
 /// Adds the numbers of what is not read: of LSAs and rows whose fields cannot be read, of LSAs of
-/// other types, and of rows of lists.
+/// other types, and of rows of lists; and of what is of another routing domain.
 #[tactic(auto, unfolding(crate::specs::Reporting::all_unread))]
 fn put_all_unread<A: Allocator + Copy>(
     findings: &mut Vec<Finding, A>,
@@ -216,7 +237,8 @@ fn put_all_unread<A: Allocator + Copy>(
     put_unread(findings, parts)?;
     put_not_read(findings, Feature::Nssa, parts)?;
     put_not_read(findings, Feature::Opaque, parts)?;
-    put_listed(findings, parts)
+    put_listed(findings, parts)?;
+    put_other_domains(findings, parts)
 }
 
 /// The findings of a file with these parts.

@@ -1,6 +1,6 @@
 //! Observations without those that are forgotten.
 
-ghost use Rattle.std.specs.Prelude.{◌≡◌, IfOk, IsPermutation, map};
+ghost use Rattle.std.specs.Prelude.{◌≡◌, IfOk, map};
 ghost use Rattle.std.specs.List.{filter_map, zip};
 ghost use Rattle.std.specs.List.Sorted.{IsSorted};
 ghost use Rattle.forgotten_instances.specs.Forgotten.{is_forgotten, remembered};
@@ -11,18 +11,6 @@ use crate::order::compare_ages;
 use crate::past::{Past, is_forgotten_by, past_with};
 use lsa_instances::Observation;
 use std::alloc::{AllocError, Allocator};
-
-/// The observations by their places, the oldest instance of each LSA first.
-fn sorted<A: Allocator + Copy>(
-    observations: Vec<Observation<A>, A>,
-) -> Result<Vec<Observation<A>, A>, AllocError>
-    ensures same { IfOk result (λ sorted. IsPermutation observations.items sorted.items) }
-    ensures order { IfOk result (λ sorted. IsSorted age_cmp sorted.items) }
-{
-    let mut observations = observations;
-    observations.sort_by(|a, b| compare_ages(a, b))?;
-    Ok(observations)
-}
 
 /// Of each of sorted observations, whether it is forgotten.
 fn forgotten_among<A: Allocator + Copy>(
@@ -87,7 +75,8 @@ pub fn remembered<A: Allocator + Copy>(
 ) -> Result<Vec<Observation<A>, A>, AllocError>
     ensures { IfOk result (λ left. AreSame (remembered observations.items) left.items) }
 {
-    let sorted = sorted(observations)?;
+    let mut sorted = observations;
+    sorted.sort_by(|a, b| compare_ages(a, b))?;
     let forgotten = forgotten_among(alloc, &sorted)?;
     without(alloc, sorted, &forgotten)
 }

@@ -1,7 +1,8 @@
 pub mod Reading
 pub mod ParsedParts
 pub mod Rows
-pub mod PrintedNumbers
+pub mod Domains
+pub mod PrintedNumberLemmas
 pub mod PrintedLabels
 pub mod PrintedFields
 pub mod PrintedBodies

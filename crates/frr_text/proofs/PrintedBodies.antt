@@ -27,7 +27,7 @@ use Rattle.frr_text.specs.PrintingBodies.{Body, of_router, of_network, of_summar
 use Rattle.std.proofs.lemmas.List.Elements.{All-head, All-tail}
 use Rattle.text_words.proofs.NumberLemmas.{number_again}
 use Rattle.text_words.proofs.AddressLemmas.{address_again}
-use Rattle.frr_text.proofs.PrintedNumbers.{mask_again}
+use Rattle.frr_text.proofs.PrintedNumberLemmas.{mask_again}
 use Rattle.frr_text.proofs.Reading.{front_first, others_first}
 use Rattle.frr_text.proofs.PrintedLabels.{label_again, value_again}
 use Rattle.frr_text.proofs.PrintedFields.{after_four, after_five}

@@ -21,7 +21,7 @@ use Rattle.frr_text.specs.Fields.{age_and_options_in, past, past_translated, pas
 use Rattle.frr_text.specs.Printing.{printed_hex, printed_byte, label_words, said, Beside, age_and_options_words, names_of_bits, flags_words, name_words, origination_words, checksum_and_length_words, header_words, HeaderFits}
 use Rattle.text_words.proofs.NumberLemmas.{number_again}
 use Rattle.text_words.proofs.AddressLemmas.{address_again}
-use Rattle.frr_text.proofs.PrintedNumbers.{hex_again, marked_again, byte_again}
+use Rattle.frr_text.proofs.PrintedNumberLemmas.{hex_again, marked_again, byte_again}
 use Rattle.frr_text.proofs.Reading.{front_first, others_first}
 use Rattle.frr_text.proofs.PrintedLabels.{label_again, word_again, value_again}
 

@@ -1,11 +1,10 @@
 -- Headings: each names the area of the LSAs below it, and the kind of the area.
 use Rattle.std.specs.Prelude.{◌==◌, if◌then◌else◌, Bool, false, ◌||◌, List, [], ◌∷◌, Option, Some, None, option_map}
-use Rattle.std.specs.List.{slice_split}
+use Rattle.std.specs.List.{list_any, slice_split}
 use Rattle.std.specs.Option.{is_some}
 use Rattle.lsa_codec.specs.declared.address.AreaId.{AreaId}
 use Rattle.lsa_instances.specs.declared.area.AreaKind.{AreaKind}
 use Rattle.lsa_instances.specs.declared.area.AreaKind.TheVariants as kinds
-use Rattle.lsa_instances.specs.declared.area.AreaReport.{AreaReport}
 use Rattle.frr_text.specs.declared.label.Label.TheVariants as label
 use Rattle.frr_text.specs.Words.{Word}
 use Rattle.frr_text.specs.Rules.{◌>>=◌}
@@ -20,18 +19,26 @@ first_part (part ∷ parts) = part
 abbrev pub area_of : Word → Option AreaId
 area_of word = option_map (λ address. record { 0 = address }) (address_of (first_part (slice_split (λ b. b == 41) word)))
 
--- the kind of the area, by the mark after it
-abbrev pub kind_in : List Word → AreaKind
-kind_in text =
-    if is_some (after_label label.Stub text) then kinds.Stub else
-    if is_some (after_label label.Nssa text) then kinds.Nssa else kinds.Ordinary
+-- a heading ends with this word: it has a closing parenthesis
+abbrev pub is_closed : Word → Bool
+is_closed word = list_any (λ b. b == 41) word
 
--- the area that a heading names here, and its kind
-unfoldable pub heading_at : List Word → Option AreaReport
+-- the kind that a mark here shows, if it is known
+abbrev pub mark_in : List Word → Option AreaKind
+mark_in text =
+    if is_some (after_label label.Stub text) then Some kinds.Stub else
+    if is_some (after_label label.Nssa text) then Some kinds.Nssa else None
+
+-- the kind of the area that a word names: it is ordinary where the heading ends there, and else there is a mark
+abbrev pub kind_in : Word → List Word → Option AreaKind
+kind_in word text = if is_closed word then Some kinds.Ordinary else mark_in text
+
+-- the area that a heading names here, and its kind, if it is known
+unfoldable pub heading_at : List Word → Option (AreaId × Option AreaKind)
 heading_at text = do
   found ← word_after label.Area text
   area ← area_of found.0
-  Some (record { id = area; kind = kind_in found.1 })
+  Some (area, kind_in found.0 found.1)
 
 abbrev pub area_named : Option AreaId → Option (Word × List Word) → Option AreaId
 area_named area None = area

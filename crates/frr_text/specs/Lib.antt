@@ -11,4 +11,5 @@ pub mod Making
 pub mod Headings
 pub mod ParsedParts
 pub mod Rows
+pub mod Domains
 pub mod Contents

@@ -9,7 +9,8 @@ use Rattle.lsa_codec.specs.Decoding.{decoded}
 use Rattle.lsa_instances.specs.declared.place.Scope.{Scope}
 use Rattle.lsa_instances.specs.Order.{scope_of_report}
 use Rattle.frr_text.specs.declared.header.Header.{Header}
-use Rattle.lsa_instances.specs.declared.area.AreaReport.{AreaReport}
+use Rattle.lsa_instances.specs.declared.area.AreaKind.{AreaKind}
+use Rattle.findings.specs.declared.finding.Finding.TheVariants.{UnreadableKind}
 use Rattle.findings.specs.declared.part.Part.{Part}
 use Rattle.findings.specs.declared.part.Part.TheVariants as contents
 use Rattle.frr_text.specs.Words.{Word}
@@ -44,9 +45,14 @@ module _ {A : Type 0} where
   parsed_header area text None = left_unread (feature_in text)
   parsed_header area text (Some found) = rebuilt area found.0 (body_in found.0 found.1)
 
-  abbrev pub kind_from : Option AreaReport → List (Part A)
+  -- the kind of an area, or that it cannot be read
+  abbrev pub kind_part : AreaId → Option AreaKind → Part A
+  kind_part area None = contents.Finding (UnreadableKind area)
+  kind_part area (Some kind) = contents.Kind (record { id = area; kind = kind })
+
+  abbrev pub kind_from : Option (AreaId × Option AreaKind) → List (Part A)
   kind_from None = []
-  kind_from (Some area) = contents.Kind area ∷ []
+  kind_from (Some heading) = kind_part heading.0 heading.1 ∷ []
 
   -- the kind of the area that a heading here names, if one does
   unfoldable pub kinds_at : List Word → List (Part A)

@@ -2,11 +2,11 @@
 
 ghost use Rattle.std.specs.Prelude.{◌≡◌};
 ghost use Rattle.frr_text.specs.Words.{words};
-ghost use Rattle.frr_text.specs.Headings.{area_of, kind_in, heading_at, area_at};
+ghost use Rattle.frr_text.specs.Headings.{area_of, is_closed, mark_in, kind_in, heading_at, area_at};
 
 use crate::label::{Label, after_label, word_after};
 use lsa_codec::AreaId;
-use lsa_instances::{AreaKind, AreaReport};
+use lsa_instances::AreaKind;
 use text_words::{address_of, cut_at};
 
 /// The area that a word names, perhaps before a closing parenthesis.
@@ -23,30 +23,45 @@ pub fn area_of(word: &[u8]) -> Option<AreaId>
     }
 }
 
-/// The kind of an area, by the mark after it: `[Stub]`, `[NSSA]`, or none.
-fn kind_in(text: &[u8]) -> AreaKind
-    ensures { result ≡ kind_in (words text.now) }
+/// Whether a heading ends with this word: it has a closing parenthesis.
+fn is_closed(word: &[u8]) -> bool
+    ensures { result ≡ is_closed word.now }
 {
-    if after_label(Label::Stub, text).is_some() {
-        return AreaKind::Stub;
-    }
-    if after_label(Label::Nssa, text).is_some() {
-        return AreaKind::Nssa;
-    }
-    AreaKind::Ordinary
+    word.contains(&b')')
 }
 
-/// The area that a heading names here, and its kind.
+/// The kind that a mark here shows, `[Stub]` or `[NSSA]`.
+fn mark_in(text: &[u8]) -> Option<AreaKind>
+    ensures { result ≡ mark_in (words text.now) }
+{
+    if after_label(Label::Stub, text).is_some() {
+        return Some(AreaKind::Stub);
+    }
+    if after_label(Label::Nssa, text).is_some() {
+        return Some(AreaKind::Nssa);
+    }
+    None
+}
+
+/// The kind of the area that a word names: it is ordinary where the heading ends there, and else
+/// there is a mark.
+fn kind_in(word: &[u8], text: &[u8]) -> Option<AreaKind>
+    ensures { result ≡ kind_in word.now (words text.now) }
+{
+    if is_closed(word) {
+        return Some(AreaKind::Ordinary);
+    }
+    mark_in(text)
+}
+
+/// The area that a heading names here, and its kind, where it is known.
 #[tactic(auto, unfolding(crate::specs::Headings::heading_at))]
-pub(crate) fn heading_at(text: &[u8]) -> Option<AreaReport>
+pub(crate) fn heading_at(text: &[u8]) -> Option<(AreaId, Option<AreaKind>)>
     ensures { result ≡ heading_at (words text.now) }
 {
     let (word, rest) = word_after(Label::Area, text)?;
-    let id = area_of(word)?;
-    Some(AreaReport {
-        id,
-        kind: kind_in(rest),
-    })
+    let area = area_of(word)?;
+    Some((area, kind_in(word, rest)))
 }
 
 /// The area that a heading here begins, else the area of the last heading before.

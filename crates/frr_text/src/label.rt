@@ -109,6 +109,10 @@ pub(crate) enum Label {
     Tag,
     /// Before the Router ID of the router that prints.
     Router,
+    /// Before the name of a VRF.
+    Vrf,
+    /// Before the number of a process.
+    Process,
     /// Before the Area ID of a heading.
     Area,
     /// After the Area ID of a stub area.
@@ -170,6 +174,8 @@ fn text_of(label: Label) -> &'static [u8]
         Label::Forward => b"Forward Address:",
         Label::Tag => b"External Route Tag:",
         Label::Router => b"OSPF Router with ID",
+        Label::Vrf => b"VRF Name:",
+        Label::Process => b"OSPF Instance:",
         Label::Area => b"(Area",
         Label::Stub => b"[Stub])",
         Label::Nssa => b"[NSSA])",

@@ -6,14 +6,12 @@ ghost use Rattle.lsa_codec.specs.declared.address.AreaId.{AreaId};
 ghost use Rattle.lsa_codec.specs.Decoding.{decoded};
 ghost use Rattle.lsa_instances.specs.Order.{scope_of_report};
 ghost use Rattle.frr_text.specs.declared.header.Header.{Header};
-ghost use Rattle.lsa_instances.specs.declared.area.AreaKind.TheVariants as kinds;
 ghost use Rattle.lsa_instances.specs.declared.area.AreaReport.{AreaReport};
 ghost use Rattle.findings.specs.declared.part.Part.TheVariants as contents;
 ghost use Rattle.frr_text.specs.Words.{Word, is_blank, words};
 ghost use Rattle.frr_text.specs.Fields.{header_in};
 ghost use Rattle.frr_text.specs.Bodies.{body_in};
 ghost use Rattle.frr_text.specs.Making.{header_bytes, key_of};
-ghost use Rattle.frr_text.specs.Headings.{kind_in};
 ghost use Rattle.frr_text.specs.ParsedParts.{in_scope, parsed_in};
 ghost use Rattle.frr_text.specs.Printing.{Beside, BesideFits, HeaderFits, IsWord, header_words};
 ghost use Rattle.frr_text.specs.PrintingBodies.{Body, BodyFits, body_bytes, body_words, lsa_words};
@@ -65,8 +63,7 @@ pub fn printed_lsas_are_read<A: Allocator>()
         ≡ in_scope (key_of header) lsa (scope_of_report (key_of header).kind area)
         ∷ parsed_in area rest }
     ensures heading { (before : Option AreaId) (parsed : AreaReport) (rest : List Word)
-        → parsed.id.0 < 2 ^ 32 → kind_in rest ≡ kinds.Ordinary
-        → parsed_in {A = A} before (heading_words parsed ++ rest)
+        → parsed.id.0 < 2 ^ 32 → parsed_in {A = A} before (heading_words parsed ++ rest)
         ≡ contents.Kind parsed ∷ parsed_in (Some parsed.id) rest }
     ensures word { (area : Option AreaId) (word : Word) (rest : List Word) → IsPlain word
         → parsed_in {A = A} area (word ∷ rest) ≡ parsed_in area rest }

@@ -22,6 +22,7 @@ mod network;
 mod router;
 mod summary;
 // What a text contains.
+mod domain;
 mod laws;
 mod parsed_part;
 mod printed;

@@ -5,7 +5,7 @@ ghost use Rattle.frr_text.specs.Words.{words};
 ghost use Rattle.frr_text.specs.Bodies.{body_in};
 ghost use Rattle.frr_text.specs.Fields.{feature_in, header_in};
 ghost use Rattle.frr_text.specs.Making.{header_bytes, key_of};
-ghost use Rattle.frr_text.specs.ParsedParts.{in_scope, parsed_decoded, rebuilt, left_unread, parsed_header, kinds_at, lsas_at, parsed_in};
+ghost use Rattle.frr_text.specs.ParsedParts.{in_scope, parsed_decoded, rebuilt, left_unread, parsed_header, kind_part, kinds_at, lsas_at, parsed_in};
 ghost use Rattle.lsa_codec.specs.Decoding.{decoded};
 ghost use Rattle.lsa_instances.specs.Order.{scope_of_report};
 
@@ -14,9 +14,9 @@ use crate::header::{Header, feature_in, header_bytes, header_in, key_of};
 use crate::heading::{area_at, heading_at};
 use crate::label::{Label, after_label};
 use crate::text::next_word;
-use findings::{Part, UnusedReason};
+use findings::{Finding, Part, UnusedReason};
 use lsa_codec::{AreaId, Key, Lsa, LsaFault};
-use lsa_instances::{Observation, Scope};
+use lsa_instances::{AreaKind, AreaReport, Observation, Scope};
 use std::alloc::{AllocError, Allocator};
 
 /// An LSA, in its scope.
@@ -113,6 +113,16 @@ fn parsed_header<A: Allocator + Copy>(
     }
 }
 
+/// The kind of an area, or that it cannot be read.
+fn kind_part<A: Allocator + Copy>(area: AreaId, kind: Option<AreaKind>) -> Part<A>
+    ensures { result ≡ kind_part area kind }
+{
+    match kind {
+        Some(kind) => Part::Kind(AreaReport { id: area, kind }),
+        None => Part::Finding(Finding::UnreadableKind(area)),
+    }
+}
+
 /// Adds the kind of the area that a heading here names, if one does.
 #[tactic(auto, unfolding(crate::specs::ParsedParts::kinds_at))]
 fn parse_kind<A: Allocator + Copy>(
@@ -122,8 +132,8 @@ fn parse_kind<A: Allocator + Copy>(
     ensures { OnOk result (parsed.new.items ≡ parsed.old.items ++ kinds_at (words text.now)) }
 {
     match heading_at(text) {
-        Some(area) => {
-            parsed.push(Part::Kind(area))?;
+        Some((area, kind)) => {
+            parsed.push(kind_part(area, kind))?;
             Ok(())
         }
         None => Ok(()),

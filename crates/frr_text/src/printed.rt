@@ -6,6 +6,7 @@ ghost use Rattle.frr_text.specs.Headings.{begins_here, is_printed};
 ghost use Rattle.frr_text.specs.Contents.{contained_in};
 ghost use Rattle.frr_text.specs.Words.{words};
 
+use crate::domain::put_other_domains;
 use crate::label::{Label, after_label};
 use crate::parsed_part::parse_all;
 use crate::row::put_rows;
@@ -19,7 +20,7 @@ use std::alloc::{AllocError, Allocator};
 ///
 /// The LSAs are those that the printed fields make. Each has the very checksum and length that were
 /// printed, and none has a time stamp. Each heading of an area reports its kind. Rows of lists,
-/// which have no bodies, are counted.
+/// which have no bodies, are counted, and headings of another VRF or process than the first one.
 ///
 /// # Errors
 ///
@@ -30,6 +31,7 @@ pub fn read_printed<A: Allocator + Copy>(alloc: A, text: &[u8]) -> Result<Conten
 {
     let mut parts = parse_all(alloc, text)?;
     put_rows(&mut parts, text)?;
+    put_other_domains(&mut parts, text)?;
     sorted(alloc, parts)
 }
 

@@ -2,6 +2,7 @@ pub mod Lines
 pub mod Labels
 pub mod Headings
 pub mod Rows
+pub mod Printing
 pub mod ParsedLines
 pub mod Sorting
 pub mod Comparing

@@ -16,6 +16,7 @@ mod title;
 
 // What a list contains.
 mod fault;
+mod laws;
 mod list;
 mod parsed_line;
 
@@ -28,6 +29,7 @@ mod lines;
 
 pub use difference::{Change, Difference, differences};
 pub use fault::ListFault;
+pub use laws::printed_rows_are_read;
 pub use lines::list_lines;
 pub use list::{PrintedList, read_list};
 pub use lsa_instances::{Header, InstanceId};

@@ -12,7 +12,10 @@ fn list_of<'a>(rt: &HostRuntime, name: &'a str) -> Result<PrintedList, ExitFault
     let bytes = read_whole(rt.alloc(), &mut file, LONGEST_FILE).map_err(|fault| unread(
         name, fault,
     ))?;
-    read_list(rt.alloc(), &bytes).map_err(|fault| unlisted(name, fault))
+    match read_list(rt.alloc(), &bytes) {
+        Ok(list) => Ok(list),
+        Err(fault) => Err(unlisted(name, &bytes, fault)),
+    }
 }
 
 /// Opens each list, and reads it.

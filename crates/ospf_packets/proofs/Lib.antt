@@ -6,3 +6,4 @@ pub mod ParsedFrames
 pub mod Fronts
 pub mod Headers
 mod Joins
+pub mod Built

@@ -1,6 +1,6 @@
 -- The checksum of OSPF packets (RFC 2328, A.3.1, D.4; RFC 1071).
 use Rattle.std.specs.Prelude.{ℕ, ◌+◌, ◌*◌, ◌%◌, ◌==◌, ◌||◌, Bool, true, false, not, List, [], ◌∷◌, take, drop}
-use Rattle.lsa_codec.specs.Fields.{number_at}
+use Rattle.lsa_codec.specs.Fields.{byte_at}
 
 -- the sum of the words of 16 bits, the highest byte first, from the high byte of a word on or from its low one; an odd
 -- last byte is the high one of its word
@@ -12,8 +12,9 @@ words_from false (byte ∷ bytes) = byte + words_from true bytes
 abbrev pub sum_of_words : List ℕ → ℕ
 sum_of_words bytes = words_from true bytes
 
+-- the byte before it is the Instance ID (RFC 6549, 2)
 abbrev pub authentication_type_of : List ℕ → ℕ
-authentication_type_of packet = number_at 2 14 packet
+authentication_type_of packet = byte_at 15 packet
 
 -- with no authentication and with a simple password the packet has a checksum; with others it has none (D.4)
 abbrev pub has_checksum : List ℕ → Bool

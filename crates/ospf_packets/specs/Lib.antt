@@ -7,4 +7,5 @@ pub mod Hellos
 pub mod Updates
 pub mod Headers
 pub mod ParsedFrames
+pub mod Building
 pub mod Contents

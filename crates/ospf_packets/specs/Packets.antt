@@ -25,6 +25,10 @@ version_of packet = byte_at 0 packet
 abbrev pub type_of : List ℕ → ℕ
 type_of packet = byte_at 1 packet
 
+-- the Instance ID, which is 0 for the one routing domain of RFC 2328 (RFC 6549, 2)
+abbrev pub instance_of : List ℕ → ℕ
+instance_of packet = byte_at 14 packet
+
 -- header and body, without what follows them, as a digest (D.4.3)
 abbrev pub packet_length_of : List ℕ → ℕ
 packet_length_of packet = number_at 2 2 packet

@@ -13,7 +13,7 @@ use Rattle.ospf_packets.specs.Datagrams.{DatagramText}
 use Rattle.ospf_packets.specs.Fragments.{datagram_of, joined, has_front, last_few, first_few}
 use Rattle.ospf_packets.specs.Headers.{headers_after}
 use Rattle.ospf_packets.specs.Hellos.{options_of, kind_by_options}
-use Rattle.ospf_packets.specs.Packets.{PacketText, lack, type_of, area_id_of, ospf_of}
+use Rattle.ospf_packets.specs.Packets.{PacketText, lack, type_of, instance_of, area_id_of, ospf_of}
 use Rattle.ospf_packets.specs.Updates.{parsed_lsas}
 
 abbrev pub flooded : Option ℕ → PacketText → Flooded
@@ -46,9 +46,13 @@ module _ {A : Type 0} where
       else if kind == 5 then headers_after 24 by packet
       else is_warning OtherType
 
+  -- packets of other routing domains than that of RFC 2328 are counted
+  abbrev pub domain_of : List ℕ → List (Part A)
+  domain_of packet = if instance_of packet == 0 then [] else contents.OtherDomain ∷ []
+
   abbrev pub parsed_packet : Option ℕ → Result PacketText FrameWarning → List (Part A)
   parsed_packet seen (Err warning) = is_warning warning
-  parsed_packet seen (Ok packet) = parsed_by_type (type_of packet.bytes) (flooded seen packet) packet.bytes
+  parsed_packet seen (Ok packet) = domain_of packet.bytes ++ parsed_by_type (type_of packet.bytes) (flooded seen packet) packet.bytes
 
   abbrev pub parsed_joined : Option ℕ → Option (List ℕ) → List (Part A)
   parsed_joined seen None = is_warning MissingFragment

@@ -3,8 +3,6 @@
 ghost use Rattle.std.specs.Prelude.{◌≡◌, ◌≤◌, ◌<◌, ◌*◌, ◌^◌, length};
 ghost use Rattle.ospf_packets.specs.Checksums.{sum_of_words, has_checksum, is_checksum_good};
 
-use crate::field::u16_at;
-
 /// The sum of the words of 16 bits, the highest byte first; an odd last byte is the high one of its
 /// word.
 #[tactic(auto, using(crate::proofs::Words::high_more, crate::proofs::Words::low_more, crate::proofs::Words::none_left))]
@@ -29,7 +27,7 @@ fn has_checksum(packet: &[u8]) -> bool
     requires { 24 ≤ length packet.now }
     ensures { result ≡ has_checksum packet.now }
 {
-    let kind = u16_at(packet, 14);
+    let kind = packet[15];
     kind == 0 || kind == 1
 }
 

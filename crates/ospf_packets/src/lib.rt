@@ -14,10 +14,12 @@ mod field;
 mod fragment;
 mod header;
 mod hello;
+mod laws;
 mod link;
 mod packet;
 mod packets;
 mod parsed_frame;
 mod update;
 
+pub use laws::built_updates_are_read;
 pub use packets::read_frames;

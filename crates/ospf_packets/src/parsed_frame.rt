@@ -5,7 +5,7 @@ ghost use Rattle.capture_files.specs.CaptureTexts.{packet_of};
 ghost use Rattle.ospf_packets.specs.Datagrams.{datagram_text};
 ghost use Rattle.ospf_packets.specs.Fragments.{datagram_of, joined, has_front};
 ghost use Rattle.ospf_packets.specs.Packets.{packet_text, ospf_of};
-ghost use Rattle.ospf_packets.specs.ParsedFrames.{flooded, parsed_hello, parsed_update, parsed_by_type, parsed_packet, parsed_joined, parsed_later, parsed_frame, parsed_in};
+ghost use Rattle.ospf_packets.specs.ParsedFrames.{domain_of, flooded, parsed_hello, parsed_update, parsed_by_type, parsed_packet, parsed_joined, parsed_later, parsed_frame, parsed_in};
 
 use crate::datagram::Datagram;
 use crate::field::u32_at;
@@ -22,6 +22,9 @@ use std::alloc::{AllocError, Allocator};
 
 /// The number of bytes of an update packet before its LSAs.
 const UPDATE_HEADER: usize = 28;
+
+/// The place of the Instance ID in a packet (RFC 6549, 2).
+const INSTANCE: usize = 14;
 
 /// What the packet says about all of its LSAs.
 fn flooded(seen: Option<u64>, packet: Packet<'_>) -> Flooded
@@ -94,6 +97,20 @@ fn parse_by_type<A: Allocator + Copy>(
     }
 }
 
+/// Counts the packet, if it is of another routing domain than that of RFC 2328.
+fn parse_domain<A: Allocator + Copy>(
+    parsed: &mut Vec<Part<A>, A>,
+    packet: &[u8],
+) -> Result<(), AllocError>
+    requires { 24 ≤ length packet.now }
+    ensures { OnOk result (parsed.new.items ≡ parsed.old.items ++ domain_of packet.now) }
+{
+    if packet[INSTANCE] != 0 {
+        parsed.push(Part::OtherDomain)?;
+    }
+    Ok(())
+}
+
 /// Adds what the packet contains that is the payload of a datagram: all of it, or what is at hand.
 fn parse_packet<A: Allocator + Copy>(
     alloc: A,
@@ -107,6 +124,7 @@ fn parse_packet<A: Allocator + Copy>(
 {
     match ospf_of(whole, payload) {
         Ok(packet) => {
+            parse_domain(parsed, packet.bytes)?;
             let by = flooded(seen, packet);
             parse_by_type(alloc, parsed, by, packet.bytes[1], packet.bytes)
         }

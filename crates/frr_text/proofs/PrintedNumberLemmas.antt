@@ -1,4 +1,4 @@
--- Numbers that are printed after a mark or in hexadecimal are read again.
+-- For callers: numbers that are printed after a mark or in hexadecimal are read again.
 use Rattle.std.proofs.Common.{◌≡◌, ℕ, zero, suc, ◌+◌, ◌*◌, ◌/◌, ◌%◌, ◌^◌, ◌<◌, ◌≤◌, true, ltb, [], ◌∷◌, length}
 use Rattle.std.proofs.Common.{length-append, Some, refl, ap, ◌∙◌, arith, inl, inr}
 use Rattle.std.specs.Char.{digit_value}
@@ -46,6 +46,11 @@ value_is (suc count) n h =
     let pushed : digits_value 16 (printed_hex (suc count) n) ≡ digits_value 16 (printed_hex count (n / 16)) * 16 + digit_value (printed_digit (n % 16)) =
     digits_value_push 16 (printed_hex count (n / 16)) (printed_digit (n % 16)) in
     omega (arith, pushed, front, last)
+
+pub hex_length : (count n : ℕ) → length (printed_hex count n) ≡ count
+hex_length zero n = refl
+hex_length (suc count) n =
+    omega (arith, hex_length count (n / 16), length-append (printed_hex count (n / 16)) (printed_digit (n % 16) ∷ []))
 
 pub hex_again : (count max n : ℕ) → n < 16 ^ suc count → n ≤ max → hex_up_to max (printed_hex (suc count) n) ≡ Some n
 hex_again count max n h le =
