@@ -1,0 +1,5 @@
+mod AreasPassed
+mod AttachedCount
+mod Borders
+mod InOrder
+mod DueOf

@@ -1,0 +1,4 @@
+pub mod Destinations
+pub mod BorderRouters
+pub mod DueSummaries
+pub mod steps

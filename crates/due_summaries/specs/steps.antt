@@ -1,0 +1,2 @@
+-- Steps of the code, which no public contract cites.
+pub mod Ways
