@@ -1,23 +1,22 @@
 -- The links of the LSA that the bytes of a router-LSA make.
-use Rattle.std.proofs.Common.{◌≡◌, ◌≤◌, ◌<◌, ℕ, ◌+◌, Bool, true, false, cond, List, [], ◌∷◌, ◌++◌, length, map, take, drop, append_assoc, append-nil, Result, Ok, Err, refl, sym, ap, ◌∙◌, arith}
+use Rattle.std.proofs.Common.{◌≡◌, ◌≤◌, ◌<◌, ℕ, ◌+◌, Bool, true, false, cond, List, ◌++◌, length, map, take, drop, append_assoc, append-nil, Result, Ok, Err, refl, sym, ap, ◌∙◌, arith}
 use Rattle.std.specs.Prelude.{nat_lt}
 use Rattle.std.specs.List.{flat_map, All}
 use Rattle.std.proofs.lemmas.Bool.{ltb-false}
-use Rattle.std.proofs.lemmas.List.{drop-drop, drop_at, drop_all, length-append, length-take, length-drop}
+use Rattle.std.proofs.lemmas.List.{drop-drop, drop_at, drop_all, length-append, length-take}
 use Rattle.byteorder.specs.Endian.{big_bytes}
 use Rattle.lsa_codec.specs.declared.fault.LsaFault.{LsaFault}
 use Rattle.lsa_codec.specs.declared.link.Link.{Link}
-use Rattle.lsa_codec.specs.Checksum.{with_checksum}
 use Rattle.lsa_codec.specs.Decoding.{decoded}
-use Rattle.lsa_codec.specs.Fields.{length_of, byte_at, number_at, put_number}
+use Rattle.lsa_codec.specs.Fields.{length_of, byte_at, number_at}
 use Rattle.lsa_codec.specs.Links.{link_count, links_from, links_of, unplaced}
 use Rattle.lsa_codec.specs.Making.{link_text, IsLinkOf}
 use Rattle.lsa_codec.proofs.LsaLemmas.{decoded_front}
-use Rattle.lsa_remaking.specs.declared.fault.RemakeFault.{RemakeFault}
 use Rattle.lsa_remaking.specs.declared.fault.RemakeFault.TheVariants.{TooLong}
 use Rattle.lsa_remaking.specs.Making.{accepted_or_rejected, made, remeasured}
 use Rattle.arrivals.specs.Texts.{new_links_text, router_front, router_text, IsNewLink}
 use Rattle.arrivals.proofs.Parsed.{number_past, number_front, links_past, parsed}
+use Rattle.arrivals.proofs.Measured.{KeepsOthers, sized, front_length, sized_length, whole_length}
 use Rattle.arrivals.proofs.NewLinks.{both}
 
 -- ---- bytes that make an LSA
@@ -36,29 +35,11 @@ made_is text new is = by (nat_lt 65535 (length text)) refl is where
   by true long e = absurd cc
   by false short e = record { short = short; decodes = found (decoded (remeasured text)) new e }
 
--- what is known of checksums that are set again
-pub record KeepsOthers : Type 0 where
-  pub after : (x : List ℕ) → 20 ≤ length x → drop 18 (with_checksum x) ≡ drop 18 x
-  pub size : (x : List ℕ) → 20 ≤ length x → length (with_checksum x) ≡ length x
-
 module _ (keeps : KeepsOthers) (text : List ℕ) (long : 20 ≤ length text) where
-  abbrev sized : List ℕ
-  sized = put_number 2 18 (length text) text
-
-  front_length : length (take 18 text) ≡ 18
-  front_length = omega (arith, length-take 18 text)
-
-  sized_length : length sized ≡ length text
-  sized_length =
-      omega (arith, front_length, length-append (take 18 text) (big_bytes 2 (length text) ++ drop 20 text), length-drop 20 text)
-
   past_front : drop 18 (remeasured text) ≡ big_bytes 2 (length text) ++ drop 20 text
   past_front =
-      keeps.after sized (omega (arith, sized_length))
-      ∙ drop_at (take 18 text) (big_bytes 2 (length text) ++ drop 20 text) 18 front_length
-
-  whole_length : length (remeasured text) ≡ length text
-  whole_length = keeps.size sized (omega (arith, sized_length)) ∙ sized_length
+      keeps.after (sized text) (omega (arith, sized_length text long))
+      ∙ drop_at (take 18 text) (big_bytes 2 (length text) ++ drop 20 text) 18 (front_length text long)
 
   number_of : (n i : ℕ) → number_at n (18 + i) (remeasured text) ≡ number_at n i (big_bytes 2 (length text) ++ drop 20 text)
   number_of n i = sym (number_past n i 18 (remeasured text)) ∙ ap (number_at n i) past_front
@@ -72,11 +53,12 @@ module _ (keeps : KeepsOthers) (text : List ℕ) (long : 20 ≤ length text) whe
   pub whole : (new : List ℕ) → IsMade text new → new ≡ remeasured text
   whole new is =
       let short : length text < 65536 = omega (arith, ltb-false 65535 (length text) is.short) in
-      let front = decoded_front (remeasured text) new (omega (arith, whole_length, short)) is.decodes in
+      let front = decoded_front (remeasured text) new (omega (arith, whole_length text long keeps, short)) is.decodes in
       let same : length_of (remeasured text) ≡ length_of new =
       ap length_of front.parts ∙ number_front 2 18 new (drop (length new) (remeasured text)) front.accepted.header in
       let size : length new ≡ length text = sym front.accepted.length ∙ sym same ∙ field short in
-      sym (front.parts ∙ ap (λ (rest : List ℕ). new ++ rest) (drop_all (length new) (remeasured text) (omega (arith, size, whole_length))) ∙ append-nil new)
+      let all = drop_all (length new) (remeasured text) (omega (arith, size, whole_length text long keeps)) in
+      sym (front.parts ∙ ap (λ (rest : List ℕ). new ++ rest) all ∙ append-nil new)
 
 -- ---- router-LSAs
 

@@ -1,5 +1,5 @@
 -- The links of a router-LSA that keeps links and gets new ones.
-use Rattle.std.proofs.Common.{◌≡◌, ◌≤◌, ◌<◌, ℕ, zero, suc, ◌+◌, ◌*◌, ◌^◌, List, [], ◌∷◌, ◌++◌, length, get_or, map, take, drop, append_assoc, append-nil, refl, sym, ap, ◌∙◌, arith}
+use Rattle.std.proofs.Common.{◌≡◌, ℕ, ◌+◌, ◌*◌, List, [], ◌∷◌, ◌++◌, length, map, drop, append-nil, refl, sym, ap, ◌∙◌, arith}
 use Rattle.std.specs.List.{flat_map, All}
 use Rattle.std.proofs.lemmas.List.{take-append-drop, length-take, length-drop}
 use Rattle.std.proofs.lemmas.List.Elements.{All-head, All-tail, All-weaker}
@@ -73,4 +73,5 @@ both lsa kept links own new =
     ∙ texts_parsed (link_text lsa) kept (length links) (newer ++ []) ones
     ∙ ap (λ (ls : List Link). ls ++ parsed (length links) (newer ++ [])) (kept_links lsa kept own)
     ∙ ap (λ (n : ℕ). map unplaced kept ++ parsed n (newer ++ [])) count
-    ∙ ap (λ (ls : List Link). map unplaced kept ++ ls) (texts_parsed new_link_text links 0 [] others ∙ append-nil (map (λ link. link_at 0 (new_link_text link)) links) ∙ new_links links new)
+    ∙ ap (λ (ls : List Link). map unplaced kept ++ ls)
+    (texts_parsed new_link_text links 0 [] others ∙ append-nil (map (λ link. link_at 0 (new_link_text link)) links) ∙ new_links links new)

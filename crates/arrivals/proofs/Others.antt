@@ -1,5 +1,5 @@
 -- LSAs of other keys stay where one is originated or flushed.
-use Rattle.std.proofs.Common.{◌≡◌, ℕ, Bool, true, false, cond, List, [], ◌∷◌, ◌++◌, not, filter, map, Option, None, Some, append-nil, refl, sym, ap, ◌∙◌}
+use Rattle.std.proofs.Common.{◌≡◌, ℕ, Bool, true, false, cond, List, [], ◌∷◌, ◌++◌, not, filter, map, None, Some, append-nil, refl, ap, ◌∙◌}
 use Rattle.std.specs.List.{list_any}
 use Rattle.std.proofs.lemmas.List.Elements.{filter-append}
 use Rattle.lsa_codec.specs.declared.key.Key.{Key}
@@ -15,7 +15,8 @@ module _ (key : Key) where
   twice_filtered : (lsas : List (List ℕ)) → filter other (filter other lsas) ≡ filter other lsas
   twice_filtered [] = refl
   twice_filtered (lsa ∷ lsas) = by (has_key key lsa) refl where
-    by : (b : Bool) → has_key key lsa ≡ b → filter other (cond (not b) (lsa ∷ filter other lsas) (filter other lsas)) ≡ cond (not b) (lsa ∷ filter other lsas) (filter other lsas)
+    by : (b : Bool) → has_key key lsa ≡ b
+        → filter other (cond (not b) (lsa ∷ filter other lsas) (filter other lsas)) ≡ cond (not b) (lsa ∷ filter other lsas) (filter other lsas)
     by true is = twice_filtered lsas
     by false is =
         ap (λ (b : Bool). cond (not b) (lsa ∷ filter other (filter other lsas)) (filter other (filter other lsas))) is

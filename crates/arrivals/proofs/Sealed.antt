@@ -1,7 +1,7 @@
 -- Drafts that become LSAs one after another.
-use Rattle.std.proofs.Common.{◌≡◌, ◌<◌, ◌≤◌, ℕ, suc, List, [], ◌∷◌, ◌++◌, length, get_or, take, drop, append_assoc, append-nil, Result, Ok, Err, refl, sym, ap, ◌∙◌}
+use Rattle.std.proofs.Common.{◌≡◌, ◌<◌, ◌≤◌, ℕ, suc, List, [], ◌∷◌, ◌++◌, length, get_or, drop, append_assoc, append-nil, Result, Ok, Err, refl, sym, ap, ◌∙◌}
 use Rattle.std.proofs.Math.Seq.{drop-cons}
-use Rattle.std.proofs.lemmas.List.{drop_all, take_at}
+use Rattle.std.proofs.lemmas.List.{drop_all}
 use Rattle.lsdb.specs.declared.section.Section.{Section}
 use Rattle.lsa_remaking.specs.declared.fault.RemakeFault.{RemakeFault}
 use Rattle.lsa_remaking.specs.Making.{made}
@@ -47,7 +47,3 @@ pub all_sealed : (drafts : List DraftData) (i : ℕ) (done : List OriginationDat
 all_sealed drafts i done all end so_far =
     sym so_far ∙ ap (λ (ds : List DraftData). before done (sealed ds)) (drop_all i drafts end)
     ∙ ap (λ (os : List OriginationData). let answer : Answer = Ok os in answer) (append-nil done)
-
--- a Vec whose bytes were written again
-pub put_back : (bytes new old : List ℕ) (n : ℕ) → new ≡ bytes → n ≡ length bytes → take n (new ++ drop (length new) old) ≡ bytes
-put_back bytes new old n is size = take_at new (drop (length new) old) n (ap length is ∙ sym size) ∙ is

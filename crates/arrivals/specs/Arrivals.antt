@@ -1,6 +1,6 @@
 -- Links, routers and prefixes that come, and prefixes that are withdrawn: what routers originate and flush, or why the event is
 -- refused; and the database after it (RFC 2328, 12.4, 13.2, 14.1).
-use Rattle.std.specs.Prelude.{◌≡◌, ℕ, ◌==◌, ◌&&◌, ◌||◌, not, bit_and, Bool, true, false, List, [], ◌∷◌, ◌++◌, filter, map, Option, Some, None, Result, Ok, Err, if◌then◌else◌}
+use Rattle.std.specs.Prelude.{ℕ, ◌==◌, ◌&&◌, ◌||◌, not, bit_and, Bool, true, List, [], ◌∷◌, ◌++◌, filter, map, Option, Some, None, Result, Ok, Err, if◌then◌else◌}
 use Rattle.std.specs.List.{flat_map, list_any}
 use Rattle.lsa_codec.specs.declared.address.Addr.{Addr}
 use Rattle.lsa_codec.specs.declared.address.AreaId.{AreaId}
@@ -16,7 +16,6 @@ use Rattle.lsa_codec.specs.Making.{stub_link}
 use Rattle.lsa_codec.specs.Originating.{new_external}
 use Rattle.lsa_codec.specs.Prefix.{Net, mask_of_len}
 use Rattle.lsa_codec.specs.Views.{net_of_lsa}
-use Rattle.lsdb.specs.declared.section.Section.{Section}
 use Rattle.lsdb.specs.declared.section.Section.TheVariants.{Area, AsWide}
 use Rattle.lsdb.specs.Lists.{SectionLsas, Lists, has_key, is_section, lsas_of}
 use Rattle.lsdb.specs.Slots.{Slot}

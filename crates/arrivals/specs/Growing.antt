@@ -1,5 +1,5 @@
 -- The router-LSAs of a router where it gets links, or bits (RFC 2328, 12.4.1).
-use Rattle.std.specs.Prelude.{ℕ, ◌==◌, ◌&&◌, not, bit_or, Bool, List, [], ◌∷◌, length, Option, Some, None, if◌then◌else◌}
+use Rattle.std.specs.Prelude.{ℕ, ◌==◌, ◌&&◌, bit_or, List, [], ◌∷◌, length, Option, Some, None, if◌then◌else◌}
 use Rattle.std.specs.List.{flat_map}
 use Rattle.lsa_codec.specs.declared.address.AreaId.{AreaId}
 use Rattle.lsa_codec.specs.declared.address.RouterId.{RouterId}

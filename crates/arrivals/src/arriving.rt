@@ -104,6 +104,7 @@ fn push_others<A: Allocator + Copy>(
 }
 
 /// What is originated and flushed where an event is not refused.
+#[tactic(auto, using(crate::proofs::Arriving::made_whole, crate::proofs::Arriving::none_made))]
 fn originated<A: Allocator + Copy>(
     database: &Database<A>,
     areas: &[AreaKind],
@@ -134,6 +135,7 @@ fn originated<A: Allocator + Copy>(
 ///
 /// The first refusal of the event, as [`ArrivalFault`] lists them; then `TooLong` or `Rejected`
 /// where an LSA cannot be made. `OutOfMemory` may come in place of any answer.
+#[tactic(auto, using(crate::proofs::Arriving::refused, crate::proofs::Arriving::carried_out))]
 pub fn originations<A: Allocator + Copy>(
     database: &Database<A>,
     event: &Arrival,

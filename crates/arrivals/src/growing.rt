@@ -2,6 +2,7 @@
 
 ghost use Rattle.std.specs.Prelude.{◌≡◌, ◌≤◌, ◌++◌, length, IfOk, OnOk};
 ghost use Rattle.lsa_codec.specs.Fields.{kind_of};
+ghost use Rattle.lsa_codec.specs.Links.{links_of};
 ghost use Rattle.lsdb.specs.Slots.{lists_of};
 ghost use Rattle.arrivals.specs.Growing.{bit_e_in, options_in, first_flags, regrown, first_grown, grown_in, bits_with, links_in, grown, bounded};
 
@@ -9,7 +10,7 @@ use crate::area_kind::AreaKind;
 use crate::draft::Draft;
 use crate::routers::{BIT_B, BIT_E, LsaTest, becomes_border, live_lsa, somewhere};
 use crate::texts::{first_router_text, router_text};
-use lsa_codec::{AreaId, Link, Lsa, RouterId};
+use lsa_codec::{AreaId, Link, Lsa, RouterId, RouterView};
 use lsdb::{Database, Section};
 use std::alloc::{AllocError, Allocator};
 
@@ -42,7 +43,18 @@ fn first_flags<A: Allocator + Copy>(
     bit_e_in(area)
 }
 
+/// The links of a router-LSA.
+fn own_links<A: Allocator + Copy>(
+    alloc: A,
+    lsa: &RouterView<'_>,
+) -> Result<Vec<Link, A>, AllocError>
+    ensures { IfOk result (λ v. v.items ≡ links_of lsa.now) }
+{
+    lsa.links().collect(alloc)
+}
+
 /// Adds the router-LSA for an area with these links after its own, and these bits set.
+#[tactic(auto, using(crate::proofs::RouterLinks::header, crate::proofs::RouterLinks::own_links, crate::proofs::RouterLinks::own_few))]
 fn push_regrown<A: Allocator + Copy>(
     drafts: &mut Vec<Draft<A>, A>,
     alloc: A,
@@ -63,7 +75,7 @@ fn push_regrown<A: Allocator + Copy>(
     if links.is_empty() && flags | bits == flags {
         return Ok(());
     }
-    let own: Vec<Link, A> = view.links().collect(alloc)?;
+    let own = own_links(alloc, &view)?;
     let bytes = router_text(alloc, lsa.bytes(), flags | bits, &own, links)?;
     drafts.push(Draft::new(Section::Area(area.id), bytes))?;
     Ok(())

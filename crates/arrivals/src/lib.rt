@@ -33,5 +33,5 @@ mod laws;
 pub use arrival::{Arrival, Connection};
 pub use arriving::originations;
 pub use fault::ArrivalFault;
-pub use laws::{links_are_kept_and_added, other_keys_stay};
+pub use laws::{links_are_kept_and_added, other_keys_stay, stub_networks_come_and_go};
 pub use origination::Origination;

@@ -56,6 +56,7 @@ fn nothing_goes(loses: bool, lsa: &RouterView<'_>, net: Prefix) -> bool
 }
 
 /// Adds the router-LSA for an area that is left, where it is another one.
+#[tactic(auto, using(crate::proofs::RouterLinks::header, crate::proofs::RouterLinks::left_links, crate::proofs::RouterLinks::left_few))]
 fn push_left<A: Allocator + Copy>(
     drafts: &mut Vec<Draft<A>, A>,
     alloc: A,

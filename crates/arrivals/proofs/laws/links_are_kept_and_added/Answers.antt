@@ -1,7 +1,6 @@
-use Rattle.std.proofs.Common.{ℕ, List}
-use Rattle.lsa_codec.specs.declared.link.Link.{Link}
 use Rattle.lsa_codec.proofs.LsaLemmas.{has_texts}
-use Rattle.arrivals.proofs.MadeLinks.{KeepsOthers, links_made}
+use Rattle.arrivals.proofs.Measured.{KeepsOthers}
+use Rattle.arrivals.proofs.MadeLinks.{links_made}
 use Rattle.arrivals.proofs.laws.links_are_kept_and_added.Goals as goal
 
 pub returns : goal.returns
