@@ -1,0 +1,12 @@
+mod Loops
+mod Sealed
+mod Measured
+mod Areas
+mod Flushed
+mod Parsed
+mod NewLinks
+mod MadeLinks
+mod Others
+mod RouterLinks
+mod ComeAndGo
+mod Arriving
