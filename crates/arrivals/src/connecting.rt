@@ -103,6 +103,13 @@ pub(crate) fn with_stub_link<A: Allocator + Copy>(
         ≡ with_stub_link (lists_of database.now) areas.now router id net metric) }
 {
     let mut drafts = Vec::new(database.alloc());
-    push_grown(&mut drafts, database, areas, router, id, &[to_stub(net, metric)])?;
+    push_grown(
+        &mut drafts,
+        database,
+        areas,
+        router,
+        id,
+        &[to_stub(net, metric)],
+    )?;
     Ok(drafts)
 }

@@ -62,7 +62,11 @@ fn is_external<A: Allocator + Copy>(
     if key.adv.0 != router.0 {
         return false;
     }
-    suits(test, is_net(net, Some(view.net())), key == external_key(router, net))
+    suits(
+        test,
+        is_net(net, Some(view.net())),
+        key == external_key(router, net),
+    )
 }
 
 /// Whether one is meant.

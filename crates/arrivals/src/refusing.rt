@@ -42,7 +42,13 @@ fn address_fault<A: Allocator + Copy>(
     if !are_in_subnet(c) {
         return Some(ArrivalFault::NotInSubnet);
     }
-    if inside_of(LsaTest::UsesAddress(c.address), database, areas, c.router, c.area) {
+    if inside_of(
+        LsaTest::UsesAddress(c.address),
+        database,
+        areas,
+        c.router,
+        c.area,
+    ) {
         return Some(ArrivalFault::AddressTaken(c.router, c.address));
     }
     let test = LsaTest::UsesAddress(c.address_back);
@@ -180,7 +186,10 @@ pub(crate) fn fault_of<A: Allocator + Copy>(
         Arrival::Connects(c) => connection_fault(database, areas, &c),
         Arrival::Begins { router, area } => router_fault(database, areas, router, area),
         Arrival::AnnouncesStub {
-            router, area, net, ..
+            router,
+            area,
+            net,
+            ..
         } => stub_fault(database, areas, router, area, net),
         Arrival::AnnouncesExternal { router, net, .. } => {
             external_fault(database, areas, router, net)

@@ -199,8 +199,7 @@ records_read form (frame ∷ frames) h =
     let packets = map (written_packet form) frames in
     let P : List ℕ → Type 0 = λ bytes. AreRecords form bytes (written_packet form frame ∷ packets) [] in
     let Q : List ℕ → Type 0 = λ bytes. AreRecords form bytes packets [] in
-    subst P (sym (append_assoc (record_header form frame) frame.bytes rest))
-    (
+    subst P (sym (append_assoc (record_header form frame) frame.bytes rest)) (
       well_formed form frame fits rest,
       is_record form frame fits rest,
       subst Q (sym (rest_is form frame fits rest)) (records_read form frames (All-tail Fits frame frames h)),

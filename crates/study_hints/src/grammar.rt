@@ -53,9 +53,7 @@ fn see_command_text(word: SeeWord) -> &'static str
         SeeWord::Gone => "gone",
         SeeWord::Loops => "loops",
         SeeWord::Microloops => "microloops [COUNT]",
-        SeeWord::Sweep => {
-            "sweep (links | networks | routers | all) [within AREA] [sort lost]"
-        }
+        SeeWord::Sweep => { "sweep (links | networks | routers | all) [within AREA] [sort lost]" }
         SeeWord::Audit => "audit [KIND]",
         SeeWord::Log => "log",
         SeeWord::Help => "help [WORD]",
@@ -140,7 +138,13 @@ fn see_roles_of(word: SeeWord) -> &'static [Role]
         SeeWord::Gone => &[],
         SeeWord::Loops => &[],
         SeeWord::Microloops => &[Role::Count],
-        SeeWord::Sweep => &[Role::Failures, Role::Within, Role::Area, Role::Sort, Role::Lost],
+        SeeWord::Sweep => &[
+            Role::Failures,
+            Role::Within,
+            Role::Area,
+            Role::Sort,
+            Role::Lost,
+        ],
         SeeWord::Audit => &[Role::Kind],
         SeeWord::Log => &[],
         SeeWord::Help => &[Role::Word],

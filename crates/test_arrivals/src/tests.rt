@@ -2,7 +2,6 @@
 
 // What the tests share.
 mod built;
-
 mod externals;
 mod links;
 mod refusals;

@@ -97,11 +97,7 @@ fn push_section(
 }
 
 /// The bytes of all LSAs of the areas, each area after its ID.
-fn bytes_with(
-    alloc: Global,
-    database: &Database,
-    events: &[Origination],
-) -> Result<Vec<u8>, Fail> {
+fn bytes_with(alloc: Global, database: &Database, events: &[Origination]) -> Result<Vec<u8>, Fail> {
     let mut bytes = Vec::new(alloc);
     for number in 0..database.area_count() {
         let (id, _is_stub) = database.area(number);

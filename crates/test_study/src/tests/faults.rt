@@ -58,7 +58,10 @@ const LINES: &[(&str, &str)] = &[
     ("sweep routers sort", "S3 MissingWord sort"),
     ("sweep routers sort gone", "S9 BadWord gone"),
     ("sweep routers sort lost 1", "S4 ExtraWord 1"),
-    ("sweep routers sort lost within 0.0.0.1", "S4 ExtraWord within"),
+    (
+        "sweep routers sort lost within 0.0.0.1",
+        "S4 ExtraWord within",
+    ),
     ("audit nasa", "S9 BadWord nasa"),
     ("help r1", "S9 BadWord r1"),
     ("log all", "S4 ExtraWord all"),

@@ -155,7 +155,10 @@ const LINES: &[(&str, &str)] = &[
         "sweep nets in r1",
         "script S9 BadWord nets (one of links networks routers all)",
     ),
-    ("sweep all in r1", "script S9 BadWord in (one of within sort)"),
+    (
+        "sweep all in r1",
+        "script S9 BadWord in (one of within sort)",
+    ),
     (
         "sweep all within r1",
         "script S6 BadAddress r1 (an address is four numbers, 0 to 255)",
