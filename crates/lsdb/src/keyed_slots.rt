@@ -1,6 +1,6 @@
 //! The slots of one section, with their indexes beside them.
 
-ghost use Rattle.std.specs.Prelude.{◌≡◌, ◌<◌, ◌≤◌, ◌++◌, None, [], ◌∷◌, Some, length, OnOk, OnErr, IfOk, MatchOption, All};
+ghost use Rattle.std.specs.Prelude.{◌≡◌, ◌<◌, ◌≤◌, ◌+◌, ◌++◌, None, [], ◌∷◌, Some, length, OnOk, OnErr, IfOk, MatchOption, All};
 ghost use Rattle.std.specs.List.{find};
 ghost use Rattle.lsa_codec.specs.Key.{key_of};
 ghost use Rattle.lsdb.specs.Counts.{counts_of};
@@ -185,6 +185,17 @@ impl<A: Allocator + Copy> KeyedSlots<A> {
         self.slots.push(None)?;
         self.filters.push_reserved(TransitFilter::empty());
         Ok(())
+    }
+
+    /// Closes the last slot, which is empty. It takes no memory.
+    pub(crate) fn pop_empty(&mut self, index: usize)
+        requires last { length self.old ≡ index + 1 }
+        requires empty { item_at self.old index ≡ Some None }
+        ensures { self.new ++ None ∷ [] ≡ self.old }
+    {
+        // What is noted of slots that are gone does no harm, so the indexes stay.
+        self.slots.truncate(index);
+        self.filters.truncate(index);
     }
 }
 

@@ -1,6 +1,6 @@
-//! Slots: what stands at one, exchanging it, and opening one.
+//! Slots: what stands at one, exchanging it, and opening and closing one.
 
-ghost use Rattle.std.specs.Prelude.{◌≡◌, ◌↔◌, Some, None, Err, IsSome, OnOk, OnErr, IfOk, MatchOption, length};
+ghost use Rattle.std.specs.Prelude.{◌≡◌, ◌+◌, ◌↔◌, Some, None, Err, IsSome, OnOk, OnErr, IfOk, MatchOption, length};
 ghost use Rattle.std.specs.List.{find};
 ghost use Rattle.lsdb.specs.Lists.{IsDatabase, is_section};
 ghost use Rattle.lsdb.specs.Slots.{put, slot_at, lsa_at, item_at, open_at, lists_of, slots_in, OpensSlot};
@@ -67,6 +67,17 @@ impl<A: Allocator + Copy> Database<A> {
         let index = slots.as_slice().len();
         slots.push_empty()?;
         Ok(SlotId { section, index })
+    }
+
+    /// Closes the last slot of a section, which is empty: the database is the one from before the
+    /// slot was opened. It takes no memory.
+    pub fn close_slot(&mut self, slot: SlotId)
+        requires last { length (slots_in self.old slot.section) ≡ slot.index + 1 }
+        requires empty { slot_at self.old slot ≡ Some None }
+        ensures { open_at self.new slot.section ≡ self.old }
+    {
+        let slots = &mut self.sections[slot.section].slots;
+        slots.pop_empty(slot.index);
     }
 
     /// Opens an empty slot at the end of a section. The lists of LSAs stay as they are.
