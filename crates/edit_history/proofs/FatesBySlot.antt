@@ -13,8 +13,8 @@ use Rattle.lsdb.specs.Slots.{Slot, Slots, SectionSlots, item_at, slot_at, put, p
 use Rattle.lsdb.specs.steps.OneSlot.{IsPutSafe}
 use Rattle.lsdb.proofs.ListLemmas.{all_at_mid}
 use Rattle.lsdb.proofs.SlotLemmas.{put_safe, section_with, full-cons, between}
-use Rattle.edit_history.specs.Rules.{Fate, stays, removed, rewritten, Fates, by_fates, Change, outcome, change_of, section_name, lists_after}
-use Rattle.edit_history.specs.Rules.{section_after, changes_by}
+use Rattle.edit_history.specs.Rules.{Fate, stays, removed, rewritten, Fates, by_fates, Change, outcome, change_of, section_name, fated_section, fated}
+use Rattle.edit_history.specs.Rules.{fated_changes}
 use Rattle.edit_history.specs.Exchange.{SwapData, CanDo, done_slots, done_swaps, taken}
 use Rattle.edit_history.specs.steps.Plans.{slot_of, swap_for, section_swaps, swaps_from}
 use Rattle.edit_history.specs.Applied.{swap_change}
@@ -107,12 +107,12 @@ walk_slot : (fates : Fates) (low high : Slots) (area : Option AreaHead) (pre pos
     → Leads (with_section low area (pre ++ outcome f x ∷ post) high)
     (with_section low area (pre ++ outcome f x ∷ map (slot_after fates area) post) (slots_after fates high))
     (section_swaps (fates area) section (section_name area) (suc i) post ++ swaps_from fates (suc section) high)
-    (changed_in fates area post ++ changes_by (by_fates fates) (lists_of high)))
+    (changed_in fates area post ++ fated_changes fates (lists_of high)))
     → Leads (with_section low area (pre ++ Some x ∷ post) high)
     (with_section low area (pre ++ outcome f x ∷ map (slot_after fates area) post) (slots_after fates high))
     (cons_option (swap_for (slot_of section i) (section_name area) x f)
     (section_swaps (fates area) section (section_name area) (suc i) post) ++ swaps_from fates (suc section) high)
-    (cons_option (change_of (section_name area) x f) (changed_in fates area post) ++ changes_by (by_fates fates) (lists_of high))
+    (cons_option (change_of (section_name area) x f) (changed_in fates area post) ++ fated_changes fates (lists_of high))
 walk_slot fates low high area pre post x stays section i e g sound rest = rest sound
 walk_slot fates low high area pre post x removed section i e g sound rest =
     let here = slot_mid low high area pre post (Some x) None section i e g in
@@ -173,34 +173,66 @@ abbrev pub Starts : (Option AreaHead → List Slot → List Slot → Type 0) →
 Starts Holds [] = Unit {0}
 Starts Holds (s ∷ ss) = Holds s.area [] s.slots × Starts Holds ss
 
-module _ (fates : Fates) (Holds : Option AreaHead → List Slot → List Slot → Type 0) (turn : Turn fates Holds) where
+-- what holds before a slot: of the sections before and after it, and of the slots of its own section before it and from it on
+abbrev pub Passing : Type 1
+Passing = Slots → Slots → Option AreaHead → List Slot → List Slot → Type 0
+
+-- it holds after the next slot too, and the database is one
+abbrev pub Passes : Fates → Passing → Type 0
+Passes fates Fits = (low high : Slots) (area : Option AreaHead) (pre post : List Slot) (p : Slot) → Fits low high area pre (p ∷ post)
+    → IsDatabase (lists_of (with_section low area (pre ++ p ∷ post) high))
+    → IsDatabase (lists_of (with_section low area (pre ++ slot_after fates area p ∷ post) high))
+    × Fits low high area (pre ++ slot_after fates area p ∷ []) post
+
+-- after the last slot of a section it holds before the next section
+abbrev pub Goes : Passing → Type 0
+Goes Fits = (low high : Slots) (area : Option AreaHead) (pre : List Slot) (s : SectionSlots) → Fits low (s ∷ high) area pre []
+    → Fits (low ++ section_slots area (pre ++ []) ∷ []) high s.area [] s.slots
+
+module _ (fates : Fates) (Fits : Slots → Slots → Option AreaHead → List Slot → List Slot → Type 0) (pass : Passes fates Fits) (go : Goes Fits) where
   -- the walk on from slot i of a section
-  walk : (low high : Slots) (area : Option AreaHead) (pre post : List Slot) (section i : ℕ) → Holds area pre post → Starts Holds high
+  walk : (low high : Slots) (area : Option AreaHead) (pre post : List Slot) (section i : ℕ) → Fits low high area pre post
       → section ≡ length low → i ≡ length pre → IsDatabase (lists_of (with_section low area (pre ++ post) high))
       → Leads (with_section low area (pre ++ post) high)
       (with_section low area (pre ++ map (slot_after fates area) post) (slots_after fates high))
       (section_swaps (fates area) section (section_name area) i post ++ swaps_from fates (suc section) high)
-      (changed_in fates area post ++ changes_by (by_fates fates) (lists_of high))
-  walk low [] area pre [] section i here others e g sound = record { can = tt; leads = refl; reports = refl }
-  walk low (s ∷ high) area pre [] section i here others e g sound =
+      (changed_in fates area post ++ fated_changes fates (lists_of high))
+  walk low [] area pre [] section i here e g sound = record { can = tt; leads = refl; reports = refl }
+  walk low (s ∷ high) area pre [] section i here e g sound =
       passed low high (slots_after fates high) (section_slots area (pre ++ [])) s
       (section_slots s.area (map (slot_after fates s.area) s.slots)) _ _
-      (walk (low ++ section_slots area (pre ++ []) ∷ []) high s.area [] s.slots (suc section) 0 others.0 others.1
+      (walk (low ++ section_slots area (pre ++ []) ∷ []) high s.area [] s.slots (suc section) 0 (go low high area pre s here)
       (pushed low (section_slots area (pre ++ [])) section e) refl) sound
-  walk low high area pre (None ∷ post) section i here others e g sound =
+  walk low high area pre (None ∷ post) section i here e g sound =
       shifted low high (slots_after fates high) area pre post (map (slot_after fates area) post) None _ _
-      (walk low high area (pre ++ None ∷ []) post section (suc i) (turn low high area pre post None here sound).holds others e (pushed pre None i g)) sound
-  walk low high area pre (Some x ∷ post) section i here others e g sound =
-      let t = turn low high area pre post (Some x) here sound in
-      walk_slot fates low high area pre post x (fates area x) section i e g t.sound
+      (walk low high area (pre ++ None ∷ []) post section (suc i) (pass low high area pre post None here sound).1 e (pushed pre None i g)) sound
+  walk low high area pre (Some x ∷ post) section i here e g sound =
+      let t = pass low high area pre post (Some x) here sound in
+      walk_slot fates low high area pre post x (fates area x) section i e g t.0
       (shifted low high (slots_after fates high) area pre post (map (slot_after fates area) post) (outcome (fates area x) x) _ _
-      (walk low high area (pre ++ outcome (fates area x) x ∷ []) post section (suc i) t.holds others e (pushed pre (outcome (fates area x) x) i g)))
+      (walk low high area (pre ++ outcome (fates area x) x ∷ []) post section (suc i) t.1 e (pushed pre (outcome (fates area x) x) i g)))
 
-  -- all fates, carried out at all slots
+  -- all fates, carried out at all slots, from the first section on
+  pub walked_from : (s : SectionSlots) (ss : Slots) → Fits [] ss s.area [] s.slots → IsDatabase (lists_of (s ∷ ss))
+      → Leads (s ∷ ss) (slots_after fates (s ∷ ss)) (swaps_from fates 0 (s ∷ ss)) (fated_changes fates (lists_of (s ∷ ss)))
+  walked_from s ss fits sound = walk [] ss s.area [] s.slots 0 0 fits refl refl sound
+
+-- ---- what holds of one section
+
+module _ (fates : Fates) (Holds : Option AreaHead → List Slot → List Slot → Type 0) (turn : Turn fates Holds) where
+  abbrev InSection : Slots → Slots → Option AreaHead → List Slot → List Slot → Type 0
+  InSection low high area pre post = Holds area pre post × Starts Holds high
+
+  section_pass : Passes fates InSection
+  section_pass low high area pre post p here sound = let t = turn low high area pre post p here.0 sound in (t.sound, t.holds, here.1)
+
+  section_go : Goes InSection
+  section_go low high area pre s here = here.1
+
   pub walked_by : (d : Slots) → Starts Holds d → IsDatabase (lists_of d)
-      → Leads d (slots_after fates d) (swaps_from fates 0 d) (changes_by (by_fates fates) (lists_of d))
+      → Leads d (slots_after fates d) (swaps_from fates 0 d) (fated_changes fates (lists_of d))
   walked_by [] starts sound = record { can = tt; leads = refl; reports = refl }
-  walked_by (s ∷ ss) starts sound = walk [] ss s.area [] s.slots 0 0 starts.0 starts.1 refl refl sound
+  walked_by (s ∷ ss) starts sound = walked_from fates InSection section_pass section_go s ss starts sound
 
 -- ---- fates that keep the keys
 
@@ -236,7 +268,7 @@ safe_turn fates safe low high area pre post (Some x) here sound =
       by_fate (rewritten new) fits = put_in low high area pre post x (Some new) fits sound
 
 pub walked : (fates : Fates) (d : Slots) → IsSafe fates → IsDatabase (lists_of d)
-    → Leads d (slots_after fates d) (swaps_from fates 0 d) (changes_by (by_fates fates) (lists_of d))
+    → Leads d (slots_after fates d) (swaps_from fates 0 d) (fated_changes fates (lists_of d))
 walked fates d safe sound = walked_by fates AnySlots (safe_turn fates safe) d (any_start d) sound
 
 -- ---- the lists
@@ -249,15 +281,15 @@ full-after fates area (Some x ∷ ps) =
     full-cons (outcome (fates area x) x) (map (slot_after fates area) ps) ∙ ap (cons_option (outcome (fates area x) x)) (full-after fates area ps)
 
 -- the slots hold what the fates leave of the lists
-pub lists-after : (fates : Fates) (d : Slots) → lists_of (slots_after fates d) ≡ lists_after (by_fates fates) (lists_of d)
+pub lists-after : (fates : Fates) (d : Slots) → lists_of (slots_after fates d) ≡ fated fates (lists_of d)
 lists-after fates [] = refl
 lists-after fates (s ∷ ss) =
     ap (λ (xs : List (List ℕ)). section_with s.area xs ∷ lists_of (slots_after fates ss)) (full-after fates s.area s.slots)
-    ∙ ap (λ (ts : Lists). section_after (by_fates fates) (section_of s) ∷ ts) (lists-after fates ss)
+    ∙ ap (λ (ts : Lists). fated_section fates (section_of s) ∷ ts) (lists-after fates ss)
 
 -- the swaps of all slots do what the fates require
 pub carried_out : (fates : Fates) (d : Slots)
-    → Leads d (slots_after fates d) (swaps_from fates 0 d) (changes_by (by_fates fates) (lists_of d))
+    → Leads d (slots_after fates d) (swaps_from fates 0 d) (fated_changes fates (lists_of d))
     → CarriesOutRule d (by_fates fates) (swaps_from fates 0 d)
 carried_out fates d w = record {
   can = w.can;

@@ -15,6 +15,7 @@ pub mod Candidates
 pub mod RulesCarriedOut
 pub mod FatesBySlot
 pub mod Rekeyed
+pub mod LongerLsas
 pub mod FreshFates
 pub mod PlannedChanges
 pub mod FittingLoops
@@ -28,6 +29,15 @@ pub mod RouterSwaps
 pub mod NetworkSwaps
 pub mod FailureRules
 pub mod RoomForLsas
+pub mod NewLsas
+pub mod Ends
+pub mod NewsCarried
+pub mod NoMore
+pub mod RoomForAll
+pub mod GainedBytes
+pub mod OpenedSlots
+pub mod ComingPlans
+pub mod Originations
 pub mod Additions
 pub mod AdditionRules
 pub mod OneLsa

@@ -6,7 +6,7 @@ use Rattle.std.proofs.lemmas.List.{map-append}
 use Rattle.lsa_codec.specs.Fields.{kind_of}
 use Rattle.lsdb.specs.Lists.{AreaHead}
 use Rattle.lsdb.specs.Slots.{Slot, Slots, slot_at, lists_of}
-use Rattle.edit_history.specs.Rules.{Fate, stays, removed, rewritten, Fates, by_fates, Change, change_of, section_name, changes_by}
+use Rattle.edit_history.specs.Rules.{Fate, stays, removed, rewritten, Fates, Change, change_of, section_name, fated_changes}
 use Rattle.edit_history.specs.Exchange.{SwapData}
 use Rattle.edit_history.specs.steps.Plans.{planned_change, slot_of, swap_for, section_swaps, swaps_from}
 use Rattle.edit_history.proofs.FatesBySlot.{changed_in, slot_mid, with_section}
@@ -48,7 +48,7 @@ module _ (d : Slots) (fates : Fates) where
 
   -- the sections from one on
   sections_planned : (low ss : Slots) (k : ℕ) → d ≡ low ++ ss → k ≡ length low
-      → map (planned_change d) (swaps_from fates k ss) ≡ changes_by (by_fates fates) (lists_of ss)
+      → map (planned_change d) (swaps_from fates k ss) ≡ fated_changes fates (lists_of ss)
   sections_planned low [] k is e = refl
   sections_planned low (s ∷ ss) k is e =
       let mine : List SwapData = section_swaps (fates s.area) k (section_name s.area) 0 s.slots in
@@ -58,5 +58,5 @@ module _ (d : Slots) (fates : Fates) where
       ∙ ap (λ (cs : List Change). changed_in fates s.area s.slots ++ cs)
       (sections_planned (low ++ s ∷ []) ss (suc k) (is ∙ sym (append_assoc low (s ∷ []) ss)) (omega (arith, e, length-append low (s ∷ []))))
 
-  pub all_planned : map (planned_change d) (swaps_from fates 0 d) ≡ changes_by (by_fates fates) (lists_of d)
+  pub all_planned : map (planned_change d) (swaps_from fates 0 d) ≡ fated_changes fates (lists_of d)
   all_planned = sections_planned [] d 0 refl refl

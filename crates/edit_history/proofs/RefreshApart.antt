@@ -14,7 +14,7 @@ use Rattle.summary_metrics.specs.Refreshed.{id_of, is_stale, due_in, refreshed_a
 use Rattle.summary_metrics.proofs.StaleLemmas.{stale_summary}
 use Rattle.edit_script.specs.declared.edit.Edit.TheVariants.{Refresh}
 use Rattle.edit_history.specs.declared.fault.EditFault.{EditFault}
-use Rattle.edit_history.specs.Rules.{Rule, Change, by_fates, change_of, section_name, section_changes, changes_by}
+use Rattle.edit_history.specs.Rules.{Rule, Change, Fates, change_of, section_name, section_changes, fated_changes, changes_by}
 use Rattle.edit_history.specs.Effect.{is_graph_kind, is_of_graph, touched, touched_by, edit_touches, ◌>>=◌}
 use Rattle.edit_history.specs.Refreshing.{with_due, metric_fate, refresh_fates}
 use Rattle.edit_history.proofs.RefreshSettles.{refresh_ruled}
@@ -59,12 +59,12 @@ module _ (area : AreaId) where
     by_change None apart rest = rest
     by_change (Some c) apart rest = ap (λ b. b || touched area (filter_map f lsas)) apart ∙ rest
 
-  none_touch : (db ss : Lists) → touched area (changes_by (by_fates (refresh_fates db)) ss) ≡ false
+  none_touch : (db ss : Lists) → touched area (fated_changes (refresh_fates db) ss) ≡ false
   none_touch db [] = refl
   none_touch db (s ∷ ss) =
-      let rule : Rule = by_fates (refresh_fates db) in
-      list_any-append (λ (c : Change). is_of_graph area c.section c.kind) (section_changes rule s) (changes_by rule ss)
-      ∙ ap (λ b. b || touched area (changes_by rule ss))
+      let fates : Fates = refresh_fates db in
+      list_any-append (λ (c : Change). is_of_graph area c.section c.kind) (section_changes fates s) (fated_changes fates ss)
+      ∙ ap (λ b. b || touched area (fated_changes fates ss))
       (none_of (λ lsa. change_of (section_name s.area) lsa (refresh_fates db s.area lsa)) s.lsas (refresh_apart db s.area))
       ∙ none_touch db ss
 

@@ -22,7 +22,7 @@ use Rattle.edit_history.proofs.Keys.{head_in}
 
 -- ---- another item in the middle of a list
 
-all_placed : {X : Type 0} (P : X → Type 0) (front back : List X) (x y : X) → P y → All P (front ++ x ∷ back) → All P (front ++ y ∷ back)
+pub all_placed : {X : Type 0} (P : X → Type 0) (front back : List X) (x y : X) → P y → All P (front ++ x ∷ back) → All P (front ++ y ∷ back)
 all_placed P [] back x y here all = All-cons P y back here (All-tail P x back all)
 all_placed P (z ∷ front) back x y here all =
     All-cons P z (front ++ y ∷ back) (All-head P z (front ++ x ∷ back) all) (all_placed P front back x y here (All-tail P z (front ++ x ∷ back) all))
@@ -138,7 +138,7 @@ full_passed pre post v =
       by_slot None = refl
       by_slot (Some x) = refl
 
-lists_mid : (low high : Slots) (area : Option AreaHead) (pre post : List Slot) (x : List ℕ)
+pub lists_mid : (low high : Slots) (area : Option AreaHead) (pre post : List Slot) (x : List ℕ)
     → lists_of (with_section low area (pre ++ Some x ∷ post) high)
     ≡ lists_of low ++ section_with area (full pre ++ x ∷ full post) ∷ lists_of high
 lists_mid low high area pre post x =

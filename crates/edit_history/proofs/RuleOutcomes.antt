@@ -1,5 +1,5 @@
--- What a rule that adds no LSA leaves of lists of LSAs, and what it changes.
-use Rattle.std.proofs.Common.{◌≡◌, ℕ, List, [], ◌∷◌, ◌++◌, append_assoc, Option, Some, None, refl, sym, ap, ◌∙◌}
+-- What fates leave of lists of LSAs, and what they change.
+use Rattle.std.proofs.Common.{◌≡◌, ℕ, List, [], ◌∷◌, ◌++◌, append_assoc, append-nil, map, Option, Some, None, refl, sym, ap, ◌∙◌}
 use Rattle.std.specs.Prelude.{All}
 use Rattle.std.specs.List.{filter_map, cons_option}
 use Rattle.std.proofs.lemmas.List.Elements.{All-head, All-tail}
@@ -7,8 +7,8 @@ use Rattle.lsa_codec.specs.Fields.{kind_of}
 use Rattle.lsdb.specs.Lists.{AreaHead, SectionLsas, Lists}
 use Rattle.lsdb.proofs.ListLemmas.{map_mid}
 use Rattle.lsdb.proofs.SlotLemmas.{section_with}
-use Rattle.edit_history.specs.Rules.{Fate, stays, removed, rewritten, Rule, Fates, by_fates, outcome, section_after, lists_after, Change, change_of}
-use Rattle.edit_history.specs.Rules.{section_name, section_changes, changes_by}
+use Rattle.edit_history.specs.Rules.{Fate, stays, removed, rewritten, Fates, outcome, fated_section, fated, Change, change_of}
+use Rattle.edit_history.specs.Rules.{section_name, section_changes, fated_changes, NewLsa, addition, with_additions}
 use Rattle.lsdb.specs.declared.section.Section.{Section}
 use Rattle.lsdb.specs.Slots.{Slot}
 
@@ -50,20 +50,20 @@ none_change fates area (x ∷ xs) h =
 
 -- ---- sections that stay
 
-sections_stay : (fates : Fates) (ss : Lists) → All (AllStay fates) ss → lists_after (by_fates fates) ss ≡ ss
+pub sections_stay : (fates : Fates) (ss : Lists) → All (AllStay fates) ss → fated fates ss ≡ ss
 sections_stay fates [] h = refl
 sections_stay fates (s ∷ ss) h =
-    ap (λ (xs : List (List ℕ)). section_with s.area xs ∷ lists_after (by_fates fates) ss)
+    ap (λ (xs : List (List ℕ)). section_with s.area xs ∷ fated fates ss)
     (all_stay fates s.area s.lsas (All-head (AllStay fates) s ss h))
     ∙ ap (λ (ts : Lists). s ∷ ts) (sections_stay fates ss (All-tail (AllStay fates) s ss h))
 
-no_changes : (fates : Fates) (ss : Lists) → All (AllStay fates) ss → changes_by (by_fates fates) ss ≡ []
+pub no_changes : (fates : Fates) (ss : Lists) → All (AllStay fates) ss → fated_changes fates ss ≡ []
 no_changes fates [] h = refl
 no_changes fates (s ∷ ss) h =
-    ap (λ (xs : List Change). xs ++ changes_by (by_fates fates) ss) (none_change fates s.area s.lsas (All-head (AllStay fates) s ss h))
+    ap (λ (xs : List Change). xs ++ fated_changes fates ss) (none_change fates s.area s.lsas (All-head (AllStay fates) s ss h))
     ∙ no_changes fates ss (All-tail (AllStay fates) s ss h)
 
--- ---- a rule that touches one LSA alone
+-- ---- fates that touch one LSA alone
 
 -- the fate of an LSA whose slot gets this
 abbrev pub fate_of : Slot → Fate
@@ -91,7 +91,7 @@ pub record TouchesOne (fates : Fates) (low high : Lists) (area : Option AreaHead
 
 pub one_after : (fates : Fates) (low high : Lists) (area : Option AreaHead) (front back : List (List ℕ)) (x : List ℕ) (other : Slot)
     → TouchesOne fates low high area front back x other
-    → lists_after (by_fates fates) (low ++ section_with area (front ++ x ∷ back) ∷ high) ≡ low ++ section_with area
+    → fated fates (low ++ section_with area (front ++ x ∷ back) ∷ high) ≡ low ++ section_with area
     (front ++ cons_option other back) ∷ high
 one_after fates low high area front back x other t =
     let inner : filter_map (after fates area) (front ++ x ∷ back) ≡ front ++ cons_option other back =
@@ -100,22 +100,22 @@ one_after fates low high area front back x other t =
     ∙ ap (λ (f : Fate). front ++ cons_option (outcome f x) (filter_map (after fates area) back)) t.here
     ∙ ap (λ (p : Slot). front ++ cons_option p (filter_map (after fates area) back)) (outcome_is x other)
     ∙ ap (λ (ys : List (List ℕ)). front ++ cons_option other ys) (all_stay fates area back t.beyond) in
-    map_mid (section_after (by_fates fates)) low high (section_with area (front ++ x ∷ back))
-    ∙ ap (λ (ss : Lists). ss ++ section_after (by_fates fates) (section_with area (front ++ x ∷ back)) ∷ lists_after (by_fates fates) high)
+    map_mid (fated_section fates) low high (section_with area (front ++ x ∷ back))
+    ∙ ap (λ (ss : Lists). ss ++ fated_section fates (section_with area (front ++ x ∷ back)) ∷ fated fates high)
     (sections_stay fates low t.below)
-    ∙ ap (λ (ys : List (List ℕ)). low ++ section_with area ys ∷ lists_after (by_fates fates) high) inner
+    ∙ ap (λ (ys : List (List ℕ)). low ++ section_with area ys ∷ fated fates high) inner
     ∙ ap (λ (ss : Lists). low ++ section_with area (front ++ cons_option other back) ∷ ss) (sections_stay fates high t.above)
 
-pub changes_mid : (rule : Rule) (low high : Lists) (s : SectionLsas)
-    → changes_by rule (low ++ s ∷ high) ≡ changes_by rule low ++ (section_changes rule s ++ changes_by rule high)
-changes_mid rule [] high s = refl
-changes_mid rule (l ∷ low) high s =
-    ap (λ (xs : List Change). section_changes rule l ++ xs) (changes_mid rule low high s)
-    ∙ sym (append_assoc (section_changes rule l) (changes_by rule low) (section_changes rule s ++ changes_by rule high))
+changes_mid : (fates : Fates) (low high : Lists) (s : SectionLsas)
+    → fated_changes fates (low ++ s ∷ high) ≡ fated_changes fates low ++ (section_changes fates s ++ fated_changes fates high)
+changes_mid fates [] high s = refl
+changes_mid fates (l ∷ low) high s =
+    ap (λ (xs : List Change). section_changes fates l ++ xs) (changes_mid fates low high s)
+    ∙ sym (append_assoc (section_changes fates l) (fated_changes fates low) (section_changes fates s ++ fated_changes fates high))
 
 pub one_change : (fates : Fates) (low high : Lists) (area : Option AreaHead) (front back : List (List ℕ)) (x : List ℕ) (other : Slot)
     → TouchesOne fates low high area front back x other
-    → changes_by (by_fates fates) (low ++ section_with area (front ++ x ∷ back) ∷ high) ≡ change_to (section_name area) x other ∷ []
+    → fated_changes fates (low ++ section_with area (front ++ x ∷ back) ∷ high) ≡ change_to (section_name area) x other ∷ []
 one_change fates low high area front back x other t =
     let inner : filter_map (change fates area) (front ++ x ∷ back) ≡ change_to (section_name area) x other ∷ [] =
     filter_map_mid (change fates area) front back x
@@ -123,8 +123,15 @@ one_change fates low high area front back x other t =
     ∙ ap (λ (f : Fate). cons_option (change_of (section_name area) x f) (filter_map (change fates area) back)) t.here
     ∙ ap (λ (o : Option Change). cons_option o (filter_map (change fates area) back)) (change_is (section_name area) x other)
     ∙ ap (λ (ys : List Change). change_to (section_name area) x other ∷ ys) (none_change fates area back t.beyond) in
-    changes_mid (by_fates fates) low high (section_with area (front ++ x ∷ back))
-    ∙ ap (λ (ys : List Change). ys ++ (filter_map (change fates area) (front ++ x ∷ back) ++ changes_by (by_fates fates) high))
+    changes_mid fates low high (section_with area (front ++ x ∷ back))
+    ∙ ap (λ (ys : List Change). ys ++ (filter_map (change fates area) (front ++ x ∷ back) ++ fated_changes fates high))
     (no_changes fates low t.below)
-    ∙ ap (λ (ys : List Change). ys ++ changes_by (by_fates fates) high) inner
+    ∙ ap (λ (ys : List Change). ys ++ fated_changes fates high) inner
     ∙ ap (λ (ys : List Change). change_to (section_name area) x other ∷ ys) (no_changes fates high t.above)
+
+-- ---- new LSAs
+
+-- the changes of new LSAs come after the others
+pub additions_are : (news : List NewLsa) (cs : List Change) → with_additions news cs ≡ cs ++ map addition news
+additions_are [] cs = sym (append-nil cs)
+additions_are (new ∷ news) cs = additions_are news (cs ++ addition new ∷ []) ∙ append_assoc cs (addition new ∷ []) (map addition news)

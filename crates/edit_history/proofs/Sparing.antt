@@ -1,6 +1,6 @@
 -- An edit that touches no router-LSA or network-LSA of an area leaves those of the area as they are.
 use Rattle.std.proofs.Common.{◌≡◌, ℕ, Bool, true, false, cond, ◌&&◌, List, [], ◌∷◌, ◌++◌, length, Option, Some, None, Result, Ok, Err, refl, sym}
-use Rattle.std.proofs.Common.{ap, ◌∙◌, subst, append-nil}
+use Rattle.std.proofs.Common.{ap, ◌∙◌, subst, append-nil, map}
 use Rattle.std.specs.Prelude.{All, IfOk, if◌then◌else◌, ◌==◌}
 use Rattle.std.specs.List.{find, filter_map, cons_option}
 use Rattle.std.proofs.lemmas.Bool.{or_parts, and_parts, eqb-true}
@@ -29,8 +29,9 @@ use Rattle.event_links.specs.declared.selection.LinkEdit.{LinkEdit}
 use Rattle.event_links.specs.Events.{resolved}
 use Rattle.edit_history.specs.declared.fault.EditFault.{EditFault}
 use Rattle.edit_history.specs.declared.fault.EditFault.TheVariants.{NoArea, NoRouter, NoLink, SameRouter, NoNetwork, NoSummary, NoExternal, KeyTaken, Full}
-use Rattle.edit_history.specs.Rules.{Fate, stays, removed, rewritten, Rule, NewLsa, Change, by_fates, one_lsa, within, adding, outcome}
-use Rattle.edit_history.specs.Rules.{change_of, addition, with_added, section_name, section_after, section_changes, lists_after, changes_by}
+use Rattle.edit_history.specs.Rules.{Fate, stays, removed, rewritten, Fates, Rule, NewLsa, Change, by_fates, one_lsa, within, adding, outcome}
+use Rattle.edit_history.specs.Rules.{change_of, addition, section_name, fated_section, fated, section_with_new, with_new, with_added, lists_after}
+use Rattle.edit_history.specs.Rules.{section_changes, fated_changes, with_additions, changes_by}
 use Rattle.edit_history.specs.Effect.{◌>>=◌, or_refused, made, area_of, router_lsa_in, router_lsa_of, has_router, stub_bytes, is_dump_full, remaking}
 use Rattle.edit_history.specs.Effect.{is_originated_for, are_linked, options_in, is_type2, room_for, added, link_fate, net_fate, router_fate}
 use Rattle.network_departures.specs.declared.departure.Departure.{Departure}
@@ -40,8 +41,9 @@ use Rattle.edit_history.specs.declared.happening.Happening.{Happening}
 use Rattle.edit_history.specs.declared.happening.Happening.TheVariants.{OfLinks, Departs}
 use Rattle.edit_history.specs.Events.{departure_fates, departure_refusal, happening_of, happening_rule, link_fates, refusal_of, rule_by, rule_if_fit, rule_unless}
 use Rattle.edit_history.specs.Fitting.{all_fit}
-use Rattle.edit_history.specs.Effect.{rule_of, effect, is_graph_kind, touched, touched_by, edit_touches, graph_lsas}
-use Rattle.edit_history.proofs.Keys.{found_passes}
+use Rattle.edit_history.specs.Effect.{rule_of, effect, is_graph_kind, is_of_graph, touched, touched_by, edit_touches, graph_lsas}
+use Rattle.edit_history.proofs.Keys.{found_passes, name_is}
+use Rattle.edit_history.proofs.RuleOutcomes.{additions_are}
 use Rattle.edit_history.proofs.SparedFates.{is_graph_lsa, graph_of, IsSpared, Spares, router_lsa_spares, one_spares, links_spare, network_spares}
 use Rattle.edit_history.proofs.SparedFates.{router_spares, refresh_spares, events_spare, departures_spare}
 
@@ -205,61 +207,78 @@ kept_graph fate id area (x ∷ xs) spares all here untouched =
           let other : is_graph_lsa x ≡ false = not_of_graph (id == area.0) (kind_of x) here parts.0 in
           sym (dropped new rest_after rest_after (spared other) refl) ∙ dropped x rest_after xs other (rest parts.1)
 
-section_graph : (rule : Rule) (area : AreaId) (s : SectionLsas) → Spares rule → All IsAccepted s.lsas → is_section (Area area) s ≡ true
-    → touched area (section_changes rule s) ≡ false
-    → graph_of (section_after rule s).lsas ≡ graph_of s.lsas
-section_graph rule area s spares all named untouched = by_head s.area s.lsas all named (by_added rule.added) untouched where
+section_graph : (fates : Fates) (area : AreaId) (s : SectionLsas) → Spares (by_fates fates) → All IsAccepted s.lsas → is_section (Area area) s ≡ true
+    → touched area (section_changes fates s) ≡ false
+    → graph_of (fated_section fates s).lsas ≡ graph_of s.lsas
+section_graph fates area s spares all named untouched = by_head s.area s.lsas all named untouched where
   by_head : (head : Option AreaHead) (lsas : List (List ℕ)) → All IsAccepted lsas → is_head_of (Area area) head ≡ true
-      → ((head : AreaHead) (lsas : List (List ℕ)) → All IsAccepted lsas → (head.id == area.0) ≡ true
-      → touched area (with_added (addition (section_name (Some head))) rule.added (Some head)
-      (filter_map (λ lsa. change_of (section_name (Some head)) lsa (rule.fates (Some head) lsa)) lsas)) ≡ false
-      → graph_of (with_added (λ lsa. lsa) rule.added (Some head) (filter_map (λ lsa. outcome (rule.fates (Some head) lsa) lsa) lsas)) ≡ graph_of lsas)
-      → touched area (with_added (addition (section_name head)) rule.added head
-      (filter_map (λ lsa. change_of (section_name head) lsa (rule.fates head lsa)) lsas)) ≡ false
-      → graph_of (with_added (λ lsa. lsa) rule.added head (filter_map (λ lsa. outcome (rule.fates head lsa) lsa) lsas)) ≡ graph_of lsas
-  by_head None lsas all named each un = absurd cc
-  by_head (Some head) lsas all named each un = each head lsas all named un
+      → touched area (filter_map (λ lsa. change_of (section_name head) lsa (fates head lsa)) lsas) ≡ false
+      → graph_of (filter_map (λ lsa. outcome (fates head lsa) lsa) lsas) ≡ graph_of lsas
+  by_head None lsas all named un = absurd cc
+  by_head (Some head) lsas all named un = kept_graph (fates (Some head)) head.id area lsas (spares (Some head)) all named un
 
-  by_added : (o : Option NewLsa) (head : AreaHead) (lsas : List (List ℕ)) → All IsAccepted lsas → (head.id == area.0) ≡ true
-      → touched area (with_added (addition (section_name (Some head))) o (Some head)
-      (filter_map (λ lsa. change_of (section_name (Some head)) lsa (rule.fates (Some head) lsa)) lsas)) ≡ false
-      → graph_of (with_added (λ lsa. lsa) o (Some head) (filter_map (λ lsa. outcome (rule.fates (Some head) lsa) lsa) lsas)) ≡ graph_of lsas
-  by_added None head lsas all here un = kept_graph (rule.fates (Some head)) head.id area lsas (spares (Some head)) all here un
-  by_added (Some new) head lsas all here un = by_section (is_head_of new.section (Some head)) un where
-    after : List (List ℕ)
-    after = filter_map (λ lsa. outcome (rule.fates (Some head) lsa) lsa) lsas
+-- a section of the area with a new LSA, whose change touches no graph
+section_new : (new : NewLsa) (area : AreaId) (s : SectionLsas) → is_section (Area area) s ≡ true
+    → is_of_graph area new.section (kind_of new.lsa) ≡ false → graph_of (section_with_new new s).lsas ≡ graph_of s.lsas
+section_new new area s named untouched = by_section (is_head_of new.section s.area) refl where
+  other : (head : Option AreaHead) → is_head_of (Area area) head ≡ true → is_of_graph area (section_name head) (kind_of new.lsa) ≡ false
+      → is_graph_lsa new.lsa ≡ false
+  other None here un = absurd cc
+  other (Some head) here un = not_of_graph (head.id == area.0) (kind_of new.lsa) here un
 
-    cs : List Change
-    cs = filter_map (λ lsa. change_of (section_name (Some head)) lsa (rule.fates (Some head) lsa)) lsas
-
-    by_section : (b : Bool) → touched area (if b then cs ++ addition (section_name (Some head)) new.lsa ∷ [] else cs) ≡ false
-        → graph_of (if b then after ++ new.lsa ∷ [] else after) ≡ graph_of lsas
-    by_section false rest = kept_graph (rule.fates (Some head)) head.id area lsas (spares (Some head)) all here rest
-    by_section true both =
-        let parts = or_parts _ _ (sym (list_any-append _ cs (addition (section_name (Some head)) new.lsa ∷ [])) ∙ both) in
-        let last = or_parts _ _ parts.1 in
-        let other : is_graph_lsa new.lsa ≡ false = not_of_graph (head.id == area.0) (kind_of new.lsa) here last.0 in
-        filter-append is_graph_lsa after (new.lsa ∷ [])
-        ∙ ap (λ (ys : List (List ℕ)). graph_of after ++ ys) (sym (dropped new.lsa [] [] other refl))
-        ∙ append-nil (graph_of after)
-        ∙ kept_graph (rule.fates (Some head)) head.id area lsas (spares (Some head)) all here parts.0
+  by_section : (b : Bool) → is_head_of new.section s.area ≡ b → graph_of (if b then s.lsas ++ new.lsa ∷ [] else s.lsas) ≡ graph_of s.lsas
+  by_section false is = refl
+  by_section true is =
+      let un : is_of_graph area (section_name s.area) (kind_of new.lsa) ≡ false =
+      ap (λ (name : Section). is_of_graph area name (kind_of new.lsa)) (sym (name_is new.section s.area is)) ∙ untouched in
+      filter-append is_graph_lsa s.lsas (new.lsa ∷ [])
+      ∙ ap (λ (ys : List (List ℕ)). graph_of s.lsas ++ ys) (sym (dropped new.lsa [] [] (other s.area named un) refl))
+      ∙ append-nil (graph_of s.lsas)
 
 -- ---- a whole database
 
+-- the sections change each by itself, and those of the area keep their graph
+sections_graph : (area : AreaId) (s t : SectionLsas) (ss ts : Lists) → t.area ≡ s.area
+    → (is_section (Area area) s ≡ true → graph_of t.lsas ≡ graph_of s.lsas) → graph_lsas area ts ≡ graph_lsas area ss
+    → graph_lsas area (t ∷ ts) ≡ graph_lsas area (s ∷ ss)
+sections_graph area s t ss ts same here rest =
+    ap (λ (head : Option AreaHead). graph_of (lsas_or_none (cond (is_head_of (Area area) head) (Some t) (find (is_section (Area area)) ts)))) same
+    ∙ by_name (is_section (Area area) s) refl where
+      by_name : (b : Bool) → is_section (Area area) s ≡ b
+          → graph_of (lsas_or_none (cond b (Some t) (find (is_section (Area area)) ts)))
+          ≡ graph_of (lsas_or_none (cond b (Some s) (find (is_section (Area area)) ss)))
+      by_name true named = here named
+      by_name false named = rest
+
+fated_graph : (fates : Fates) (area : AreaId) (db : Lists) → Spares (by_fates fates) → All IsSection db
+    → touched area (fated_changes fates db) ≡ false → graph_lsas area (fated fates db) ≡ graph_lsas area db
+fated_graph fates area [] spares all untouched = refl
+fated_graph fates area (s ∷ ss) spares all untouched =
+    let parts = or_parts _ _ (sym (list_any-append _ (section_changes fates s) (fated_changes fates ss)) ∙ untouched) in
+    sections_graph area s (fated_section fates s) ss (fated fates ss) refl
+    (λ named. section_graph fates area s spares (All-head IsSection s ss all).accepted named parts.0)
+    (fated_graph fates area ss spares (All-tail IsSection s ss all) parts.1)
+
+new_graph : (new : NewLsa) (area : AreaId) (db : Lists) → is_of_graph area new.section (kind_of new.lsa) ≡ false
+    → graph_lsas area (with_new new db) ≡ graph_lsas area db
+new_graph new area [] untouched = refl
+new_graph new area (s ∷ ss) untouched =
+    sections_graph area s (section_with_new new s) ss (with_new new ss) refl (λ named. section_new new area s named untouched)
+    (new_graph new area ss untouched)
+
+added_graph : (news : List NewLsa) (area : AreaId) (db : Lists) → touched area (map addition news) ≡ false
+    → graph_lsas area (with_added news db) ≡ graph_lsas area db
+added_graph [] area db untouched = refl
+added_graph (new ∷ news) area db untouched =
+    let parts = or_parts _ _ untouched in
+    added_graph news area (with_new new db) parts.1 ∙ new_graph new area db parts.0
+
 ruled_graph : (rule : Rule) (area : AreaId) (db : Lists) → Spares rule → All IsSection db → touched area (changes_by rule db) ≡ false
     → graph_lsas area (lists_after rule db) ≡ graph_lsas area db
-ruled_graph rule area [] spares all untouched = refl
-ruled_graph rule area (s ∷ ss) spares all untouched =
-    by_name (is_section (Area area) s) refl (λ rest. ruled_graph rule area ss spares (All-tail IsSection s ss all) rest) where
-      parts : (touched area (section_changes rule s) ≡ false) × (touched area (changes_by rule ss) ≡ false)
-      parts = or_parts _ _ (sym (list_any-append _ (section_changes rule s) (changes_by rule ss)) ∙ untouched)
-
-      by_name : (b : Bool) → is_section (Area area) s ≡ b
-          → (touched area (changes_by rule ss) ≡ false → graph_lsas area (lists_after rule ss) ≡ graph_lsas area ss)
-          → graph_of (lsas_or_none (cond b (Some (section_after rule s)) (find (is_section (Area area)) (lists_after rule ss)))) ≡ graph_of
-          (lsas_or_none (cond b (Some s) (find (is_section (Area area)) ss)))
-      by_name true named rest = section_graph rule area s spares (All-head IsSection s ss all).accepted named parts.0
-      by_name false named rest = rest parts.1
+ruled_graph rule area db spares all untouched =
+    let cs : List Change = fated_changes rule.fates db in
+    let parts = or_parts _ _ (sym (ap (touched area) (additions_are rule.added cs) ∙ list_any-append _ cs (map addition rule.added)) ∙ untouched) in
+    added_graph rule.added area (fated rule.fates db) parts.1 ∙ fated_graph rule.fates area db spares all parts.0
 
 pub untouched_stay : (db after : Lists) (edit : Edit) (area : AreaId) → IsDatabase db → effect db edit ≡ Ok after → edit_touches area db edit ≡ false
     → graph_lsas area after ≡ graph_lsas area db

@@ -1,5 +1,5 @@
 -- The effect of an edit on a database: the first refusal, or the rule that it follows.
-use Rattle.std.specs.Prelude.{ℕ, ◌+◌, ◌==◌, ◌&&◌, ◌||◌, nat_le, nat_lt, Bool, true, false, List, length, filter, Option, Some, None, Result, Ok, Err, if◌then◌else◌}
+use Rattle.std.specs.Prelude.{ℕ, ◌==◌, ◌&&◌, ◌||◌, Bool, true, false, List, length, filter, Option, Some, None, Result, Ok, Err, if◌then◌else◌}
 use Rattle.std.specs.List.{list_any, find}
 use Rattle.lsa_codec.specs.LsTypes.{router_lsa, network_lsa}
 use Rattle.lsa_codec.specs.declared.address.Addr.{Addr}
@@ -15,26 +15,22 @@ use Rattle.lsa_codec.specs.Making.{with_cost, without_link, without_links, leads
 use Rattle.lsa_codec.specs.Originating.{with_metric, new_summary, new_external}
 use Rattle.lsdb.specs.declared.section.Section.{Section}
 use Rattle.lsdb.specs.declared.section.Section.TheVariants.{Area, AsWide}
-use Rattle.lsdb.specs.Limits.{longest_dump, most_lsas_of_area, most_lsas_of_as}
-use Rattle.lsdb.specs.Lists.{AreaHead, SectionLsas, Lists, is_section, has_key, is_network, lsas_of, size}
+use Rattle.lsdb.specs.Lists.{AreaHead, SectionLsas, Lists, is_section, has_key, is_network, lsas_of}
 use Rattle.lsdb.specs.PrefixSlots.{prefix_of}
 use Rattle.edit_script.specs.declared.edit.Edit.{Edit}
 use Rattle.edit_script.specs.declared.edit.Edit.TheVariants.{Cost, DropLink, FailLink, FailNet, FailRouter, AddStub, Summary, AddSummary, AddExternal, DropExternal, Refresh, Event as of_event}
 use Rattle.edit_script.specs.declared.edit.MetricType.{MetricType}
 use Rattle.edit_script.specs.declared.edit.MetricType.TheVariants.{Type1, Type2}
 use Rattle.edit_history.specs.declared.fault.EditFault.{EditFault}
-use Rattle.edit_history.specs.declared.fault.EditFault.TheVariants.{NoArea, NoRouter, NoLink, SameRouter, NoNetwork, NoSummary, NoExternal, KeyTaken, Full}
+use Rattle.edit_history.specs.declared.fault.EditFault.TheVariants.{NoArea, NoRouter, NoLink, SameRouter, NoNetwork, NoSummary, NoExternal, Full}
 use Rattle.edit_history.specs.Fault.{fault_of}
 use Rattle.edit_history.specs.Events.{event_rule}
 use Rattle.edit_history.specs.Refreshing.{refresh_fates}
 use Rattle.edit_history.specs.Rules.{Fate, stays, removed, rewritten, Rule, by_fates, within, one_lsa, adding, lists_after, Change, changes_by}
+pub use Rattle.edit_history.specs.Room.{◌>>=◌, is_dump_full, most_lsas, is_full, has_room, room_for, gained, bytes_gained, room_for_all}
+pub use Rattle.edit_history.specs.Room.{room_for_changes, with_room, is_of_section, HasPlace}
 
 -- ---- refusals
-
-infixl 10 ◌>>=◌
-abbrev pub ◌>>=◌ : {A B : Type 0} → Result A EditFault → (A → Result B EditFault) → Result B EditFault
-(Ok x) >>= f = f x
-(Err e) >>= f = Err e
 
 -- what was found, or the refusal
 abbrev pub or_refused : {X : Type 0} → EditFault → Option X → Result X EditFault
@@ -71,19 +67,6 @@ has_router router db = list_any (is_in_section router) db
 -- the bytes of a link without TOS metrics (RFC 2328, A.4.2)
 abbrev pub stub_bytes : ℕ
 stub_bytes = 12
-
--- whether the dump would be too long with this number of additional bytes
-abbrev pub is_dump_full : Lists → ℕ → Bool
-is_dump_full db more = nat_lt longest_dump (size db + more)
-
--- the maximum number of LSAs of a section
-abbrev pub most_lsas : Section → ℕ
-most_lsas (Area id) = most_lsas_of_area
-most_lsas AsWide = most_lsas_of_as
-
--- whether a section or the dump would pass its limit with one more LSA of this length in bytes
-abbrev pub is_full : Lists → Section → ℕ → Bool
-is_full db name byte_count = nat_le (most_lsas name) (length (lsas_of name db)) || is_dump_full db byte_count
 
 -- ---- LSAs that are rebuilt
 
@@ -143,15 +126,6 @@ options_in area = if is_stub area then 0 else 2
 abbrev pub is_type2 : MetricType → Bool
 is_type2 Type1 = false
 is_type2 Type2 = true
-
-abbrev pub has_room : Result (Unit {0}) EditFault
-has_room = Ok tt
-
--- whether a section has room for a new LSA with a key and a length in bytes, or the refusal
-abbrev pub room_for : Lists → Section → Key → ℕ → Result (Unit {0}) EditFault
-room_for db name key byte_count =
-    if list_any (has_key key) (lsas_of name db) then Err KeyTaken else
-    if is_full db name byte_count then Err Full else has_room
 
 -- a new LSA at the end of a section
 abbrev pub added : Lists → Section → List ℕ → Result Rule EditFault

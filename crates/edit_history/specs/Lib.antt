@@ -1,6 +1,8 @@
 pub mod Fault
 pub mod Rules
 pub mod Fitting
+pub mod Room
+pub mod Originating
 pub mod Refreshing
 pub mod Events
 pub mod Effect

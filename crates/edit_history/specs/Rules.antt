@@ -1,5 +1,5 @@
 -- A rule decides for each LSA of a database whether it stays, is removed, or is rewritten, and how, and
--- which LSA is added. The database after it and the list of its changes follow from it.
+-- which LSAs are added. The database after it and the list of its changes follow from it.
 use Rattle.std.specs.Prelude.{ℕ, List, [], ◌∷◌, ◌++◌, map, Option, Some, None, if◌then◌else◌}
 use Rattle.std.specs.List.{filter_map, flat_map}
 use Rattle.lsa_codec.specs.declared.key.Key.{Key}
@@ -23,16 +23,16 @@ pub record NewLsa : Type 0 where
   pub section : Section
   pub lsa : List ℕ
 
--- the fates of the LSAs that are there, and the new LSA, if there is one
+-- the fates of the LSAs that are there, and the new LSAs, in their order
 pub record Rule : Type 0 where
   pub fates : Fates
-  pub added : Option NewLsa
+  pub added : List NewLsa
 
 -- ---- rules
 
 -- no LSA is added
 abbrev pub by_fates : Fates → Rule
-by_fates fates = record { fates = fates; added = None }
+by_fates fates = record { fates = fates; added = [] }
 
 -- the LSAs of one section have these fates; all others stay
 abbrev pub within : Section → (List ℕ → Fate) → Rule
@@ -44,30 +44,38 @@ one_lsa section key fate = within section (λ lsa. if has_key key lsa then fate 
 
 -- all LSAs stay, and a new one is added at the end of a section
 abbrev pub adding : Section → List ℕ → Rule
-adding name new = record { fates = λ head lsa. stays; added = Some (record { section = name; lsa = new }) }
+adding name new = record { fates = λ head lsa. stays; added = (record { section = name; lsa = new }) ∷ [] }
 
 -- ---- the database that a rule leaves: each list in its order
-
--- a list with one more item for the new LSA, where this section gets it
-abbrev pub with_added : {X : Type 0} → (List ℕ → X) → Option NewLsa → Option AreaHead → List X → List X
-with_added item None head xs = xs
-with_added item (Some new) head xs = if is_head_of new.section head then xs ++ item new.lsa ∷ [] else xs
 
 abbrev pub outcome : Fate → List ℕ → Option (List ℕ)
 outcome stays lsa = Some lsa
 outcome removed lsa = None
 outcome (rewritten new) lsa = Some new
 
-abbrev pub kept_lsas : Fates → SectionLsas → List (List ℕ)
-kept_lsas fates s = filter_map (λ lsa. outcome (fates s.area lsa) lsa) s.lsas
+-- the LSAs that are there have their fates
+abbrev pub fated_section : Fates → SectionLsas → SectionLsas
+fated_section fates s = record { area = s.area; lsas = filter_map (λ lsa. outcome (fates s.area lsa) lsa) s.lsas }
 
-abbrev pub section_after : Rule → SectionLsas → SectionLsas
-section_after rule s = record { area = s.area; lsas = with_added (λ lsa. lsa) rule.added s.area (kept_lsas rule.fates s) }
+abbrev pub fated : Fates → Lists → Lists
+fated fates db = map (fated_section fates) db
+
+-- a new LSA comes at the end of its section
+abbrev pub section_with_new : NewLsa → SectionLsas → SectionLsas
+section_with_new new s = record { area = s.area; lsas = if is_head_of new.section s.area then s.lsas ++ new.lsa ∷ [] else s.lsas }
+
+abbrev pub with_new : NewLsa → Lists → Lists
+with_new new db = map (section_with_new new) db
+
+-- new LSAs come, one after another
+abbrev pub with_added : List NewLsa → Lists → Lists
+with_added [] db = db
+with_added (new ∷ news) db = with_added news (with_new new db)
 
 abbrev pub lists_after : Rule → Lists → Lists
-lists_after rule db = map (section_after rule) db
+lists_after rule db = with_added rule.added (fated rule.fates db)
 
--- ---- what a rule changes, by section and position
+-- ---- what a rule changes: by section and position, and then the new LSAs
 
 -- an LSA that was rewritten, removed or added: its section, its LS type, and its bytes before and after
 pub record Change : Type 0 where
@@ -87,14 +95,18 @@ change_of section lsa stays = None
 change_of section lsa removed = Some (record { section = section; kind = kind_of lsa; old = Some lsa; new = None })
 change_of section lsa (rewritten new) = Some (record { section = section; kind = kind_of lsa; old = Some lsa; new = Some new })
 
-abbrev pub addition : Section → List ℕ → Change
-addition section lsa = record { section = section; kind = kind_of lsa; old = None; new = Some lsa }
+abbrev pub section_changes : Fates → SectionLsas → List Change
+section_changes fates s = filter_map (λ lsa. change_of (section_name s.area) lsa (fates s.area lsa)) s.lsas
 
-abbrev pub fated_changes : Fates → SectionLsas → List Change
-fated_changes fates s = filter_map (λ lsa. change_of (section_name s.area) lsa (fates s.area lsa)) s.lsas
+abbrev pub fated_changes : Fates → Lists → List Change
+fated_changes fates db = flat_map (section_changes fates) db
 
-abbrev pub section_changes : Rule → SectionLsas → List Change
-section_changes rule s = with_added (addition (section_name s.area)) rule.added s.area (fated_changes rule.fates s)
+abbrev pub addition : NewLsa → Change
+addition new = record { section = new.section; kind = kind_of new.lsa; old = None; new = Some new.lsa }
+
+abbrev pub with_additions : List NewLsa → List Change → List Change
+with_additions [] cs = cs
+with_additions (new ∷ news) cs = with_additions news (cs ++ addition new ∷ [])
 
 abbrev pub changes_by : Rule → Lists → List Change
-changes_by rule db = flat_map (section_changes rule) db
+changes_by rule db = with_additions rule.added (fated_changes rule.fates db)

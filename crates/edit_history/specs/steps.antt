@@ -5,3 +5,4 @@ pub mod Failing
 pub mod Passing
 pub mod Holding
 pub mod Happening
+pub mod Coming

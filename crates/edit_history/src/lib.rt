@@ -6,6 +6,7 @@
 //! and of those that are undone, and moves between them without taking memory.
 #![tactic(auto)]
 
+mod added;
 mod applying;
 mod events;
 mod failures;
@@ -18,10 +19,12 @@ mod limits;
 mod links;
 mod lookup;
 mod moved;
+mod opening;
 mod planning;
 mod prefixes;
 mod record;
 mod refreshing;
+mod room;
 mod swap;
 
 pub use applying::apply;

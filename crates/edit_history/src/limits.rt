@@ -17,7 +17,7 @@ pub(crate) fn is_dump_full<A: Allocator + Copy>(database: &Database<A>, byte_cou
 }
 
 /// The maximum number of LSAs of a section.
-fn most_lsas(section: Section) -> usize
+pub(crate) fn most_lsas(section: Section) -> usize
     ensures { result ≡ most_lsas section }
 {
     match section {

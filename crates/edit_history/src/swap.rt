@@ -4,8 +4,10 @@ ghost use Rattle.std.specs.Prelude.{◌≡◌, ◌∷◌, [], IsSome, IfOk, opti
 ghost use Rattle.lsdb.specs.Lists.{IsDatabase};
 ghost use Rattle.lsdb.specs.Slots.{put, slot_at, lists_of};
 ghost use Rattle.edit_history.specs.Effect.{is_of_graph};
+ghost use Rattle.edit_history.specs.steps.Coming.{placed, unplaced};
 ghost use Rattle.edit_history.specs.Exchange.{CanDo, CanUndo, is_of_as_scope, taken, done_slots, done_swaps, undone_slots, undone_swaps};
 
+use crate::added::AddedLsa;
 use lsa_codec::{AreaId, Lsa};
 use lsdb::{Database, Section, SlotId};
 use std::alloc::{AllocError, Allocator, Global};
@@ -41,6 +43,25 @@ impl<A: Allocator + Copy> Swap<A> {
             kind,
             other,
         }
+    }
+
+    /// The swap of a new LSA, before it has a slot.
+    pub(crate) fn unplaced(new: AddedLsa<A>) -> Swap<A>
+        ensures { result ≡ unplaced new }
+    {
+        let slot = SlotId {
+            section: 0,
+            index: 0,
+        };
+        let (section, kind) = (new.section(), new.key().kind);
+        Swap::new(slot, section, kind, Some(new.into_lsa()))
+    }
+
+    /// Gives it another slot.
+    pub(crate) fn place(&mut self, slot: SlotId)
+        ensures { self.new ≡ placed slot self.old }
+    {
+        self.slot = slot;
     }
 
     /// The slot.

@@ -19,8 +19,8 @@ use Rattle.edit_script.specs.declared.edit.Edit.TheVariants.{Cost, DropLink, Fai
 use Rattle.edit_script.specs.declared.edit.Edit.TheVariants.{AddExternal, DropExternal, Refresh, Event as of_event}
 use Rattle.edit_history.specs.declared.fault.EditFault.{EditFault}
 use Rattle.edit_history.specs.declared.fault.EditFault.TheVariants.{NoRouter, NoSummary, NoExternal}
-use Rattle.edit_history.specs.Rules.{Fate, stays, removed, rewritten, Rule, Change, one_lsa, adding, change_of, addition, with_added}
-use Rattle.edit_history.specs.Rules.{section_name, section_changes, fated_changes, changes_by}
+use Rattle.edit_history.specs.Rules.{Fate, stays, removed, rewritten, Rule, NewLsa, Change, one_lsa, adding, change_of, addition, with_additions}
+use Rattle.edit_history.specs.Rules.{section_name, section_changes, changes_by}
 use Rattle.edit_history.specs.Effect.{◌>>=◌, or_refused, area_of, router_lsa_in, has_router, is_originated_for, options_in, is_type2, room_for, added, rule_of}
 use Rattle.edit_history.specs.Effect.{is_of_graph, touched, touched_by, edit_touches}
 use Rattle.recalculate.specs.Calls.{is_of_route}
@@ -53,14 +53,13 @@ module _ (area : AreaId) where
 
   record Spares (rule : Rule) : Type 0 where
     fates : (head : Option AreaHead) (lsa : List ℕ) → is_touching (change_of (section_name head) lsa (rule.fates head lsa)) ≡ false
-    news : (head : Option AreaHead) (xs : List Change) → touched area xs ≡ false
-        → touched area (with_added (addition (section_name head)) rule.added head xs) ≡ false
+    news : (cs : List Change) → touched area cs ≡ false → touched area (with_additions rule.added cs) ≡ false
 
   spared : (rule : Rule) → Spares rule → (db : Lists) → touched area (changes_by rule db) ≡ false
   spared rule s db =
-      none_of_lists (section_changes rule) db
-      (λ one. s.news one.area (fated_changes rule.fates one)
-      (none_of_map (λ lsa. change_of (section_name one.area) lsa (rule.fates one.area lsa)) one.lsas (s.fates one.area)))
+      s.news (flat_map (section_changes rule.fates) db)
+      (none_of_lists (section_changes rule.fates) db
+      (λ one. none_of_map (λ lsa. change_of (section_name one.area) lsa (rule.fates one.area lsa)) one.lsas (s.fates one.area)))
 
   is_apart : Section → List ℕ → Type 0
   is_apart name lsa = is_of_graph area name (kind_of lsa) ≡ false
@@ -77,7 +76,7 @@ module _ (area : AreaId) where
       → is_of_graph area (section_name head) (kind_of lsa) ≡ false) → Spares (one_lsa name key fate)
   one_spares name key fate apart = record {
     fates = λ head lsa. by head lsa (is_head_of name head) (has_key key lsa) refl refl;
-    news = λ head xs none. none;
+    news = λ cs none. none;
   }
     where
       by : (head : Option AreaHead) (lsa : List ℕ) (b c : Bool) → is_head_of name head ≡ b → has_key key lsa ≡ c
@@ -86,16 +85,16 @@ module _ (area : AreaId) where
       by head lsa true false e f = refl
       by head lsa false c e f = refl
 
-  new_spares : (name : Section) (new : List ℕ)
-      → ((head : Option AreaHead) → is_head_of name head ≡ true → is_of_graph area (section_name head) (kind_of new) ≡ false) → Spares (adding name new)
-  new_spares name new apart = record { fates = λ head lsa. refl; news = λ head xs none. by head xs none (is_head_of name head) refl }
+  new_spares : (name : Section) (new : List ℕ) → is_of_graph area name (kind_of new) ≡ false → Spares (adding name new)
+  new_spares name new apart = record { fates = λ head lsa. refl; news = with_one }
     where
-      by : (head : Option AreaHead) (xs : List Change) → touched area xs ≡ false → (b : Bool) → is_head_of name head ≡ b
-          → touched area (if b then xs ++ addition (section_name head) new ∷ [] else xs) ≡ false
-      by head xs none true e =
-          list_any-append counts xs (addition (section_name head) new ∷ []) ∙ ap (λ b. b || (is_of_graph area (section_name head) (kind_of new) || false)) none
-          ∙ ap (λ b. b || false) (apart head e)
-      by head xs none false e = none
+      one : NewLsa
+      one = record { section = name; lsa = new }
+
+      with_one : (cs : List Change) → touched area cs ≡ false → touched area (cs ++ addition one ∷ []) ≡ false
+      with_one cs none =
+          list_any-append counts cs (addition one ∷ []) ∙ ap (λ b. b || (is_of_graph area name (kind_of new) || false)) none
+          ∙ ap (λ b. b || false) apart
 
   -- a section of AS scope is of no graph, and neither are LSAs of other types than 1 and 2
   as_wide_apart : (kind : ℕ) (head : Option AreaHead) → is_head_of AsWide head ≡ true → is_of_graph area (section_name head) kind ≡ false
@@ -156,11 +155,11 @@ module _ (area : AreaId) where
   route_leaves db (AddSummary of router prefix metric) h =
       if_bound db (area_of db of) _ (λ section _. if_bound db (router_lsa_in section router) _ (λ lsa _.
       added_leaves db (Area of) (new_summary (options_in section.area) router prefix metric)
-      (new_spares (Area of) (new_summary (options_in section.area) router prefix metric) (λ head _. summary_apart (section_name head) _ refl))))
+      (new_spares (Area of) (new_summary (options_in section.area) router prefix metric) (summary_apart (Area of) _ refl))))
   route_leaves db (AddExternal router prefix metric_type metric forward tag) h =
       let new : List ℕ = new_external router prefix (is_type2 metric_type) metric forward tag in
       if_either db (has_router router db) (added db AsWide new) (Err NoRouter)
-      (added_leaves db AsWide new (new_spares AsWide new (as_wide_apart (kind_of new)))) (refused db NoRouter)
+      (added_leaves db AsWide new (new_spares AsWide new refl)) (refused db NoRouter)
   route_leaves db (DropExternal router prefix) h =
       if_bound db (or_refused NoExternal (find (is_originated_for 5 router prefix) (lsas_of AsWide db))) _
       (λ lsa _. leaves db _ (one_spares AsWide (key_of lsa) removed (λ head other wide _. as_wide_apart (kind_of other) head wide)))
