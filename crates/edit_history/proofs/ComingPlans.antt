@@ -1,5 +1,5 @@
 -- The plan of an event that adds LSAs, and its refusals.
-use Rattle.std.proofs.Common.{◌≡◌, ◌≢◌, List, ◌++◌, map, arith, Result, Ok, Err, refl, sym, ap, ◌∙◌, subst, true≢false}
+use Rattle.std.proofs.Common.{◌≡◌, ◌≢◌, List, ◌++◌, map, Result, Ok, Err, refl, sym, ap, ◌∙◌, subst, true≢false}
 use Rattle.std.specs.Prelude.{All, IfOk, IfErr}
 use Rattle.lsdb.specs.Lists.{Lists, IsDatabase}
 use Rattle.lsdb.specs.Slots.{Slots, lists_of}
@@ -19,7 +19,7 @@ use Rattle.edit_history.proofs.CarriedPlans.{opened_lists}
 use Rattle.edit_history.proofs.Ends.{sections_of, all_filled, all_opened}
 use Rattle.edit_history.proofs.LongerLsas.{AreInstances, instances_carried_out}
 use Rattle.edit_history.proofs.NewsCarried.{with_news, news_carried_out}
-use Rattle.edit_history.proofs.NoMore.{fated_no_more, fated_size}
+use Rattle.edit_history.proofs.NoMore.{fated_no_more, fated_longer}
 use Rattle.edit_history.proofs.PlannedChanges.{all_planned}
 use Rattle.edit_history.proofs.RoomForAll.{HasRoomForBoth, all_new, room_for_both}
 use Rattle.edit_history.proofs.RulesCarriedOut.{CarriesOutRule, carries, on_ok, on_err}
@@ -57,7 +57,7 @@ module _ (d : Slots) (event : Event) (fates : Fates) (news : List NewLsa)
             news_carried_out d fates (swaps_from fates 0 d) news comes.filling sound (instances_carried_out fates safe d sound room.small)
             (all_filled d e news comes.filling comes.opens)
             (all_new (lists_of d) (fated fates (lists_of d)) (lists_of d) (bytes_gained cs) news (fated_no_more fates (lists_of d) safe sound.sections)
-            (omega (arith, fated_size fates (lists_of d))) room.rest comes.accepted places)
+            (fated_longer fates (lists_of d)) room.rest comes.accepted places)
 
         has_rule : rule_of (lists_of d) (of_event event) ≡ Ok (with_news fates news)
         has_rule = ruled ∙ on_ok (room_for_changes (lists_of d) cs news) tt (λ there. the_rule) has_room_for_both

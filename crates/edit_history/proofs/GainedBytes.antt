@@ -1,15 +1,20 @@
--- The bytes that swaps gain, counted one after another.
-use Rattle.std.proofs.Common.{◌≡◌, ℕ, zero, suc, ◌+◌, ◌-◌, ◌<◌, ◌≤◌, true, List, [], ◌∷◌, length, map, take, drop, get_or, Option, Some, None, refl, sym, ap, ◌∙◌, arith}
-use Rattle.std.specs.Prelude.{unwrap_or, nat_lt}
-use Rattle.std.proofs.lemmas.Bool.{lt-ltb}
+-- The bytes that swaps gain, counted one after another, and the room for these swaps and for new LSAs.
+use Rattle.std.proofs.Common.{◌≡◌, ℕ, zero, suc, ◌+◌, ◌-◌, ◌<◌, ◌≤◌, Bool, true, Result, Err, List, [], ◌∷◌, length, map, take, drop, get_or, Option, Some, None, refl, sym, ap, ◌∙◌, arith}
+use Rattle.std.specs.Prelude.{All, IsSome, unwrap_or, nat_lt, if◌then◌else◌}
+use Rattle.std.specs.List.{find}
+use Rattle.std.proofs.lemmas.Bool.{le-ltb, lt-ltb}
+use Rattle.std.proofs.lemmas.List.Elements.{All-cons, All-nil, All-head, All-tail}
 use Rattle.std.proofs.lemmas.List.{drop_all}
 use Rattle.std.proofs.lemmas.List.Sums.{sum_by-cons}
 use Rattle.lsdb.specs.Limits.{longest_dump}
-use Rattle.lsdb.specs.Lists.{size}
+use Rattle.lsdb.specs.Lists.{Lists, is_section, size}
 use Rattle.lsdb.specs.Slots.{Slots, slot_at, lists_of}
-use Rattle.edit_history.specs.Rules.{Change}
-use Rattle.edit_history.specs.Room.{bytes_gained, gained, is_dump_full}
+use Rattle.edit_history.specs.declared.fault.EditFault.{EditFault}
+use Rattle.edit_history.specs.declared.fault.EditFault.TheVariants.{Full}
+use Rattle.edit_history.specs.Rules.{Change, NewLsa}
+use Rattle.edit_history.specs.Room.{HasPlace, bytes_gained, gained, is_dump_full, room_for_all}
 use Rattle.edit_history.specs.Exchange.{SwapData}
+use Rattle.edit_history.specs.steps.Coming.{room_for_swaps}
 use Rattle.edit_history.specs.steps.Plans.{planned_change}
 
 abbrev gains : Slots → SwapData → ℕ
@@ -58,3 +63,25 @@ gained_refused d ss i s grown more far lt here is long =
 -- all were counted
 pub gained_done : (d : Slots) (ss : List SwapData) (i grown : ℕ) → GainedSoFar d ss i grown → length ss ≤ i → grown ≡ swaps_gain d ss
 gained_done d ss i grown far end = omega (arith, far.rest, ap (swaps_gain d) (drop_all i ss end))
+
+-- ---- and new LSAs
+
+-- the dump has room for the swaps, so what is said of new LSAs beside them is said of both
+pub room_after : (d : Slots) (ss : List SwapData) (news : List NewLsa) (grown : ℕ) (r : Result (Unit {0}) EditFault) → grown ≡ swaps_gain d ss
+    → size (lists_of d) + grown ≤ longest_dump → room_for_all (lists_of d) grown news ≡ r → room_for_swaps d ss news ≡ r
+room_after d ss news grown r is limit rest =
+    ap (λ (b : Bool). if b then Err Full else room_for_all (lists_of d) (swaps_gain d ss) news)
+    (le-ltb longest_dump (size (lists_of d) + swaps_gain d ss) (omega (arith, is, limit)))
+    ∙ ap (λ (k : ℕ). room_for_all (lists_of d) k news) (sym is) ∙ rest
+
+pub no_bytes : (d : Slots) (ss : List SwapData) (news : List NewLsa) → is_dump_full (lists_of d) (swaps_gain d ss) ≡ true
+    → room_for_swaps d ss news ≡ Err Full
+no_bytes d ss news full = ap (λ (b : Bool). if b then Err Full else room_for_all (lists_of d) (swaps_gain d ss) news) full
+
+abbrev IsThere : Lists → NewLsa → Type 0
+IsThere db n = IsSome (find (is_section n.section) db)
+
+pub places_there : (db : Lists) (news : List NewLsa) → All (HasPlace db) news → All (λ (n : NewLsa). IsSome (find (is_section n.section) db)) news
+places_there db [] all = All-nil (IsThere db)
+places_there db (n ∷ ns) all =
+    All-cons (IsThere db) n ns (All-head (HasPlace db) n ns all).there (places_there db ns (All-tail (HasPlace db) n ns all))

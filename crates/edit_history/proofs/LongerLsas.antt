@@ -1,6 +1,6 @@
 -- LSAs give way to other instances of theirs, which may be longer: where the dump has room for all that the changes gain, every state is a
 -- database.
-use Rattle.std.proofs.Common.{◌≡◌, ◌≤◌, ℕ, ◌+◌, List, [], ◌∷◌, ◌++◌, length, map, Option, Some, None, refl, sym, ap, ◌∙◌, subst, arith, append_assoc}
+use Rattle.std.proofs.Common.{◌≡◌, ◌≤◌, ℕ, ◌+◌, ◌-◌, List, [], ◌∷◌, ◌++◌, length, map, Option, Some, None, refl, sym, ap, ◌∙◌, subst, arith, append_assoc}
 use Rattle.std.specs.Prelude.{All}
 use Rattle.std.specs.List.{cons_option, sum_by}
 use Rattle.std.proofs.lemmas.List.Sums.{sum_by-cons, sum_by-append}
@@ -96,6 +96,18 @@ size_mid low high area pre post (Some x) =
 abbrev change_gains : Change → ℕ
 change_gains c = gained c.old c.new
 
+-- ---- the bytes that are needed, once one more slot is passed
+
+gone_fits : (now after bytes gain later gains : ℕ) → now ≡ after + bytes → gains ≡ gain + later → now + gains ≤ longest_dump → after + later ≤ longest_dump
+gone_fits now after bytes gain later gains now_is gains_is has = omega (arith, now_is, gains_is, has)
+
+grown_fits : (now without after x y gain later gains : ℕ) → now ≡ without + x → after ≡ without + y → gains ≡ gain + later → gain ≡ y - x
+    → now + gains ≤ longest_dump → after + later ≤ longest_dump
+grown_fits now without after x y gain later gains now_is after_is gains_is gain_is has = omega (arith, now_is, after_is, gains_is, gain_is, has)
+
+small_from : (one other later : ℕ) → one ≡ other → one + later ≤ longest_dump → other ≤ longest_dump
+small_from one other later same has = omega (arith, same, has)
+
 -- ---- all slots
 
 module _ (fates : Fates) (instances : AreInstances fates) where
@@ -120,32 +132,26 @@ module _ (fates : Fates) (instances : AreInstances fates) where
         later : List Change
         later = changed_in fates area post ++ fated_changes fates (lists_of high)
 
-        now : Slot → ℕ
-        now v = size (lists_of (with_section low area (pre ++ v ∷ post) high))
-
         by_fate : (f : Fate) → IsInstance x f
-            → now (Some x) + bytes_gained (cons_option (change_of (section_name area) x f) (changed_in fates area post) ++ fated_changes fates (lists_of high))
+            → size (lists_of (with_section low area (pre ++ Some x ∷ post) high))
+            + bytes_gained (cons_option (change_of (section_name area) x f) (changed_in fates area post) ++ fated_changes fates (lists_of high))
             ≤ longest_dump
             → IsDatabase (lists_of (with_section low area (pre ++ outcome f x ∷ post) high)) × HasRoom low high area (pre ++ outcome f x ∷ []) post
         by_fate stays new has = (sound, room_on low high area pre post (Some x) has)
         by_fate removed new has =
             let c : Change = record { section = section_name area; kind = kind_of x; old = Some x; new = None } in (
               put_in low high area pre post x None tt sound,
-              room_on low high area pre post None (omega (arith, size_mid low high area pre post (Some x), sum_by-cons change_gains c later, has)),
+              room_on low high area pre post None
+                  (gone_fits _ _ _ _ _ _ (size_mid low high area pre post (Some x)) (sum_by-cons change_gains c later) has),
             )
         by_fate (rewritten new) is has =
             let c : Change = record { section = section_name area; kind = kind_of x; old = Some x; new = Some new } in
-            let fits : now (Some new) + bytes_gained later ≤ longest_dump = omega (
-              arith,
-              size_mid low high area pre post (Some x),
-              size_mid low high area pre post (Some new),
-              sum_by-cons change_gains c later,
-              has,
-            ) in
+            let fits = grown_fits _ _ _ (length x) (length new) _ _ _ (size_mid low high area pre post (Some x))
+            (size_mid low high area pre post (Some new)) (sum_by-cons change_gains c later) refl has in
             let there : IsDatabase (lists_of low ++ section_with area (full pre ++ x ∷ full post) ∷ lists_of high) =
             subst IsDatabase (lists_mid low high area pre post x) sound in
             let small : size (lists_of low ++ section_with area (full pre ++ new ∷ full post) ∷ lists_of high) ≤ longest_dump =
-            omega (arith, ap size (lists_mid low high area pre post new), fits) in (
+            small_from _ _ _ (ap size (lists_mid low high area pre post new)) fits in (
               subst IsDatabase (sym (lists_mid low high area pre post new))
                   (lists_longer (lists_of low) (lists_of high) area (full pre) (full post) x new is small there),
               room_on low high area pre post (Some new) fits,

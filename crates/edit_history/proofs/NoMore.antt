@@ -1,6 +1,6 @@
 -- Lists with no more LSAs than others: where these have room for new LSAs, so have they. Fates leave no more LSAs than there were, and
 -- their bytes are those of before and what the changes gain.
-use Rattle.std.proofs.Common.{◌≡◌, ℕ, ◌+◌, ◌≤◌, ◌<◌, Bool, true, false, ◌||◌, cond, List, [], ◌∷◌, ◌++◌, length, length-append, Option, Some, None, refl, sym, ap, ◌∙◌}
+use Rattle.std.proofs.Common.{◌≡◌, ℕ, ◌+◌, ◌-◌, ◌≤◌, ◌<◌, Bool, true, false, ◌||◌, cond, List, [], ◌∷◌, ◌++◌, length, length-append, Option, Some, None, refl, sym, ap, ◌∙◌}
 use Rattle.std.proofs.Common.{subst, arith}
 use Rattle.std.specs.Prelude.{All, nat_le, nat_lt, if◌then◌else◌}
 use Rattle.std.specs.List.{list_any, filter_map, cons_option, find, sum_by}
@@ -77,6 +77,14 @@ fated_no_more fates (s ∷ ss) safe all = (
 abbrev change_gains : Change → ℕ
 change_gains c = gained c.old c.new
 
+removed_size : (after before all x gain rest gains : ℕ) → all ≡ x + before → gains ≡ gain + rest → after ≤ before + rest → after ≤ all + gains
+removed_size after before all x gain rest gains all_is gains_is less = omega (arith, all_is, gains_is, less)
+
+rewritten_size : (after before left all x y gain rest gains : ℕ) → left ≡ y + after → all ≡ x + before → gains ≡ gain + rest → gain ≡ y - x
+    → after ≤ before + rest → left ≤ all + gains
+rewritten_size after before left all x y gain rest gains left_is all_is gains_is gain_is less =
+    omega (arith, left_is, all_is, gains_is, gain_is, less)
+
 left_size : (name : Section) (fate : List ℕ → Fate) (xs : List (List ℕ))
     → lsas_size (filter_map (λ x. outcome (fate x) x) xs) ≤ lsas_size xs + bytes_gained (filter_map (λ x. change_of name x (fate x)) xs)
 left_size name fate [] = omega arith
@@ -92,21 +100,33 @@ left_size name fate (x ∷ xs) = by_fate (fate x) (left_size name fate xs) where
   by_fate stays rest = omega (arith, sum_by-cons length x ys, sum_by-cons length x xs, rest)
   by_fate removed rest =
       let c : Change = record { section = name; kind = kind_of x; old = Some x; new = None } in
-      omega (arith, sum_by-cons length x xs, sum_by-cons change_gains c cs, rest)
+      removed_size _ _ _ _ _ _ _ (sum_by-cons length x xs) (sum_by-cons change_gains c cs) rest
   by_fate (rewritten new) rest =
       let c : Change = record { section = name; kind = kind_of x; old = Some x; new = Some new } in
-      omega (arith, sum_by-cons length new ys, sum_by-cons length x xs, sum_by-cons change_gains c cs, rest)
+      rewritten_size _ _ _ _ (length x) (length new) _ _ _ (sum_by-cons length new ys) (sum_by-cons length x xs) (sum_by-cons change_gains c cs) refl rest
 
-pub fated_size : (fates : Fates) (db : Lists) → sum_by section_size (fated fates db) ≤ sum_by section_size db + bytes_gained (fated_changes fates db)
+with_head : (head after before gains : ℕ) → after ≤ before + gains → head + after ≤ (head + before) + gains
+with_head head after before gains less = omega (arith, less)
+
+both_sizes : (a b c d left all here there gains : ℕ) → left ≡ a + b → all ≡ c + d → gains ≡ here + there → a ≤ c + here → b ≤ d + there
+    → left ≤ all + gains
+both_sizes a b c d left all here there gains left_is all_is gains_is one rest = omega (arith, left_is, all_is, gains_is, one, rest)
+
+fated_size : (fates : Fates) (db : Lists) → sum_by section_size (fated fates db) ≤ sum_by section_size db + bytes_gained (fated_changes fates db)
 fated_size fates [] = omega arith
-fated_size fates (s ∷ ss) = omega (
-  arith,
-  sum_by-cons section_size (fated_section fates s) (fated fates ss),
-  sum_by-cons section_size s ss,
-  sum_by-append change_gains (section_changes fates s) (fated_changes fates ss),
-  left_size (section_name s.area) (fates s.area) s.lsas,
-  fated_size fates ss,
-)
+fated_size fates (s ∷ ss) =
+    both_sizes (section_size (fated_section fates s)) (sum_by section_size (fated fates ss)) (section_size s) (sum_by section_size ss) _ _
+    (bytes_gained (section_changes fates s)) (bytes_gained (fated_changes fates ss)) _
+    (sum_by-cons section_size (fated_section fates s) (fated fates ss))
+    (sum_by-cons section_size s ss)
+    (sum_by-append change_gains (section_changes fates s) (fated_changes fates ss))
+    (with_head (head_size s.area) (lsas_size (fated_section fates s).lsas) (lsas_size s.lsas) (bytes_gained (section_changes fates s))
+    (left_size (section_name s.area) (fates s.area) s.lsas))
+    (fated_size fates ss)
+
+-- what fates leave is no more than what the changes gain longer
+pub fated_longer : (fates : Fates) (db : Lists) → size (fated fates db) ≤ size db + bytes_gained (fated_changes fates db)
+fated_longer fates db = with_head 6 (sum_by section_size (fated fates db)) (sum_by section_size db) (bytes_gained (fated_changes fates db)) (fated_size fates db)
 
 -- ---- both get a new LSA
 

@@ -144,9 +144,10 @@ pub(crate) fn check_room_for_all<A: Allocator + Copy>(
     database.assert_valid();
     let mut size = database.size();
     for i in 0..added.len() {
+        let next = &added[i];
         let earlier = before(added, i);
-        check_room_after(database, size, grown, earlier, &added[i])?;
-        size += added[i].byte_count();
+        check_room_after(database, size, grown, earlier, next)?;
+        size += next.byte_count();
     }
     Ok(())
 }
