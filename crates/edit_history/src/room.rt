@@ -71,39 +71,39 @@ fn is_section_full<A: Allocator + Copy>(
 }
 
 /// Whether a section or the dump would pass its limit with one more LSA after earlier new ones.
-/// With these the dump has `size` bytes, and `grown` more are kept free.
+/// With these the dump has `bytes` bytes, and `grown` more are kept free.
 fn is_full_after<A: Allocator + Copy>(
     database: &Database<A>,
-    size: usize,
+    bytes: usize,
     grown: usize,
     earlier: &[AddedLsa<A>],
     next: &AddedLsa<A>,
 ) -> bool
     requires there { IsSome (find (is_section next.now.section) (lists_of database.now)) }
-    requires size { size ≡ size (with_added earlier.now (lists_of database.now)) }
-    requires limit { size + grown ≤ longest_dump }
+    requires size { bytes ≡ size (with_added earlier.now (lists_of database.now)) }
+    requires limit { bytes + grown ≤ longest_dump }
     ensures { result ≡ is_full (with_added earlier.now (lists_of database.now))
         next.now.section (grown + length next.now.lsa) }
 {
     is_section_full(database, earlier, next.section())
-        || LONGEST_DUMP - size - grown < next.byte_count()
+        || LONGEST_DUMP - bytes - grown < next.byte_count()
 }
 
-/// Refuses a new LSA for which there is no room after earlier ones. With these the dump has `size`
+/// Refuses a new LSA for which there is no room after earlier ones. With these the dump has `bytes`
 /// bytes, and `grown` more are kept free.
 fn check_room_after<A: Allocator + Copy>(
     database: &Database<A>,
-    size: usize,
+    bytes: usize,
     grown: usize,
     earlier: &[AddedLsa<A>],
     next: &AddedLsa<A>,
 ) -> Result<(), EditFault>
     requires there { IsSome (find (is_section next.now.section) (lists_of database.now)) }
-    requires size { size ≡ size (with_added earlier.now (lists_of database.now)) }
-    requires limit { size + grown ≤ longest_dump }
+    requires size { bytes ≡ size (with_added earlier.now (lists_of database.now)) }
+    requires limit { bytes + grown ≤ longest_dump }
     ensures room { OnOk result (room_for (with_added earlier.now (lists_of database.now))
         next.now.section (key_of next.now.lsa) (grown + length next.now.lsa) ≡ has_room) }
-    ensures small { OnOk result (size + (grown + length next.now.lsa) ≤ longest_dump) }
+    ensures small { OnOk result (bytes + (grown + length next.now.lsa) ≤ longest_dump) }
     ensures refused { IfErr result (λ fault.
         room_for (with_added earlier.now (lists_of database.now))
         next.now.section (key_of next.now.lsa) (grown + length next.now.lsa) ≡ Err fault) }
@@ -111,7 +111,7 @@ fn check_room_after<A: Allocator + Copy>(
     if is_taken(database, earlier, next.section(), next.key()) {
         return Err(EditFault::KeyTaken);
     }
-    if is_full_after(database, size, grown, earlier, next) {
+    if is_full_after(database, bytes, grown, earlier, next) {
         return Err(EditFault::Full);
     }
     Ok(())

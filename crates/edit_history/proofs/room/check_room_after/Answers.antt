@@ -31,5 +31,5 @@ returns-clause-room g c =
 
 pub returns-clause-small : goal.returns-clause-small
 returns-clause-small g c =
-    small_by (with_added c.args.earlier.now (lists_of c.args.database.now)) c.args.next.now.section c.args.size
+    small_by (with_added c.args.earlier.now (lists_of c.args.database.now)) c.args.next.now.section c.args.bytes
     (c.args.grown + length c.args.next.now.lsa) c.requires.size (sym c.is_full_after.ensures ∙ c.if-is_full_after.false)

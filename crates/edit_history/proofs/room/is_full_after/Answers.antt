@@ -18,7 +18,7 @@ pub returns-else-is_section_full : goal.returns-else-is_section_full
 returns-else-is_section_full g c =
     let db : Lists = lists_of c.args.database.now in
     let full = full_by db c.args.earlier.now c.args.next.now c.section.result c.is_section_full.result c.section.ensures c.is_section_full.ensures in
-    long_by (with_added c.args.earlier.now db) c.args.size c.args.grown c.byte_count.result c.requires.size c.requires.limit
+    long_by (with_added c.args.earlier.now db) c.args.bytes c.args.grown c.byte_count.result c.requires.size c.requires.limit
     ∙ ap (λ k. is_dump_full (with_added c.args.earlier.now db) (c.args.grown + k)) c.byte_count.ensures.count
     ∙ sym (ap (λ (b : Bool). b || is_dump_full (with_added c.args.earlier.now db) (c.args.grown + length c.args.next.now.lsa))
     (sym full ∙ c.if-is_section_full.false))
