@@ -1,0 +1,14 @@
+mod Conditions
+mod Updates
+mod AreaByArea
+mod SlotSteps
+mod Noted
+mod Keys
+mod PlacedLists
+mod Passes
+mod PlanLists
+mod Due
+mod Decoded
+mod Found
+mod Scopes
+mod LoadedStays

@@ -1,0 +1,11 @@
+pub mod Announcements
+pub mod Standing
+pub mod DueMetrics
+pub mod Loaded
+pub mod Following
+pub mod Placing
+pub mod BorderBits
+pub mod Settled
+pub mod Changes
+pub mod Laws
+pub mod steps
